@@ -13,8 +13,9 @@ use Rattle.edi_static.specs.Fitting.{Use, constructs, calls, halts, neither, use
 use Rattle.edi_static.specs.Statements as spec
 use Rattle.edi_static.specs.Statements.{After, add_statements, close_block, leave_branch, enter_branch}
 use Rattle.edi_static.proofs.Judging.{Gives, bind, ruled}
-use Rattle.edi_names.specs.Uses.{is_among, ListKnown, StatementsKnown, StatementKnown, ConditionsKnown, ConditionKnown, ElseKnown, BranchKnown}
-use Rattle.edi_names.specs.Uses.{BranchesKnown, OptionalArgsKnown, VariableKnown, ExprKnown}
+use Rattle.edi_static.specs.Leaves.{StatementsHolds, StatementHolds, ConditionsHolds, ConditionHolds, ElseHolds, BranchHolds, BranchesHolds}
+use Rattle.edi_static.specs.Leaves.{OptionalArgsHolds, VariableHolds, ExprHolds}
+use Rattle.edi_names.specs.Uses.{is_among, ListKnown, known_by}
 use Rattle.edi_names.proofs.Shows.{Holds, Shows, always, first, over, two}
 use Rattle.edi_names.proofs.UsesExpressions.{Within, look_known, constant_known, expression_known, place_known, all_arguments_known}
 
@@ -98,7 +99,7 @@ module _ (scopes : List Scope) (names : List (List ℕ)) (among : (name : List �
 
   -- ---- statements
 
-  called_known : (env : Environment) → Same env → (line : ℕ) (use' : Use) (x : Option text.Args) → Shows (OptionalArgsKnown names x)
+  called_known : (env : Environment) → Same env → (line : ℕ) (use' : Use) (x : Option text.Args) → Shows (OptionalArgsHolds (known_by names) x)
       (spec.called env line use' x)
   called_known env e line (calls c) None = always (spec.called env line (calls c) None) tt
   called_known env e line (calls c) (Some xs) = over _ (λ _. first _ (all_arguments_known env names (within env e) line xs (heading_formals c.asks)))
@@ -107,7 +108,7 @@ module _ (scopes : List Scope) (names : List (List ℕ)) (among : (name : List �
   called_known env e line (constructs of) x = record { shown = tt }
   called_known env e line neither x = record { shown = tt }
 
-  assigned_known : (env : Environment) → Same env → (v : text.Variable) (line : ℕ) (x : text.Expr) → Shows (VariableKnown names v × ExprKnown names x)
+  assigned_known : (env : Environment) → Same env → (v : text.Variable) (line : ℕ) (x : text.Expr) → Shows (VariableHolds (known_by names) v × ExprHolds (known_by names) x)
       (spec.assigned env v line x)
   assigned_known env e v line x = two (place_known env names (within env e) v) (λ l. first _ (expression_known env names (within env e) x))
 
@@ -127,11 +128,11 @@ module _ (scopes : List Scope) (names : List (List ℕ)) (among : (name : List �
     list_keeps : (x : text.StatementList) (env : Environment) → Same env → Keeps (ListKnown names x) (spec.statement_list x env)
     list_keeps (text.list s more) env e = both (statement_keeps s env e) (λ a k. alone (statements_keep more a.env k) (λ b j. done j))
 
-    statements_keep : (x : text.Statements) (env : Environment) → Same env → Keeps (StatementsKnown names x) (spec.statements x env)
+    statements_keep : (x : text.Statements) (env : Environment) → Same env → Keeps (StatementsHolds (known_by names) x) (spec.statements x env)
     statements_keep text.no_statement env e = done e
     statements_keep (text.next_statement s more) env e = both (statement_keeps s env e) (λ a k. alone (statements_keep more a.env k) (λ b j. done j))
 
-    statement_keeps : (x : text.Statement) (env : Environment) → Same env → Keeps (StatementKnown names x) (spec.statement x env)
+    statement_keeps : (x : text.Statement) (env : Environment) → Same env → Keeps (StatementHolds (known_by names) x) (spec.statement x env)
     statement_keeps text.skip env e = done e
     statement_keeps (text.assignment v line x) env e = only (assigned_known env e v line x) (λ a. done e)
     statement_keeps (text.call name xs) env e =
@@ -142,22 +143,22 @@ module _ (scopes : List Scope) (names : List (List ℕ)) (among : (name : List �
     statement_keeps (text.cobegin line b bs) env e =
         alone (both (branch_keeps b env e) (λ a k. branches_keep bs env a k)) (λ a k. done k)
 
-    conditions_keep : (x : text.Conditions) (env : Environment) → Same env → Keeps (ConditionsKnown names x) (spec.conditions x env)
+    conditions_keep : (x : text.Conditions) (env : Environment) → Same env → Keeps (ConditionsHolds (known_by names) x) (spec.conditions x env)
     conditions_keep (text.conditions c more) env e = both (condition_keeps c env e) (λ a k. alone (elses_keep more a.env k) (λ b j. done j))
 
-    elses_keep : (x : text.Else) (env : Environment) → Same env → Keeps (ElseKnown names x) (spec.elses x env)
+    elses_keep : (x : text.Else) (env : Environment) → Same env → Keeps (ElseHolds (known_by names) x) (spec.elses x env)
     elses_keep text.no_else env e = done e
     elses_keep (text.next_else c more) env e = both (condition_keeps c env e) (λ a k. alone (elses_keep more a.env k) (λ b j. done j))
 
-    condition_keeps : (x : text.Condition) (env : Environment) → Same env → Keeps (ConditionKnown names x) (spec.condition x env)
+    condition_keeps : (x : text.Condition) (env : Environment) → Same env → Keeps (ConditionHolds (known_by names) x) (spec.condition x env)
     condition_keeps (text.condition x line s) env e =
         after (expression_known env names (within env e) x) (λ c. pass _ (λ _. alone (list_keeps s env e) (λ a k. done k)))
 
-    branch_keeps : (x : text.Branch) (env : Environment) → Same env → Keeps (BranchKnown names x) (spec.branch x env)
+    branch_keeps : (x : text.Branch) (env : Environment) → Same env → Keeps (BranchHolds (known_by names) x) (spec.branch x env)
     branch_keeps (text.branch c line s) env e =
         after (constant_known env names (within env e) c) (λ k. pass _ (λ _. list_keeps s (enter_branch env) e))
 
-    branches_keep : (x : text.Branches) (before : Environment) (a : After Acts) → Same a.env → Keeps (BranchesKnown names x) (spec.branches x before a)
+    branches_keep : (x : text.Branches) (before : Environment) (a : After Acts) → Same a.env → Keeps (BranchesHolds (known_by names) x) (spec.branches x before a)
     branches_keep (text.no_branch end) before a e = alone (left before end a e) (λ b k. done k)
     branches_keep (text.next_branch also b bs) before a e =
         behind (left before also a e) (λ o k. alone (both (branch_keeps b o.env k) (λ c j. branches_keep bs o.env c j)) (λ d j. done j))

@@ -1,6 +1,6 @@
 -- What a tree keeps of the marks that it spells: each is a symbol that the language spells, and they are at most 262,144. A
 -- part of the tree is passed from the marks in front of it to those behind it.
-use Rattle.std.proofs.Common.{◌≡◌, ℕ, ◌+◌, ◌≤◌, Bool, true, ◌||◌, ◌==◌, nat_le, List, [], ◌∷◌, length, ℤ, pos, negsuc, IsTrue, refl, subst, arith}
+use Rattle.std.proofs.Common.{◌≡◌, ℕ, ◌+◌, ◌≤◌, Bool, true, ◌||◌, ◌==◌, nat_le, List, [], ◌∷◌, length, ℤ, pos, negsuc, IsTrue, arith}
 use Rattle.std.specs.Prelude.{int_le}
 use Rattle.std.specs.List.{list_all}
 use Rattle.std.proofs.Math.Bool.{Bool-set}
@@ -18,6 +18,7 @@ use Rattle.edi_lex.proofs.Runs.{both}
 use Rattle.edi_tree.specs.Tree.{Program}
 use Rattle.edi_tree.specs.Spelled.{Spelled, spelled}
 use Rattle.edi_tree.specs.Spells.{StandAsMarks, IsBounded}
+use Rattle.edi_tree.proofs.Scans.{all_are_spelled}
 use Rattle.edi_unit.specs.Types.{int, char, is_ordinal_of}
 use Rattle.edi_static.specs.InRange.{AreCharacters}
 
@@ -65,14 +66,6 @@ pub record Bounded (ss : List Spelled) : Type 0 where
   pub letters : all_spelled ss ≡ true
   pub few : length ss ≤ 262144
 
-standing_spelled : (ss : List Spelled) (marks : List Mark) → StandAsMarks ss marks → are_spelled marks ≡ true → all_spelled ss ≡ true
-standing_spelled [] marks h e = refl
-standing_spelled (s ∷ ss) [] h e = absurd h
-standing_spelled (s ∷ ss) (m ∷ marks) h e =
-    let parts = both (is_spelled m.symbol) (are_spelled marks) e in
-    let here : is_spelled s.symbol ≡ true = subst (λ x. is_spelled x ≡ true) h.0.0 parts.0 in
-    rw (here, standing_spelled ss marks h.1 parts.1) refl
-
 standing_few : (ss : List Spelled) (marks : List Mark) → StandAsMarks ss marks → are_spelled marks ≡ true → length ss ≤ extent marks
 standing_few [] marks h e = omega arith
 standing_few (s ∷ ss) [] h e = absurd h
@@ -81,7 +74,7 @@ standing_few (s ∷ ss) (m ∷ marks) h e =
     omega (arith, sum_by-cons (λ m. size_of m.symbol) m marks, sized m.symbol parts.0, standing_few ss marks h.1 parts.1)
 
 spelled_letters : (tree : Program) → IsBounded tree → all_spelled (spelled tree) ≡ true
-spelled_letters tree h = standing_spelled (spelled tree) h.marks h.spells h.is_bounded.spelled
+spelled_letters tree h = all_are_spelled (spelled tree) h.marks h.spells h.is_bounded.spelled
 
 spelled_few : (tree : Program) → IsBounded tree → nat_le (length (spelled tree)) 262144 ≡ true
 spelled_few tree h =

@@ -5,21 +5,32 @@ use Rattle.edi_tree.specs.declared.declarations.Declaration.TheViews.{out-Proced
 use Rattle.edi_tree.specs.declared.declarations.Procedure as code_procedure
 use Rattle.edi_tree.specs.Sequences.{items_of}
 use Rattle.edi_tree.specs.View.{declaration_of, declarations, declarations_of, heading_of, list_of, procedure_of}
+use Rattle.edi_static.specs.declared.faults.StaticKind.{StaticKind}
 use Rattle.edi_static.specs.declared.faults.StaticFault.{StaticFault}
-use Rattle.edi_static.specs.Judged.{Judged, gives, ◌>>=◌}
+use Rattle.edi_static.specs.Judged.{Judged, gives, faults, ◌>>=◌}
 use Rattle.edi_static.specs.Environment.{Begun, Environment}
 use Rattle.edi_static.specs.Headings.{leave}
 use Rattle.edi_static.specs.Declarations as spec
 use Rattle.edi_static.specs.Declarations.{enter_block}
+use Rattle.edi_static.specs.Programs.{program_procedure}
 use Rattle.edi_static.specs.Proper.{Proper}
 use Rattle.edi_sema.specs.Blocks.{outside_block}
 use Rattle.edi_sema.specs.Bodies.{finished, whole_procedure}
 use Rattle.edi_sema.specs.Frames.{Comes, Leaves}
 use Rattle.edi_sema.specs.Splits.{with_begun}
-use Rattle.edi_sema.proofs.Answered.{Faulted, part_faults}
+use Rattle.edi_sema.specs.Whole.{begun_program}
+use Rattle.edi_sema.proofs.Answered.{Faulted, part_faults, program_faults}
 use Rattle.edi_sema.proofs.Opening.{rest_stated, rest_leaves, rest_faults, end_faults}
 use Rattle.edi_sema.proofs.Seen.{procedure_seen}
 use Rattle.edi_sema.proofs.Staying.{given}
+
+-- the heading of a program has a fault
+pub heading_faults : (p : code_procedure.Procedure) (env : Environment) (why : StaticKind) (line : ℕ) →
+    begun_program (heading_of (out-Procedure p).heading) env ≡ faults why line → program_procedure (procedure_of p) env ≡ faults why line
+heading_faults p env why line e =
+    let q = out-Procedure p in
+    ap (λ x. program_procedure x env) (procedure_seen p)
+    ∙ program_faults (heading_of q.heading) (declarations_of q.declarations) (list_of q.list) q.end env why line e
 
 -- what is left of a list is judged where its loop stands as the whole list is where the loop began
 abbrev pub Remains : {X : Type 0} → (List X → Environment → Judged Environment) → (rest all : List X) → (now first : Environment) → Type 0

@@ -12,9 +12,9 @@ use Rattle.edi_tree.specs.Spelled.{Spelled, just, on, list_then, statements_then
 use Rattle.edi_tree.specs.Spelled.{branches_then, expr_then, procedure_then, item_then, module_then, member_then, members_then, declaration_then}
 use Rattle.edi_tree.specs.Spelled.{declarations_then, global_then, globals_then, program_then}
 use Rattle.edi_tree.specs.Spells.{IsBounded}
-use Rattle.edi_static.specs.InRange.{branches_count, ListInRange, StatementsInRange, StatementInRange, ConditionsInRange, ConditionInRange, ElseInRange}
-use Rattle.edi_static.specs.InRange.{BranchInRange, BranchesInRange, ProcedureInRange, ItemInRange, ModuleInRange, MemberInRange, MembersInRange}
-use Rattle.edi_static.specs.InRange.{DeclarationInRange, DeclarationsInRange, GlobalInRange, GlobalsInRange, ProgramInRange}
+use Rattle.edi_static.specs.Leaves.{ListHolds, StatementsHolds, StatementHolds, ConditionsHolds, ConditionHolds, ElseHolds, BranchHolds, BranchesHolds}
+use Rattle.edi_static.specs.InRange.{branches_count, ProcedureInRange, ItemInRange, ModuleInRange, MemberInRange, MembersInRange, DeclarationInRange}
+use Rattle.edi_static.specs.InRange.{DeclarationsInRange, GlobalInRange, GlobalsInRange, ProgramInRange, in_range}
 use Rattle.edi_sema.proofs.Bounded.{Bounded, rest, tree_bounded, Passed, nothing, mark, then_mark, in_turn, past, loose}
 use Rattle.edi_sema.proofs.RangesParts.{constant_passed, const_list_passed, type_decl_passed, var_list_passed, heading_passed, expr_passed, variable_passed}
 use Rattle.edi_sema.proofs.RangesParts.{optional_args_passed}
@@ -29,23 +29,23 @@ branches_of : (n : ℕ) {P Q : Type 0} {s : Spelled} {a b c : List Spelled} → 
 branches_of n x y = record { part = (x.part, y.part); behind_it = y.behind_it; fewer = omega (arith, x.fewer, y.fewer) }
 
 cobegin_of : (n : ℕ) {P Q : Type 0} {s : Spelled} {a b c : List Spelled} → Bounded (s ∷ a) → Passed 3 P a b → Passed (4 * n + 1) Q b c
-    → Passed 1 ((suc n < 2 ^ 16) × P × Q) (s ∷ a) c
+    → Passed 1 ((suc n < 2 ^ 16) × (P × Q)) (s ∷ a) c
 cobegin_of n h x y = record {
-  part = (omega (arith, h.few, x.fewer, y.fewer), x.part, y.part);
+  part = (omega (arith, h.few, x.fewer, y.fewer), (x.part, y.part));
   behind_it = y.behind_it;
   fewer = omega (arith, x.fewer, y.fewer);
 }
 
 mutual
-  list_passed : (x : StatementList) (more : List Spelled) → Bounded (list_then x more) → Passed 1 (ListInRange x) (list_then x more) more
+  list_passed : (x : StatementList) (more : List Spelled) → Bounded (list_then x more) → Passed 1 (ListHolds in_range x) (list_then x more) more
   list_passed (list s ss) more h = in_turn (statement_passed s (statements_then ss more) h) (λ b. statements_passed ss more b)
 
-  statements_passed : (x : Statements) (more : List Spelled) → Bounded (statements_then x more) → Passed 0 (StatementsInRange x) (statements_then x more) more
+  statements_passed : (x : Statements) (more : List Spelled) → Bounded (statements_then x more) → Passed 0 (StatementsHolds in_range x) (statements_then x more) more
   statements_passed no_statement more h = nothing h
   statements_passed (next_statement s ss) more h =
       loose (mark (in_turn (statement_passed s (statements_then ss more) (rest h)) (λ b. statements_passed ss more b)))
 
-  statement_passed : (x : Statement) (more : List Spelled) → Bounded (statement_then x more) → Passed 1 (StatementInRange x) (statement_then x more) more
+  statement_passed : (x : Statement) (more : List Spelled) → Bounded (statement_then x more) → Passed 1 (StatementHolds in_range x) (statement_then x more) more
   statement_passed skip more h = mark (nothing (rest h))
   statement_passed (assignment v line e) more h =
       let x = variable_passed v (on is.Becomes line ∷ expr_then e more) h in
@@ -59,22 +59,22 @@ mutual
       let x = branch_passed b (branches_then bs more) (rest h) in
       cobegin_of (branches_count bs) h x (branches_passed bs more x.behind_it)
 
-  conditions_passed : (x : Conditions) (more : List Spelled) → Bounded (conditions_then x more) → Passed 0 (ConditionsInRange x) (conditions_then x more) more
+  conditions_passed : (x : Conditions) (more : List Spelled) → Bounded (conditions_then x more) → Passed 0 (ConditionsHolds in_range x) (conditions_then x more) more
   conditions_passed (conditions c cs) more h = in_turn (condition_passed c (else_then cs more) h) (λ b. else_passed cs more b)
 
-  condition_passed : (x : Condition) (more : List Spelled) → Bounded (condition_then x more) → Passed 0 (ConditionInRange x) (condition_then x more) more
+  condition_passed : (x : Condition) (more : List Spelled) → Bounded (condition_then x more) → Passed 0 (ConditionHolds in_range x) (condition_then x more) more
   condition_passed (condition e line l) more h = in_turn (then_mark (expr_passed e (on is.Do line ∷ list_then l more) h)) (λ b. list_passed l more b)
 
-  else_passed : (x : Else) (more : List Spelled) → Bounded (else_then x more) → Passed 0 (ElseInRange x) (else_then x more) more
+  else_passed : (x : Else) (more : List Spelled) → Bounded (else_then x more) → Passed 0 (ElseHolds in_range x) (else_then x more) more
   else_passed no_else more h = nothing h
   else_passed (next_else c cs) more h = loose (mark (in_turn (condition_passed c (else_then cs more) (rest h)) (λ b. else_passed cs more b)))
 
-  branch_passed : (x : Branch) (more : List Spelled) → Bounded (branch_then x more) → Passed 3 (BranchInRange x) (branch_then x more) more
+  branch_passed : (x : Branch) (more : List Spelled) → Bounded (branch_then x more) → Passed 3 (BranchHolds in_range x) (branch_then x more) more
   branch_passed (branch c line l) more h =
       let x = constant_passed c (on is.Do line ∷ list_then l more) h in
       branch_of x (list_passed l more (rest x.behind_it))
 
-  branches_passed : (x : Branches) (more : List Spelled) → Bounded (branches_then x more) → Passed (4 * branches_count x + 1) (BranchesInRange x)
+  branches_passed : (x : Branches) (more : List Spelled) → Bounded (branches_then x more) → Passed (4 * branches_count x + 1) (BranchesHolds in_range x)
       (branches_then x more) more
   branches_passed (no_branch end) more h = mark (nothing (rest h))
   branches_passed (next_branch also b bs) more h =

@@ -12,18 +12,16 @@ use Rattle.edi_tree.specs.declared.expressions.Root.TheVariants as root
 use Rattle.edi_tree.specs.Tree.{Names, no_name, next_name, ConstDecls, no_const_decl, next_const_decl, ConstList, const_list, Group, group, Groups, no_group}
 use Rattle.edi_tree.specs.Tree.{next_group, TypeDecl, enum_decl, record_decl, array_decl, set_decl, VarList, var_list, Heading, heading, Params, no_params}
 use Rattle.edi_tree.specs.Tree.{params, MoreParams, no_param, next_param, Param, value_param, var_param, procedure_param, Expr, expr, Comparison}
-use Rattle.edi_tree.specs.Tree.{no_comparison, compared, Exprs, no_expr, next_expr, Simple, simple, Addend, addend, Addends, no_addend, next_addend, Term}
-use Rattle.edi_tree.specs.Tree.{term, Multiplier, multiplier, Multipliers, no_multiplier, next_multiplier, Factor, numeral, string, not_factor}
-use Rattle.edi_tree.specs.Tree.{parenthesized, call_factor, variable_factor, Args, args, Variable, variable, Selector, field, index, Selectors, no_selector}
-use Rattle.edi_tree.specs.Tree.{next_selector}
+use Rattle.edi_tree.specs.Tree.{no_comparison, compared, Exprs, no_expr, next_expr, Simple, simple, addend, Addends, no_addend, next_addend, Term, term}
+use Rattle.edi_tree.specs.Tree.{multiplier, Multipliers, no_multiplier, next_multiplier, Factor, numeral, string, not_factor, parenthesized, call_factor}
+use Rattle.edi_tree.specs.Tree.{variable_factor, Args, args, Variable, variable, Selector, field, index, Selectors, no_selector, next_selector}
 use Rattle.edi_tree.specs.Spelled.{Spelled, just, char_mark, chars_mark, name_mark, names_then, constant_then, const_decl_then, const_decls_then}
 use Rattle.edi_tree.specs.Spelled.{const_list_then, group_then, groups_then, type_decl_then, var_list_then, result_then, heading_then, params_then}
-use Rattle.edi_tree.specs.Spelled.{more_params_then, param_then, sign_then, root_then, expr_then, comparison_then, exprs_then, simple_then, addend_then}
-use Rattle.edi_tree.specs.Spelled.{addends_then, term_then, multiplier_then, multipliers_then, factor_then, args_then, variable_then, selector_then}
-use Rattle.edi_tree.specs.Spelled.{selectors_then, optional_args_then}
-use Rattle.edi_static.specs.InRange.{ConstantInRange, ConstDeclsInRange, ConstListInRange, TypeDeclInRange, ExprInRange, ComparisonInRange, ExprsInRange}
-use Rattle.edi_static.specs.InRange.{SimpleInRange, AddendInRange, AddendsInRange, TermInRange, MultiplierInRange, MultipliersInRange, FactorInRange}
-use Rattle.edi_static.specs.InRange.{ArgsInRange, VariableInRange, SelectorInRange, SelectorsInRange, OptionalArgsInRange}
+use Rattle.edi_tree.specs.Spelled.{more_params_then, param_then, sign_then, root_then, expr_then, comparison_then, exprs_then, simple_then, addends_then}
+use Rattle.edi_tree.specs.Spelled.{term_then, multipliers_then, factor_then, args_then, variable_then, selector_then, selectors_then, optional_args_then}
+use Rattle.edi_static.specs.Leaves.{ExprHolds, ComparisonHolds, ExprsHolds, SimpleHolds, AddendsHolds, TermHolds, MultipliersHolds, FactorHolds, ArgsHolds}
+use Rattle.edi_static.specs.Leaves.{VariableHolds, SelectorHolds, SelectorsHolds, OptionalArgsHolds}
+use Rattle.edi_static.specs.InRange.{ConstantInRange, ConstDeclsInRange, ConstListInRange, TypeDeclInRange, in_range}
 use Rattle.edi_sema.proofs.Bounded.{numeral_in_range, numeral_not_negative, string_in_range, Bounded, first_of, rest, Passed, nothing, mark, then_mark}
 use Rattle.edi_sema.proofs.Bounded.{in_turn, past, loose}
 
@@ -117,41 +115,37 @@ root_passed (root.Name n) more h = mark (nothing (rest h))
 root_passed (root.Val n) more h = mark (mark (nothing (rest (rest h))))
 
 mutual
-  pub expr_passed : (x : Expr) (more : List Spelled) → Bounded (expr_then x more) → Passed 0 (ExprInRange x) (expr_then x more) more
+  pub expr_passed : (x : Expr) (more : List Spelled) → Bounded (expr_then x more) → Passed 0 (ExprHolds in_range x) (expr_then x more) more
   expr_passed (expr s c) more h = in_turn (simple_passed s (comparison_then c more) h) (λ b. comparison_passed c more b)
 
-  comparison_passed : (x : Comparison) (more : List Spelled) → Bounded (comparison_then x more) → Passed 0 (ComparisonInRange x) (comparison_then x more) more
+  comparison_passed : (x : Comparison) (more : List Spelled) → Bounded (comparison_then x more) → Passed 0 (ComparisonHolds in_range x) (comparison_then x more) more
   comparison_passed no_comparison more h = nothing h
   comparison_passed (compared r line s) more h = loose (mark (simple_passed s more (rest h)))
 
-  exprs_passed : (x : Exprs) (more : List Spelled) → Bounded (exprs_then x more) → Passed 0 (ExprsInRange x) (exprs_then x more) more
+  exprs_passed : (x : Exprs) (more : List Spelled) → Bounded (exprs_then x more) → Passed 0 (ExprsHolds in_range x) (exprs_then x more) more
   exprs_passed no_expr more h = nothing h
   exprs_passed (next_expr e es) more h = loose (mark (in_turn (expr_passed e (exprs_then es more) (rest h)) (λ b. exprs_passed es more b)))
 
-  simple_passed : (x : Simple) (more : List Spelled) → Bounded (simple_then x more) → Passed 0 (SimpleInRange x) (simple_then x more) more
+  simple_passed : (x : Simple) (more : List Spelled) → Bounded (simple_then x more) → Passed 0 (SimpleHolds in_range x) (simple_then x more) more
   simple_passed (simple s t ts) more h =
       past (sign_passed s (term_then t (addends_then ts more)) h) (λ b.
       in_turn (term_passed t (addends_then ts more) b) (λ c. addends_passed ts more c))
 
-  addend_passed : (x : Addend) (more : List Spelled) → Bounded (addend_then x more) → Passed 0 (AddendInRange x) (addend_then x more) more
-  addend_passed (addend o line t) more h = loose (mark (term_passed t more (rest h)))
-
-  addends_passed : (x : Addends) (more : List Spelled) → Bounded (addends_then x more) → Passed 0 (AddendsInRange x) (addends_then x more) more
+  addends_passed : (x : Addends) (more : List Spelled) → Bounded (addends_then x more) → Passed 0 (AddendsHolds in_range x) (addends_then x more) more
   addends_passed no_addend more h = nothing h
-  addends_passed (next_addend t ts) more h = in_turn (addend_passed t (addends_then ts more) h) (λ b. addends_passed ts more b)
+  addends_passed (next_addend (addend o line t) ts) more h =
+      in_turn (loose (mark (term_passed t (addends_then ts more) (rest h)))) (λ b. addends_passed ts more b)
 
-  term_passed : (x : Term) (more : List Spelled) → Bounded (term_then x more) → Passed 0 (TermInRange x) (term_then x more) more
+  term_passed : (x : Term) (more : List Spelled) → Bounded (term_then x more) → Passed 0 (TermHolds in_range x) (term_then x more) more
   term_passed (term f fs) more h = in_turn (factor_passed f (multipliers_then fs more) h) (λ b. multipliers_passed fs more b)
 
-  multiplier_passed : (x : Multiplier) (more : List Spelled) → Bounded (multiplier_then x more) → Passed 0 (MultiplierInRange x) (multiplier_then x more) more
-  multiplier_passed (multiplier o line f) more h = loose (mark (factor_passed f more (rest h)))
-
-  multipliers_passed : (x : Multipliers) (more : List Spelled) → Bounded (multipliers_then x more) → Passed 0 (MultipliersInRange x) (multipliers_then x more)
+  multipliers_passed : (x : Multipliers) (more : List Spelled) → Bounded (multipliers_then x more) → Passed 0 (MultipliersHolds in_range x) (multipliers_then x more)
       more
   multipliers_passed no_multiplier more h = nothing h
-  multipliers_passed (next_multiplier f fs) more h = in_turn (multiplier_passed f (multipliers_then fs more) h) (λ b. multipliers_passed fs more b)
+  multipliers_passed (next_multiplier (multiplier o line f) fs) more h =
+      in_turn (loose (mark (factor_passed f (multipliers_then fs more) (rest h)))) (λ b. multipliers_passed fs more b)
 
-  factor_passed : (x : Factor) (more : List Spelled) → Bounded (factor_then x more) → Passed 0 (FactorInRange x) (factor_then x more) more
+  factor_passed : (x : Factor) (more : List Spelled) → Bounded (factor_then x more) → Passed 0 (FactorHolds in_range x) (factor_then x more) more
   factor_passed (numeral v) more h = loose (one h (numeral_in_range v (first_of (just (is.Numeral v)) more h)))
   factor_passed (string s) more h = loose (one h (string_in_range s.text (first_of (chars_mark s) more h)))
   factor_passed (not_factor line f) more h = loose (mark (factor_passed f more (rest h)))
@@ -159,22 +153,22 @@ mutual
   factor_passed (call_factor n a) more h = loose (mark (args_passed a more (rest h)))
   factor_passed (variable_factor v) more h = loose (variable_passed v more h)
 
-  pub args_passed : (x : Args) (more : List Spelled) → Bounded (args_then x more) → Passed 0 (ArgsInRange x) (args_then x more) more
+  pub args_passed : (x : Args) (more : List Spelled) → Bounded (args_then x more) → Passed 0 (ArgsHolds in_range x) (args_then x more) more
   args_passed (args e es) more h =
       loose (mark (in_turn (expr_passed e (exprs_then es (just is.Close ∷ more)) (rest h)) (λ b. then_mark (exprs_passed es (just is.Close ∷ more) b))))
 
-  pub variable_passed : (x : Variable) (more : List Spelled) → Bounded (variable_then x more) → Passed 0 (VariableInRange x) (variable_then x more) more
+  pub variable_passed : (x : Variable) (more : List Spelled) → Bounded (variable_then x more) → Passed 0 (VariableHolds in_range x) (variable_then x more) more
   variable_passed (variable r ss) more h = past (root_passed r (selectors_then ss more) h) (λ b. selectors_passed ss more b)
 
-  selector_passed : (x : Selector) (more : List Spelled) → Bounded (selector_then x more) → Passed 0 (SelectorInRange x) (selector_then x more) more
+  selector_passed : (x : Selector) (more : List Spelled) → Bounded (selector_then x more) → Passed 0 (SelectorHolds in_range x) (selector_then x more) more
   selector_passed (field line n) more h = loose (mark (mark (nothing (rest (rest h)))))
   selector_passed (index line e) more h = loose (mark (then_mark (expr_passed e (just is.CloseBracket ∷ more) (rest h))))
 
-  selectors_passed : (x : Selectors) (more : List Spelled) → Bounded (selectors_then x more) → Passed 0 (SelectorsInRange x) (selectors_then x more) more
+  selectors_passed : (x : Selectors) (more : List Spelled) → Bounded (selectors_then x more) → Passed 0 (SelectorsHolds in_range x) (selectors_then x more) more
   selectors_passed no_selector more h = nothing h
   selectors_passed (next_selector s ss) more h = in_turn (selector_passed s (selectors_then ss more) h) (λ b. selectors_passed ss more b)
 
-pub optional_args_passed : (x : Option Args) (more : List Spelled) → Bounded (optional_args_then x more) → Passed 0 (OptionalArgsInRange x)
+pub optional_args_passed : (x : Option Args) (more : List Spelled) → Bounded (optional_args_then x more) → Passed 0 (OptionalArgsHolds in_range x)
     (optional_args_then x more) more
 optional_args_passed None more h = nothing h
 optional_args_passed (Some a) more h = args_passed a more h

@@ -15,7 +15,7 @@ use Rattle.edi_static.specs.Answers.{JudgedAnswers}
 use Rattle.edi_static.specs.Proper.{Proper}
 use Rattle.edi_static.proofs.Judging.{Gives, ruled}
 use Rattle.edi_static.proofs.Proper.{set_block_proper, around_proper}
-use Rattle.edi_sema.specs.Frames.{kinds, frame, setting, BegunFit, EnvironmentStands, Comes, Stays}
+use Rattle.edi_sema.specs.Frames.{kinds, DeclarationFrame, frame, setting, BegunFit, EnvironmentStands, Comes, Stays}
 use Rattle.edi_sema.specs.Blocks.{outside_block}
 
 -- what holds of whatever a construct gives holds where it is answered
@@ -101,10 +101,12 @@ framed_comes env after e p s = record {
 }
 
 -- what declarations without a body are answered
-pub framed_answer : {B : Type 0} (env after : Environment) (r : Result B StaticFault) (m : Judged Environment) →
-    JudgedAnswers (λ _. after) r m → Gives (λ e. frame e ≡ frame env) m → OnOk r (Proper after) → EnvironmentStands env → OnOk r (Comes env after)
-framed_answer env after (Ok b) m e g p s = framed_comes env after (subst (Gives (λ e. frame e ≡ frame env)) e g) p s
-framed_answer env after (Err f) m e g p s = tt
+pub framed_answer : {B : Type 0} (judge : Environment → Judged Environment) (env after : Environment) (r : Result B StaticFault) →
+    ((f : DeclarationFrame) (e : Environment) → frame e ≡ f → Gives (λ e. frame e ≡ f) (judge e)) → JudgedAnswers (λ _. after) r (judge env) →
+    OnOk r (Proper after) → EnvironmentStands env → OnOk r (Comes env after)
+framed_answer judge env after (Ok b) framed e p s =
+    framed_comes env after (subst (Gives (λ e. frame e ≡ frame env)) e (framed (frame env) env refl)) p s
+framed_answer judge env after (Err f) framed e p s = tt
 
 -- ---- ends of bodies
 

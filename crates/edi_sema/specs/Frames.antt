@@ -1,6 +1,6 @@
 -- Words of contracts. What constructs leave as it was, and what stands at each place of a sound text.
-use Rattle.std.specs.Prelude.{◌≡◌, ℕ, ◌<◌, ◌≤◌, Bool, false, List, [], ◌∷◌, length, map, All}
-use Rattle.edi_scope.specs.Scope.{Scope, outside}
+use Rattle.std.specs.Prelude.{◌≡◌, ℕ, ◌<◌, ◌≤◌, Bool, false, IsTrue, List, [], ◌∷◌, length, map, All}
+use Rattle.edi_scope.specs.Scope.{Scope, in_module, outside}
 use Rattle.edi_unit.specs.Fits.{Heading}
 use Rattle.edi_static.specs.Environment.{Begun, Environment}
 use Rattle.edi_static.specs.Proper.{Proper}
@@ -40,6 +40,11 @@ pub record EnvironmentStands (env : Environment) : Type 0 where
   pub proper : Proper env
   pub open_scopes : 0 < length env.scopes
   pub begun_fit : BegunFit env.headings env.begun
+
+-- names may be declared here, for export only in a module
+pub record StandsToDeclare (export : Bool) (env : Environment) : Type 0 where
+  pub exporting : IsTrue export → IsTrue (in_module env.scopes)
+  pub stands : EnvironmentStands env
 
 -- from one place to a later one of the same scope
 pub record Comes (before after : Environment) : Type 0 where

@@ -1,14 +1,11 @@
 //! Blocks: the statements that are put into them, and the words that they need.
 
 ghost use Rattle.std.specs.Prelude.{◌≡◌, IfOk, OnErr, Err};
-ghost use Rattle.edi_unit.specs.View.{acts_of};
-ghost use Rattle.edi_static.specs.Judged.{gives};
+ghost use Rattle.edi_static.specs.Prelude.{JudgedAnswers, acts_of, environment, gives};
 ghost use Rattle.edi_static.specs.Statements as spec;
-ghost use Rattle.edi_static.specs.Answers.{JudgedAnswers};
-ghost use Rattle.edi_static.specs.Views.{environment};
 ghost use Rattle.edi_sema.specs.Blocks.{need_set, inside_block, outside_block};
 
-use edi_static::{Known, StaticFault, StaticKind, must};
+use edi_static::{Judged, Known, StaticFault, StaticKind, must};
 use edi_unit::{Acts, List, need};
 use std::alloc::Global;
 
@@ -30,12 +27,7 @@ fn joined(acts: Acts, more: Acts) -> Result<Acts, StaticFault>
 }
 
 /// Puts statements behind those of a block, which are those of its modules.
-pub(crate) fn add_statements(
-    known: &mut Known,
-    alloc: Global,
-    block: u32,
-    acts: Acts,
-) -> Result<(), StaticFault>
+pub(crate) fn add_statements(known: &mut Known, alloc: Global, block: u32, acts: Acts) -> Judged<()>
     ensures exact { JudgedAnswers (λ _. environment known.new) result (gives (spec.add_statements block (acts_of acts) (environment known.old))) }
 {
     if let Some(found) = known.blocks.get_mut(block as usize) {
@@ -61,7 +53,7 @@ pub(crate) fn close_block(
     block: u32,
     acts: Acts,
     line: u16,
-) -> Result<(), StaticFault>
+) -> Judged<()>
     ensures exact { JudgedAnswers (λ _. environment known.new) result (spec.close_block block (acts_of acts) line (environment known.old)) }
 {
     add_statements(known, alloc, block, acts)?;
@@ -72,7 +64,7 @@ pub(crate) fn close_block(
 }
 
 /// Enters a block.
-pub fn enter_around(known: &mut Known, block: u32) -> Result<(), StaticFault>
+pub fn enter_around(known: &mut Known, block: u32) -> Judged<()>
     ensures exact { JudgedAnswers (λ _. environment known.new) result (gives (inside_block block (environment known.old))) }
 {
     known.around.insert(0, block)?;

@@ -2,20 +2,17 @@
 
 ghost use Rattle.std.specs.Prelude.{◌≡◌, ◌&&◌, ◌==◌, ◌∷◌, [], length, map, Option, Some, None};
 ghost use Rattle.edi_tree.specs.View.{param_of, heading_of, more_params};
-ghost use Rattle.edi_unit.specs.Lists.{list_items};
 ghost use Rattle.edi_unit.specs.Types.{shape_at};
-ghost use Rattle.edi_unit.specs.ShapeView.{shape_of};
 ghost use Rattle.edi_unit.specs.Fits.{heading, heading_formals, heading_result, no_formal, value_then, variable_then};
+ghost use Rattle.edi_static.specs.Prelude.{JudgedAnswers, asked_of, formal_of, list_items, same_one, shape_of};
 ghost use Rattle.edi_static.specs.Environment.{same_heading, same_result, no_heading};
 ghost use Rattle.edi_static.specs.Programs as spec;
 ghost use Rattle.edi_static.specs.Fitting.{rest_of};
-ghost use Rattle.edi_static.specs.Answers.{JudgedAnswers};
 ghost use Rattle.edi_static.specs.Views as view;
-ghost use Rattle.edi_static.specs.Views.{asked_of, formal_of, same_one};
 ghost use Rattle.edi_sema.specs.Calls.{takes_title, number_if, file_calls, asked_by, param_call};
 
 use edi_static::{
-    Asked, Formal, Known, StaticFault, StaticKind, add, fault, no_asked, plain_formal, same_formal,
+    Asked, Formal, Judged, Known, StaticKind, add, fault, no_asked, plain_formal, same_formal,
 };
 use edi_tree::{Heading, Name, Param};
 use edi_unit::{BOOL, CHAR, CallList, INT, List, Shape};
@@ -132,52 +129,50 @@ fn number_if(holds: bool, number: u8) -> Option<u8>
     if holds { Some(number) } else { None }
 }
 
+/// The number beside the first of these spellings that is the name, or else the last.
+macro_rules! beside {
+    ($name:expr, $($spelling:literal => $number:expr,)* _ => $other:expr,) => {{
+        $(
+            if $spelling.as_slice() == $name {
+                return $number;
+            }
+        )*
+        $other
+    }};
+}
+
 /// The number of the call of this name, if it asks for a title or for nothing and the heading is its.
 fn file_number(known: &Known, asked: &Asked, name: &[u8]) -> Option<u8>
     ensures exact { result ≡ spec.number_of_call (file_calls known.now.types (asked_of asked.now)) name.now }
 {
-    if b"fresh".as_slice() == name {
-        return number_if(is_bare(asked), 7);
-    }
-    if b"write".as_slice() == name {
-        return number_if(takes(asked, CHAR), 8);
-    }
-    if b"close".as_slice() == name {
-        return number_if(is_titled(known, asked), 9);
-    }
-    if b"remove".as_slice() == name {
-        return number_if(is_titled(known, asked), 10);
-    }
-    None
+    beside!(
+        name,
+        b"fresh" => number_if(is_bare(asked), 7),
+        b"write" => number_if(takes(asked, CHAR), 8),
+        b"close" => number_if(is_titled(known, asked), 9),
+        b"remove" => number_if(is_titled(known, asked), 10),
+        _ => None,
+    )
 }
 
 /// The number of the call of this name, if there is one and the heading is its.
 fn call_number(known: &Known, asked: &Asked, name: &[u8]) -> Option<u8>
     ensures exact { result ≡ spec.number_of_call (spec.system_calls known.now.types (asked_of asked.now)) name.now }
 {
-    if b"accept".as_slice() == name {
-        return number_if(gives(asked, CHAR), 1);
-    }
-    if b"display".as_slice() == name {
-        return number_if(takes(asked, CHAR), 2);
-    }
-    if b"print".as_slice() == name {
-        return number_if(takes(asked, CHAR), 3);
-    }
-    if b"find".as_slice() == name {
-        return number_if(is_titled(known, asked), 4);
-    }
-    if b"more".as_slice() == name {
-        return number_if(gives(asked, BOOL), 5);
-    }
-    if b"read".as_slice() == name {
-        return number_if(gives(asked, CHAR), 6);
-    }
-    file_number(known, asked, name)
+    beside!(
+        name,
+        b"accept" => number_if(gives(asked, CHAR), 1),
+        b"display" => number_if(takes(asked, CHAR), 2),
+        b"print" => number_if(takes(asked, CHAR), 3),
+        b"find" => number_if(is_titled(known, asked), 4),
+        b"more" => number_if(gives(asked, BOOL), 5),
+        b"read" => number_if(gives(asked, CHAR), 6),
+        _ => file_number(known, asked, name),
+    )
 }
 
 /// The call of a name and its heading; it must be one.
-fn call_with(known: &Known, asked: &Asked, name: &Name) -> Result<u8, StaticFault>
+fn call_with(known: &Known, asked: &Asked, name: &Name) -> Judged<u8>
     ensures exact { JudgedAnswers (λ n. n) result
         (spec.call_with name.now (spec.number_of_call (spec.system_calls known.now.types (asked_of asked.now)) name.now.text)) }
 {
@@ -221,7 +216,7 @@ fn behind_first(formals: &[Formal]) -> &[Formal]
 }
 
 /// The call that a parameter is; a group is none.
-fn call_of(known: &Known, param: &Param, asked: &Asked) -> Result<u8, StaticFault>
+fn call_of(known: &Known, param: &Param, asked: &Asked) -> Judged<u8>
     ensures exact { JudgedAnswers (λ n. n) result (param_call known.now.types (param_of param.now) (asked_of asked.now)) }
 {
     match param {
@@ -232,12 +227,7 @@ fn call_of(known: &Known, param: &Param, asked: &Asked) -> Result<u8, StaticFaul
 }
 
 /// The calls that the parameters are.
-fn calls_of(
-    known: &Known,
-    alloc: Global,
-    params: &[Param],
-    asked: &Asked,
-) -> Result<CallList, StaticFault>
+fn calls_of(known: &Known, alloc: Global, params: &[Param], asked: &Asked) -> Judged<CallList>
     ensures exact { JudgedAnswers (λ calls. list_items calls) result
         (spec.calls_of_more known.now.types (more_params (map param_of params.now)) (heading_formals (asked_of asked.now))) }
 {
@@ -258,7 +248,7 @@ pub(crate) fn program_heading(
     alloc: Global,
     heading: &Heading,
     asked: &Asked,
-) -> Result<CallList, StaticFault>
+) -> Judged<CallList>
     ensures exact { JudgedAnswers (λ calls. list_items calls) result
         (spec.program_heading known.now.types (heading_of heading.now) (asked_of asked.now)) }
 {

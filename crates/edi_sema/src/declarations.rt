@@ -3,10 +3,9 @@
 ghost use Rattle.std.specs.Prelude.{◌≡◌, ◌<◌, length, IsTrue, OnOk};
 ghost use Rattle.edi_scope.specs.Scope.{in_module};
 ghost use Rattle.edi_tree.specs.View.{declaration_of, item_of, member_of, module_of, procedure_of};
+ghost use Rattle.edi_static.specs.Prelude.{JudgedAnswers, environment};
 ghost use Rattle.edi_static.specs.Declarations as spec;
-ghost use Rattle.edi_static.specs.Answers.{JudgedAnswers};
-ghost use Rattle.edi_static.specs.Views.{environment};
-ghost use Rattle.edi_sema.specs.Frames.{Comes, Leaves, EnvironmentStands};
+ghost use Rattle.edi_sema.specs.Frames.{Comes, Leaves, EnvironmentStands, StandsToDeclare};
 ghost use Rattle.edi_sema.specs.Bodies.{whole_procedure};
 
 use crate::openings::{
@@ -14,7 +13,7 @@ use crate::openings::{
     open_module, variables,
 };
 use crate::procedures::{begin_post, begin_procedure, completed, pre_decl};
-use edi_static::{Known, StaticFault};
+use edi_static::{Judged, Known};
 use edi_tree::{Declaration, Item, Member, Module, Procedure};
 use std::alloc::Global;
 
@@ -25,7 +24,7 @@ pub(crate) fn procedure_rest(
     alloc: Global,
     block: u32,
     procedure: &Procedure,
-) -> Result<(), StaticFault>
+) -> Judged<()>
     requires depth { 1 < length known.old.scopes }
     requires stands { EnvironmentStands (environment known.old) }
     ensures exact { JudgedAnswers (λ _. environment known.new) result (whole_procedure block (procedure_of procedure.now) (environment known.old)) }
@@ -41,9 +40,8 @@ pub(crate) fn procedure_rest(
 }
 
 #[cycle(declarations)]
-fn item(known: &mut Known, alloc: Global, export: bool, item: &Item) -> Result<(), StaticFault>
-    requires module { IsTrue export → IsTrue (in_module known.old.scopes) }
-    requires stands { EnvironmentStands (environment known.old) }
+fn item(known: &mut Known, alloc: Global, export: bool, item: &Item) -> Judged<()>
+    requires stands { StandsToDeclare export (environment known.old) }
     ensures exact { JudgedAnswers (λ _. environment known.new) result (spec.item export (item_of item.now) (environment known.old)) }
     ensures comes { OnOk result (Comes (environment known.old) (environment known.new)) }
 {
@@ -66,7 +64,7 @@ fn item(known: &mut Known, alloc: Global, export: bool, item: &Item) -> Result<(
 }
 
 #[cycle(declarations)]
-fn module(known: &mut Known, alloc: Global, module: &Module) -> Result<(), StaticFault>
+fn module(known: &mut Known, alloc: Global, module: &Module) -> Judged<()>
     requires stands { EnvironmentStands (environment known.old) }
     ensures exact { JudgedAnswers (λ _. environment known.new) result (spec.module_decl (module_of «module».now) (environment known.old)) }
     ensures comes { OnOk result (Comes (environment known.old) (environment known.new)) }
@@ -82,7 +80,7 @@ fn module(known: &mut Known, alloc: Global, module: &Module) -> Result<(), Stati
 
 /// An export `*` exports all names of the declaration behind it.
 #[cycle(declarations)]
-fn member(known: &mut Known, alloc: Global, member: &Member) -> Result<(), StaticFault>
+fn member(known: &mut Known, alloc: Global, member: &Member) -> Judged<()>
     requires module { IsTrue (in_module known.old.scopes) }
     requires stands { EnvironmentStands (environment known.old) }
     ensures exact { JudgedAnswers (λ _. environment known.new) result (spec.member (member_of member.now) (environment known.old)) }
@@ -96,7 +94,7 @@ fn member(known: &mut Known, alloc: Global, member: &Member) -> Result<(), Stati
 }
 
 #[cycle(declarations)]
-fn declare(known: &mut Known, alloc: Global, declaration: &Declaration) -> Result<(), StaticFault>
+fn declare(known: &mut Known, alloc: Global, declaration: &Declaration) -> Judged<()>
     requires stands { EnvironmentStands (environment known.old) }
     ensures exact { JudgedAnswers (λ _. environment known.new) result (spec.declaration (declaration_of declaration.now) (environment known.old)) }
     ensures comes { OnOk result (Comes (environment known.old) (environment known.new)) }

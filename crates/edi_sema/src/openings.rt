@@ -1,17 +1,13 @@
 //! The begin and the end of procedures and modules, round their declarations; and declarations without a body.
 
-ghost use Rattle.std.specs.Prelude.{◌≡◌, ◌<◌, [], length, map, IsTrue, IfOk, OnOk};
-ghost use Rattle.edi_scope.specs.Scope.{in_module};
+ghost use Rattle.std.specs.Prelude.{◌≡◌, ◌<◌, [], length, map, IfOk, OnOk};
 ghost use Rattle.edi_tree.specs.View.{const_list_of, type_decl_of, var_list_of, list_of};
-ghost use Rattle.edi_static.specs.Judged.{gives};
+ghost use Rattle.edi_static.specs.Prelude.{JudgedAnswers, Proper, begun_of, environment, gives};
 ghost use Rattle.edi_static.specs.Environment as environments;
 ghost use Rattle.edi_static.specs.Headings as headings;
 ghost use Rattle.edi_static.specs.Types as types;
 ghost use Rattle.edi_static.specs.Declarations as spec;
-ghost use Rattle.edi_static.specs.Answers.{JudgedAnswers};
-ghost use Rattle.edi_static.specs.Proper.{Proper};
-ghost use Rattle.edi_static.specs.Views.{begun_of, environment};
-ghost use Rattle.edi_sema.specs.Frames.{Comes, EnvironmentStands};
+ghost use Rattle.edi_sema.specs.Frames.{Comes, EnvironmentStands, StandsToDeclare};
 ghost use Rattle.edi_sema.specs.Blocks.{outside_block};
 ghost use Rattle.edi_sema.specs.Splits.{with_begun};
 ghost use Rattle.edi_sema.specs.Bodies.{finished, finished_module, inside_module};
@@ -19,19 +15,13 @@ ghost use Rattle.edi_sema.specs.Bodies.{finished, finished_module, inside_module
 use crate::blocks::{add_statements, close_block, enter_around, leave_around};
 use crate::procedures::all_completed;
 use crate::statements::statement_list;
-use edi_static::{Begun, Known, StaticFault, const_list, type_decl, var_list};
+use edi_static::{Begun, Judged, Known, const_list, type_decl, var_list};
 use edi_tree::{ConstList, List, TypeDecl, VarList};
 use std::alloc::Global;
 
 /// Constants.
-pub fn constants(
-    known: &mut Known,
-    alloc: Global,
-    export: bool,
-    list: &ConstList,
-) -> Result<(), StaticFault>
-    requires module { IsTrue export → IsTrue (in_module known.old.scopes) }
-    requires stands { EnvironmentStands (environment known.old) }
+pub fn constants(known: &mut Known, alloc: Global, export: bool, list: &ConstList) -> Judged<()>
+    requires stands { StandsToDeclare export (environment known.old) }
     ensures exact { JudgedAnswers (λ _. environment known.new) result (types.const_list export (const_list_of list.now) (environment known.old)) }
     ensures comes { OnOk result (Comes (environment known.old) (environment known.new)) }
 {
@@ -44,9 +34,8 @@ pub fn declared_type(
     alloc: Global,
     export: bool,
     declared: &TypeDecl,
-) -> Result<(), StaticFault>
-    requires module { IsTrue export → IsTrue (in_module known.old.scopes) }
-    requires stands { EnvironmentStands (environment known.old) }
+) -> Judged<()>
+    requires stands { StandsToDeclare export (environment known.old) }
     ensures exact { JudgedAnswers (λ _. environment known.new) result (types.type_decl export (type_decl_of declared.now) (environment known.old)) }
     ensures comes { OnOk result (Comes (environment known.old) (environment known.new)) }
 {
@@ -54,14 +43,8 @@ pub fn declared_type(
 }
 
 /// Variables.
-pub fn variables(
-    known: &mut Known,
-    alloc: Global,
-    export: bool,
-    list: &VarList,
-) -> Result<(), StaticFault>
-    requires module { IsTrue export → IsTrue (in_module known.old.scopes) }
-    requires stands { EnvironmentStands (environment known.old) }
+pub fn variables(known: &mut Known, alloc: Global, export: bool, list: &VarList) -> Judged<()>
+    requires stands { StandsToDeclare export (environment known.old) }
     ensures exact { JudgedAnswers (λ _. environment known.new) result (types.var_list export (var_list_of list.now) (environment known.old)) }
     ensures comes { OnOk result (Comes (environment known.old) (environment known.new)) }
 {
@@ -77,7 +60,7 @@ fn take_begun(known: &mut Known, alloc: Global) -> Vec<Begun>
 }
 
 /// Enters a block whose heading's scope is the innermost, and gives the procedures that are begun round it.
-pub fn open_block(known: &mut Known, alloc: Global, block: u32) -> Result<Vec<Begun>, StaticFault>
+pub fn open_block(known: &mut Known, alloc: Global, block: u32) -> Judged<Vec<Begun>>
     requires stands { EnvironmentStands (environment known.old) }
     ensures exact { JudgedAnswers (λ _. environment known.new) result (gives (spec.enter_block block (environment known.old))) }
     ensures begun { IfOk result (λ begun. map begun_of begun.items ≡ (environment known.old).begun) }
@@ -88,7 +71,7 @@ pub fn open_block(known: &mut Known, alloc: Global, block: u32) -> Result<Vec<Be
 }
 
 /// Enters a module, and gives the procedures that are begun round it.
-pub fn open_module(known: &mut Known, alloc: Global) -> Result<Vec<Begun>, StaticFault>
+pub fn open_module(known: &mut Known, alloc: Global) -> Judged<Vec<Begun>>
     requires stands { EnvironmentStands (environment known.old) }
     ensures exact { JudgedAnswers (λ _. environment known.new) result (gives (inside_module (environment known.old))) }
     ensures begun { IfOk result (λ begun. map begun_of begun.items ≡ (environment known.old).begun) }
@@ -127,7 +110,7 @@ pub fn finish_block(
     block: u32,
     list: &List,
     end: u16,
-) -> Result<(), StaticFault>
+) -> Judged<()>
     requires stands { EnvironmentStands (environment known.old) }
     ensures exact { JudgedAnswers (λ _. environment known.new) result (finished block (list_of list.now) end (environment known.old)) }
     ensures comes { OnOk result (Comes (environment known.old) (environment known.new)) }
@@ -138,7 +121,7 @@ pub fn finish_block(
 }
 
 /// The statements of a module, which the block where it stands executes when it is entered.
-pub fn finish_module(known: &mut Known, alloc: Global, list: &List) -> Result<(), StaticFault>
+pub fn finish_module(known: &mut Known, alloc: Global, list: &List) -> Judged<()>
     requires stands { EnvironmentStands (environment known.old) }
     ensures exact { JudgedAnswers (λ _. environment known.new) result
         (finished_module (environments.here (environment known.old)) (list_of list.now) (environment known.old)) }

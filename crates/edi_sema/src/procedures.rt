@@ -4,23 +4,19 @@ ghost use Rattle.std.specs.Prelude.{◌≡◌, ◌≤◌, ◌<◌, ◌++◌, ◌
 ghost use Rattle.edi_scope.specs.declared.entity.Entity.TheVariants as entity;
 ghost use Rattle.edi_scope.specs.Scope.{in_module, outside};
 ghost use Rattle.edi_tree.specs.View.{heading_of};
-ghost use Rattle.edi_unit.specs.Fits.{heading_result};
+ghost use Rattle.edi_static.specs.Prelude.{JudgedAnswers, Proper, asked_of, begun_of, environment, gives, heading_result};
 ghost use Rattle.edi_static.specs.Environment.{heading_at, same_heading};
 ghost use Rattle.edi_static.specs.Headings.{round};
 ghost use Rattle.edi_static.specs.Environment as environments;
 ghost use Rattle.edi_static.specs.Declarations as spec;
-ghost use Rattle.edi_static.specs.Judged.{gives};
-ghost use Rattle.edi_static.specs.Answers.{JudgedAnswers};
-ghost use Rattle.edi_static.specs.Proper.{Proper};
-ghost use Rattle.edi_static.specs.Views.{asked_of, begun_of, environment};
-ghost use Rattle.edi_sema.specs.Frames.{HeadingBegins, Comes, EnvironmentStands};
+ghost use Rattle.edi_sema.specs.Frames.{HeadingBegins, Comes, StandsToDeclare};
 ghost use Rattle.edi_sema.specs.Splits.{block_named, post_block, posted, with_begun};
 
 use edi_lex::Text;
 use edi_scope::Entity;
 use edi_static::{
-    Asked, Begun, Known, StaticFault, StaticKind, fault, heading_parts, must, no_asked, number,
-    put, same_asked,
+    Asked, Begun, Judged, Known, StaticFault, StaticKind, fault, heading_parts, must, no_asked,
+    number, put, same_asked,
 };
 use edi_tree::{Heading, Name};
 use edi_unit::BlockKind;
@@ -45,7 +41,7 @@ pub(crate) fn begin_block_of(
     name: &Name,
     block: u32,
     asked: Asked,
-) -> Result<u32, StaticFault>
+) -> Judged<u32>
     requires depth { 1 < length known.old.scopes }
     requires module { IsTrue export → IsTrue (in_module (outside known.old.scopes)) }
     requires proper { Proper (environment known.old) }
@@ -62,7 +58,7 @@ pub(crate) fn begin_block_of(
 }
 
 /// The number of the next block.
-fn next_block(known: &Known) -> Result<u32, StaticFault>
+fn next_block(known: &Known) -> Judged<u32>
     ensures exact { JudgedAnswers (λ n. n) result (gives (length (environment known.now).blocks)) }
 {
     number(known.blocks.len())
@@ -74,9 +70,8 @@ pub fn begin_procedure(
     alloc: Global,
     export: bool,
     heading: &Heading,
-) -> Result<u32, StaticFault>
-    requires module { IsTrue export → IsTrue (in_module known.old.scopes) }
-    requires stands { EnvironmentStands (environment known.old) }
+) -> Judged<u32>
+    requires stands { StandsToDeclare export (environment known.old) }
     ensures exact { JudgedAnswers (λ _. environment known.new) result (spec.begin_procedure export (heading_of heading.now) (environment known.old)) }
     ensures number { IfOk result (λ block. block ≡ length (environment known.old).blocks) }
     ensures begins { OnOk result (HeadingBegins (environment known.old) (environment known.new)) }
@@ -123,7 +118,7 @@ fn give_export(
     export: bool,
     name: &Name,
     block: u32,
-) -> Result<(), StaticFault>
+) -> Judged<()>
     requires module { IsTrue export → IsTrue (in_module (outside known.old.scopes)) }
     requires proper { Proper (environment known.old) }
     requires fits { block < length (environment known.old).headings }
@@ -146,7 +141,7 @@ fn complete(
     found: Option<u32>,
     block: u32,
     asked: &Asked,
-) -> Result<u32, StaticFault>
+) -> Judged<u32>
     requires module { IsTrue export → IsTrue (in_module (outside known.old.scopes)) }
     requires proper { Proper (environment known.old) }
     requires fits { IfSome found (λ b. block < length (environment known.old).headings) }
@@ -171,7 +166,7 @@ fn complete(
 }
 
 /// The block of a `post`; without its `pre` it will be refused, and has none.
-fn block_of(known: &Known, found: Option<u32>) -> Result<u32, StaticFault>
+fn block_of(known: &Known, found: Option<u32>) -> Judged<u32>
     ensures exact { JudgedAnswers (λ n. n) result (gives (unwrap_or found (length (environment known.now).blocks))) }
 {
     match found {
@@ -181,14 +176,8 @@ fn block_of(known: &Known, found: Option<u32>) -> Result<u32, StaticFault>
 }
 
 /// A `post` is compared with its `pre` after its heading's parts.
-pub fn begin_post(
-    known: &mut Known,
-    alloc: Global,
-    export: bool,
-    heading: &Heading,
-) -> Result<u32, StaticFault>
-    requires module { IsTrue export → IsTrue (in_module known.old.scopes) }
-    requires stands { EnvironmentStands (environment known.old) }
+pub fn begin_post(known: &mut Known, alloc: Global, export: bool, heading: &Heading) -> Judged<u32>
+    requires stands { StandsToDeclare export (environment known.old) }
     ensures exact { JudgedAnswers (λ _. environment known.new) result (spec.begin_post export (heading_of heading.now) (environment known.old)) }
     ensures number { IfOk result (λ block. block ≡ post_block (heading_of heading.now) (environment known.old)) }
     ensures begins { OnOk result (HeadingBegins (environment known.old) (environment known.new)) }
@@ -212,7 +201,7 @@ fn copy_name(alloc: Global, name: &Name) -> Result<Name, StaticFault>
 
 /// A procedure is begun.
 #[tactic(auto, using(edi_static::proofs::Proper::pushed))]
-fn begin_split(known: &mut Known, begun: Begun) -> Result<(), StaticFault>
+fn begin_split(known: &mut Known, begun: Begun) -> Judged<()>
     ensures exact { JudgedAnswers (λ _. environment known.new) result
         (gives (with_begun ((environment known.old).begun ++ begun_of begun ∷ []) (environment known.old))) }
 {
@@ -220,14 +209,8 @@ fn begin_split(known: &mut Known, begun: Begun) -> Result<(), StaticFault>
 }
 
 /// A `pre` alone: its heading's scope ends at once.
-pub fn pre_decl(
-    known: &mut Known,
-    alloc: Global,
-    export: bool,
-    heading: &Heading,
-) -> Result<(), StaticFault>
-    requires module { IsTrue export → IsTrue (in_module known.old.scopes) }
-    requires stands { EnvironmentStands (environment known.old) }
+pub fn pre_decl(known: &mut Known, alloc: Global, export: bool, heading: &Heading) -> Judged<()>
+    requires stands { StandsToDeclare export (environment known.old) }
     ensures exact { JudgedAnswers (λ _. environment known.new) result (spec.pre_decl export (heading_of heading.now) (environment known.old)) }
     ensures comes { OnOk result (Comes (environment known.old) (environment known.new)) }
 {
@@ -238,7 +221,7 @@ pub fn pre_decl(
 }
 
 /// At the `begin` of a scope each procedure that is begun in it has been completed.
-pub(crate) fn all_completed(known: &Known) -> Result<(), StaticFault>
+pub(crate) fn all_completed(known: &Known) -> Judged<()>
     ensures exact { JudgedAnswers (λ _. tt) result (spec.all_completed (environment known.now).begun) }
 {
     match known.begun.first() {

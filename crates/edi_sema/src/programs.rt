@@ -4,27 +4,24 @@ ghost use Rattle.std.specs.Prelude.{◌≡◌, map, Err, IfErr, IfOk, OnErr, OnO
 ghost use Rattle.edi_tree.specs.View.{globals, global_of, heading_of, procedure_of};
 ghost use Rattle.edi_tree.specs.Whole.{program_of};
 ghost use Rattle.edi_unit.specs.Fits.{Fits};
-ghost use Rattle.edi_unit.specs.Lists.{list_items};
 ghost use Rattle.edi_unit.specs.Types.{IsTypeTable};
 ghost use Rattle.edi_unit.specs.View.{unit_of};
+ghost use Rattle.edi_static.specs.Prelude.{JudgedAnswers, asked_of, environment, gives, list_items};
 ghost use Rattle.edi_static.specs.Programs as spec;
-ghost use Rattle.edi_static.specs.Answers.{JudgedAnswers};
-ghost use Rattle.edi_static.specs.Views.{asked_of, environment};
 ghost use Rattle.edi_sema.specs.Frames.{HeadingBegins, Comes, EnvironmentStands};
-ghost use Rattle.edi_static.specs.Judged.{gives};
 ghost use Rattle.edi_sema.specs.Whole.{begun_program, first_environment, program_unit};
 
 use crate::calls::program_heading;
 use crate::declarations::procedure_rest;
 use crate::openings::{constants, declared_type};
 use crate::procedures::begin_block_of;
-use edi_static::{Asked, Known, StaticFault, copy_asked, heading_parts};
+use edi_static::{Asked, Judged, Known, StaticFault, copy_asked, heading_parts};
 use edi_tree::{Global as Declared, Heading, Procedure, Program};
 use edi_unit::{BlockKind, CallList, List, Unit};
 use std::alloc::Global;
 
 /// A declaration before the program's procedure.
-fn global(known: &mut Known, alloc: Global, global: &Declared) -> Result<(), StaticFault>
+fn global(known: &mut Known, alloc: Global, global: &Declared) -> Judged<()>
     requires stands { EnvironmentStands (environment known.old) }
     ensures exact { JudgedAnswers (λ _. environment known.new) result (spec.global_decl (global_of global.now) (environment known.old)) }
     ensures comes { OnOk result (Comes (environment known.old) (environment known.new)) }
@@ -36,11 +33,7 @@ fn global(known: &mut Known, alloc: Global, global: &Declared) -> Result<(), Sta
 }
 
 /// The declarations before the program's procedure.
-pub fn declare_globals(
-    known: &mut Known,
-    alloc: Global,
-    declared: &[Declared],
-) -> Result<(), StaticFault>
+pub fn declare_globals(known: &mut Known, alloc: Global, declared: &[Declared]) -> Judged<()>
     requires stands { EnvironmentStands (environment known.old) }
     ensures exact { JudgedAnswers (λ _. environment known.new) result (spec.global_decls (globals (map global_of declared.now)) (environment known.old)) }
     ensures comes { OnOk result (Comes (environment known.old) (environment known.new)) }
@@ -60,11 +53,7 @@ fn copy_of(alloc: Global, asked: &Asked) -> Result<Asked, StaticFault>
 }
 
 /// The program's own name is declared before its heading is judged by the rules on programs.
-pub fn begin_program(
-    known: &mut Known,
-    alloc: Global,
-    heading: &Heading,
-) -> Result<CallList, StaticFault>
+pub fn begin_program(known: &mut Known, alloc: Global, heading: &Heading) -> Judged<CallList>
     requires stands { EnvironmentStands (environment known.old) }
     ensures exact { JudgedAnswers (λ calls. record { calls = list_items calls; env = environment known.new }) result
         (begun_program (heading_of heading.now) (environment known.old)) }
@@ -85,11 +74,7 @@ pub fn begin_program(
 }
 
 /// The program's procedure, whose heading is judged by the rules on programs before its declarations are judged.
-fn program_procedure(
-    known: &mut Known,
-    alloc: Global,
-    procedure: &Procedure,
-) -> Result<CallList, StaticFault>
+fn program_procedure(known: &mut Known, alloc: Global, procedure: &Procedure) -> Judged<CallList>
     requires stands { EnvironmentStands (environment known.old) }
     ensures exact { JudgedAnswers (λ calls. program_unit (list_items calls) (environment known.new)) result
         (spec.program_procedure (procedure_of procedure.now) (environment known.old)) }
@@ -101,7 +86,7 @@ fn program_procedure(
 }
 
 /// What is known before a program, whose scope is open.
-pub fn before_program(alloc: Global) -> Result<Known, StaticFault>
+pub fn before_program(alloc: Global) -> Judged<Known>
     ensures exact { JudgedAnswers environment result (gives first_environment) }
     ensures stands { IfOk result (λ known. EnvironmentStands (environment known)) }
 {
@@ -111,7 +96,7 @@ pub fn before_program(alloc: Global) -> Result<Known, StaticFault>
 }
 
 /// A tree judged construct by construct: its unit, or its first fault.
-fn judge_tree(alloc: Global, tree: &Program) -> Result<Unit, StaticFault>
+fn judge_tree(alloc: Global, tree: &Program) -> Judged<Unit>
     ensures exact { JudgedAnswers unit_of result (spec.resolve_tree (program_of tree.now)) }
     ensures fits { IfOk result (λ unit. Fits (unit_of unit)) }
 {
@@ -130,7 +115,7 @@ fn judge_tree(alloc: Global, tree: &Program) -> Result<Unit, StaticFault>
 ///
 /// A unit fits: each number in it names a type, block or variable that is there, types agree in every expression, statement
 /// and call, each block's need is as it says, and the program's parameters are calls of the system, no two the same.
-pub fn resolve(alloc: Global, tree: &Program) -> Result<Unit, StaticFault>
+pub fn resolve(alloc: Global, tree: &Program) -> Judged<Unit>
     ensures exact { JudgedAnswers unit_of result (spec.resolve_tree (program_of tree.now)) }
     ensures fits { IfOk result (λ unit. Fits (unit_of unit)) }
     ensures sound { IfOk result (λ _. spec.Sound (program_of tree.now)) }

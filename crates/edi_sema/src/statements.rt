@@ -2,32 +2,24 @@
 
 ghost use Rattle.std.specs.Prelude.{◌≡◌, map, OnOk, IfOk, length, Option, Some, None, option_map, option_copied};
 ghost use Rattle.edi_tree.specs.View.{args_of, assignment_of, branch_of, call_of, cobegin_of, condition_of, conditions_of, list_of, statement_of};
-ghost use Rattle.edi_unit.specs.Lists.{list_items};
 ghost use Rattle.edi_unit.specs.Tree as unit;
 ghost use Rattle.edi_unit.specs.View.{act_of, acts_of, clause_of, clauses_of};
-ghost use Rattle.edi_static.specs.Judged.{gives};
+ghost use Rattle.edi_static.specs.Prelude.{JudgedAnswers, Proper, environment, gives, list_items};
 ghost use Rattle.edi_static.specs.Fitting as fitting;
 ghost use Rattle.edi_static.specs.Statements as spec;
-ghost use Rattle.edi_static.specs.Answers.{JudgedAnswers};
-ghost use Rattle.edi_static.specs.Proper.{Proper};
-ghost use Rattle.edi_static.specs.Views.{environment};
 ghost use Rattle.edi_values.specs.Views.{called_of, used_of};
 ghost use Rattle.edi_sema.specs.Frames.{Stays};
 ghost use Rattle.edi_sema.specs.Walks.{closed_branch};
 
 use crate::blocks::{close_block, enter_around, leave_around};
-use edi_static::{Known, StaticFault, StaticKind, add, constant, fault, must, no_asked, number};
+use edi_static::{Judged, Known, StaticKind, add, constant, fault, must, no_asked, number};
 use edi_tree as text;
 use edi_unit::{Act, Acts, BOOL, BlockKind, Clause, Clauses, INT, List, Numbers};
 use edi_values::{Called, Use, args_count, arguments, expression, use_of, variable_place};
 use std::alloc::Global;
 
 /// The variable and the expression are of one type.
-fn assignment(
-    known: &Known,
-    alloc: Global,
-    assignment: &text::Assignment,
-) -> Result<Act, StaticFault>
+fn assignment(known: &Known, alloc: Global, assignment: &text::Assignment) -> Judged<Act>
     ensures exact { JudgedAnswers (λ a. record { what = act_of a; env = environment known.now }) result
         (spec.statement (assignment_of assignment.now) (environment known.now)) }
 {
@@ -44,7 +36,7 @@ fn procedure_call(
     line: u16,
     called: Called,
     args: &text::Args,
-) -> Result<Act, StaticFault>
+) -> Judged<Act>
     ensures exact { JudgedAnswers act_of result (spec.called (environment known.now) line (fitting.calls (called_of called.entry)) (Some (args_of args.now))) }
 {
     must(
@@ -57,7 +49,7 @@ fn procedure_call(
 }
 
 /// A call of a procedure without arguments.
-fn bare_call(known: &Known, alloc: Global, line: u16, called: Called) -> Result<Act, StaticFault>
+fn bare_call(known: &Known, alloc: Global, line: u16, called: Called) -> Judged<Act>
     ensures exact { JudgedAnswers act_of result (spec.called (environment known.now) line (fitting.calls (called_of called.entry)) None) }
 {
     let _ = known;
@@ -72,7 +64,7 @@ fn called(
     line: u16,
     used: Use,
     args: Option<&text::Args>,
-) -> Result<Act, StaticFault>
+) -> Judged<Act>
     ensures exact { JudgedAnswers act_of result
         (spec.called (environment known.now) line (used_of used.entry) (option_map args_of (option_copied args.entry))) }
 {
@@ -91,7 +83,7 @@ fn called(
 }
 
 /// The name before arguments, or alone, is judged first.
-fn call(known: &Known, alloc: Global, call: &text::Call) -> Result<Act, StaticFault>
+fn call(known: &Known, alloc: Global, call: &text::Call) -> Judged<Act>
     ensures exact { JudgedAnswers (λ a. record { what = act_of a; env = environment known.now }) result
         (spec.statement (call_of call.now) (environment known.now)) }
 {
@@ -101,7 +93,7 @@ fn call(known: &Known, alloc: Global, call: &text::Call) -> Result<Act, StaticFa
 }
 
 /// A branch is a block of its own in the block where it stands.
-fn enter_branch(known: &mut Known, alloc: Global) -> Result<u32, StaticFault>
+fn enter_branch(known: &mut Known, alloc: Global) -> Judged<u32>
     requires proper { Proper (environment known.old) }
     ensures exact { JudgedAnswers (λ _. environment known.new) result (gives (spec.enter_branch (environment known.old))) }
     ensures number { IfOk result (λ block. block ≡ length (environment known.old).blocks) }
@@ -121,11 +113,7 @@ fn cobegin_act(blocks: Numbers, line: u16) -> Act
 
 /// Statements from left to right.
 #[cycle(statements)]
-pub(crate) fn statement_list(
-    known: &mut Known,
-    alloc: Global,
-    list: &text::List,
-) -> Result<Acts, StaticFault>
+pub(crate) fn statement_list(known: &mut Known, alloc: Global, list: &text::List) -> Judged<Acts>
     requires proper { Proper (environment known.old) }
     ensures exact { JudgedAnswers (λ acts. record { what = acts_of acts; env = environment known.new }) result
         (spec.statement_list (list_of list.now) (environment known.old)) }
@@ -142,11 +130,7 @@ pub(crate) fn statement_list(
 }
 
 #[cycle(statements)]
-fn statement(
-    known: &mut Known,
-    alloc: Global,
-    statement: &text::Statement,
-) -> Result<Act, StaticFault>
+fn statement(known: &mut Known, alloc: Global, statement: &text::Statement) -> Judged<Act>
     requires proper { Proper (environment known.old) }
     ensures exact { JudgedAnswers (λ act. record { what = act_of act; env = environment known.new }) result
         (spec.statement (statement_of statement.now) (environment known.old)) }
@@ -168,11 +152,7 @@ fn statement(
 
 /// Conditions from left to right.
 #[cycle(statements)]
-fn conditions(
-    known: &mut Known,
-    alloc: Global,
-    conditions: &text::Conditions,
-) -> Result<Clauses, StaticFault>
+fn conditions(known: &mut Known, alloc: Global, conditions: &text::Conditions) -> Judged<Clauses>
     requires proper { Proper (environment known.old) }
     ensures exact { JudgedAnswers (λ clauses. record { what = clauses_of clauses; env = environment known.new }) result
         (spec.conditions (conditions_of conditions.now) (environment known.old)) }
@@ -190,11 +170,7 @@ fn conditions(
 
 /// A condition is of type `bool`; that is judged at its `do`, before the statements behind it.
 #[cycle(statements)]
-fn condition(
-    known: &mut Known,
-    alloc: Global,
-    condition: &text::Condition,
-) -> Result<Clause, StaticFault>
+fn condition(known: &mut Known, alloc: Global, condition: &text::Condition) -> Judged<Clause>
     requires proper { Proper (environment known.old) }
     ensures exact { JudgedAnswers (λ clause. record { what = clause_of clause; env = environment known.new }) result
         (spec.condition (condition_of condition.now) (environment known.old)) }
@@ -211,7 +187,7 @@ fn condition(
 
 /// The branches from left to right.
 #[cycle(statements)]
-fn cobegin(known: &mut Known, alloc: Global, cobegin: &text::Cobegin) -> Result<Act, StaticFault>
+fn cobegin(known: &mut Known, alloc: Global, cobegin: &text::Cobegin) -> Judged<Act>
     requires proper { Proper (environment known.old) }
     ensures exact { JudgedAnswers (λ act. record { what = act_of act; env = environment known.new }) result
         (spec.statement (cobegin_of cobegin.now) (environment known.old)) }
@@ -229,7 +205,7 @@ fn cobegin(known: &mut Known, alloc: Global, cobegin: &text::Cobegin) -> Result<
 
 /// A branch's constant is of type `int`; that too is judged at its `do`. The symbol behind the branch closes its block.
 #[cycle(statements)]
-fn branch_block(known: &mut Known, alloc: Global, branch: &text::Branch) -> Result<u32, StaticFault>
+fn branch_block(known: &mut Known, alloc: Global, branch: &text::Branch) -> Judged<u32>
     requires proper { Proper (environment known.old) }
     ensures exact { JudgedAnswers (λ block. record { what = block; env = environment known.new }) result
         (closed_branch (branch_of branch.now) (environment known.old)) }

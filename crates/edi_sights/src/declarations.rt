@@ -3,12 +3,10 @@
 ghost use Rattle.std.specs.Prelude.{◌≡◌, ◌<◌, length, IsTrue, OnOk};
 ghost use Rattle.edi_scope.specs.Scope.{in_module};
 ghost use Rattle.edi_tree.specs.View.{declaration_of, item_of, list_of, member_of, module_of, procedure_of};
+ghost use Rattle.edi_static.specs.Prelude.{JudgedAnswers, environment, gives};
 ghost use Rattle.edi_static.specs.Environment.{here};
 ghost use Rattle.edi_static.specs.Declarations as rule;
-ghost use Rattle.edi_static.specs.Judged.{gives};
-ghost use Rattle.edi_static.specs.Answers.{JudgedAnswers};
-ghost use Rattle.edi_static.specs.Views.{environment};
-ghost use Rattle.edi_sema.specs.Frames.{Comes, Leaves, EnvironmentStands};
+ghost use Rattle.edi_sema.specs.Frames.{Comes, Leaves, EnvironmentStands, StandsToDeclare};
 ghost use Rattle.edi_sema.specs.Bodies.{finished, finished_module, whole_procedure};
 ghost use Rattle.edi_sights.specs.Awaits as spec;
 ghost use Rattle.edi_sights.specs.Counted.{body_counted};
@@ -19,7 +17,7 @@ use edi_sema::{
     StaticFault, begin_post, begin_procedure, close_scope, completed, constants, declared_type,
     finish_block, finish_module, leave_block, open_block, open_module, pre_decl, variables,
 };
-use edi_static::Known;
+use edi_static::{Judged, Known};
 use edi_tree::{Declaration, Item, List, Member, Module, Procedure};
 use std::alloc::Global;
 
@@ -37,7 +35,7 @@ fn body_met(
     list: &List,
     name: &[u8],
     awaits: &mut Vec<Await>,
-) -> Result<(), StaticFault>
+) -> Judged<()>
     ensures exact { JudgedAnswers (λ _. environment known.new) result (gives (environment known.old)) }
     ensures awaits { OnOk result (awaits.new.items ≡ body_counted name.now (list_of list.now) (environment known.old) awaits.old.items) }
 {
@@ -66,7 +64,7 @@ fn finish_block_met(
     end: u16,
     name: &[u8],
     awaits: &mut Vec<Await>,
-) -> Result<(), StaticFault>
+) -> Judged<()>
     requires stands { EnvironmentStands (environment known.old) }
     ensures exact { JudgedAnswers (λ _. environment known.new) result (finished block (list_of list.now) end (environment known.old)) }
     ensures comes { OnOk result (Comes (environment known.old) (environment known.new)) }
@@ -83,7 +81,7 @@ fn finish_module_met(
     list: &List,
     name: &[u8],
     awaits: &mut Vec<Await>,
-) -> Result<(), StaticFault>
+) -> Judged<()>
     requires stands { EnvironmentStands (environment known.old) }
     ensures exact { JudgedAnswers (λ _. environment known.new) result
         (finished_module (here (environment known.old)) (list_of list.now) (environment known.old)) }
@@ -103,7 +101,7 @@ pub(crate) fn procedure_met(
     procedure: &Procedure,
     name: &[u8],
     awaits: &mut Vec<Await>,
-) -> Result<(), StaticFault>
+) -> Judged<()>
     requires depth { 1 < length known.old.scopes }
     requires stands { EnvironmentStands (environment known.old) }
     ensures exact { JudgedAnswers (λ _. environment known.new) result (whole_procedure block (procedure_of procedure.now) (environment known.old)) }
@@ -135,9 +133,8 @@ fn item_met(
     item: &Item,
     name: &[u8],
     awaits: &mut Vec<Await>,
-) -> Result<(), StaticFault>
-    requires module { IsTrue export → IsTrue (in_module known.old.scopes) }
-    requires stands { EnvironmentStands (environment known.old) }
+) -> Judged<()>
+    requires stands { StandsToDeclare export (environment known.old) }
     ensures exact { JudgedAnswers (λ _. environment known.new) result (rule.item export (item_of item.now) (environment known.old)) }
     ensures comes { OnOk result (Comes (environment known.old) (environment known.new)) }
     ensures awaits { OnOk result (awaits.new.items ≡ spec.item_met name.now export (item_of item.now) (environment known.old) awaits.old.items) }
@@ -167,7 +164,7 @@ fn module_met(
     module: &Module,
     name: &[u8],
     awaits: &mut Vec<Await>,
-) -> Result<(), StaticFault>
+) -> Judged<()>
     requires stands { EnvironmentStands (environment known.old) }
     ensures exact { JudgedAnswers (λ _. environment known.new) result (rule.module_decl (module_of «module».now) (environment known.old)) }
     ensures comes { OnOk result (Comes (environment known.old) (environment known.new)) }
@@ -189,7 +186,7 @@ fn member_met(
     member: &Member,
     name: &[u8],
     awaits: &mut Vec<Await>,
-) -> Result<(), StaticFault>
+) -> Judged<()>
     requires module { IsTrue (in_module known.old.scopes) }
     requires stands { EnvironmentStands (environment known.old) }
     ensures exact { JudgedAnswers (λ _. environment known.new) result (rule.member (member_of member.now) (environment known.old)) }
@@ -210,7 +207,7 @@ fn declaration_met(
     declaration: &Declaration,
     name: &[u8],
     awaits: &mut Vec<Await>,
-) -> Result<(), StaticFault>
+) -> Judged<()>
     requires stands { EnvironmentStands (environment known.old) }
     ensures exact { JudgedAnswers (λ _. environment known.new) result (rule.declaration (declaration_of declaration.now) (environment known.old)) }
     ensures comes { OnOk result (Comes (environment known.old) (environment known.new)) }

@@ -1,10 +1,12 @@
 //! The `when`s of a line, each with its place among those of its block.
 
 ghost use Rattle.std.specs.Prelude.{◌≡◌, ℕ, ◌<◌, ◌+◌, ◌==◌, ◌++◌, ◌∷◌, [], if◌then◌else◌, vec_len, slice_index_or, IfOk, OnOk};
+ghost use Rattle.edi_unit.specs.Lists.{list_items};
 ghost use Rattle.edi_sights.specs.Sights as spec;
 
 use crate::answer::{Sight, Sights};
 use crate::awaits::Await;
+use edi_unit::List;
 use std::alloc::{AllocError, Global};
 
 /// Makes room for the count of a block. A block without one counts 0.
@@ -47,7 +49,7 @@ fn add_if(wanted: bool, sight: Sight, sights: &mut Vec<Sight>) -> Result<(), All
 
 /// The `when`s on a line.
 pub(crate) fn sights_on(alloc: Global, awaits: &[Await], line: u16) -> Result<Sights, AllocError>
-    ensures exact { IfOk result (λ sights. sights ≡ spec.sights_on line [] awaits.now) }
+    ensures exact { IfOk result (λ sights. list_items sights ≡ spec.sights_on line [] awaits.now) }
 {
     let mut counts: Vec<u32> = Vec::new(alloc);
     let mut sights = Vec::new(alloc);
@@ -60,5 +62,5 @@ pub(crate) fn sights_on(alloc: Global, awaits: &[Await], line: u16) -> Result<Si
         };
         add_if(one.line == line, sight, &mut sights)?;
     }
-    Ok(Sights::from_vec(sights))
+    Ok(List::from_vec(sights))
 }

@@ -4,7 +4,7 @@ ghost use Rattle.std.specs.Prelude.{◌≡◌, [], IfOk, OnOk};
 ghost use Rattle.edi_tree.specs.View.{procedure_of};
 ghost use Rattle.edi_tree.specs.Whole.{program_of};
 ghost use Rattle.edi_static.specs.Programs as rule;
-ghost use Rattle.edi_static.specs.Views.{environment};
+ghost use Rattle.edi_static.specs.Prelude.{environment, list_items};
 ghost use Rattle.edi_sema.specs.Frames.{EnvironmentStands};
 ghost use Rattle.edi_sights.specs.Awaits as spec;
 ghost use Rattle.edi_sights.specs.Sights.{sights_of};
@@ -15,7 +15,7 @@ use crate::awaits::Await;
 use crate::declarations::procedure_met;
 use crate::numbering::sights_on;
 use edi_sema::{StaticFault, before_program, begin_program, declare_globals};
-use edi_static::Known;
+use edi_static::{Judged, Known};
 use edi_tree::{Procedure, Program};
 use std::alloc::{AllocError, Global};
 
@@ -26,7 +26,7 @@ fn program_met(
     procedure: &Procedure,
     name: &[u8],
     awaits: &mut Vec<Await>,
-) -> Result<(), StaticFault>
+) -> Judged<()>
     requires stands { EnvironmentStands (environment known.old) }
     ensures fault { FaultOf result (rule.program_procedure (procedure_of procedure.now) (environment known.old)) }
     ensures awaits { OnOk result (awaits.new.items ≡ spec.program_met name.now (procedure_of procedure.now) (environment known.old) awaits.old.items) }
@@ -36,7 +36,7 @@ fn program_met(
 }
 
 /// The `when`s of a program.
-fn awaits_of(alloc: Global, tree: &Program, name: &[u8]) -> Result<Vec<Await>, StaticFault>
+fn awaits_of(alloc: Global, tree: &Program, name: &[u8]) -> Judged<Vec<Await>>
     ensures fault { FaultOf result (rule.resolve_tree (program_of tree.now)) }
     ensures awaits { IfOk result (λ awaits. awaits.items ≡ spec.awaits_of name.now (program_of tree.now)) }
 {
@@ -55,7 +55,7 @@ fn awaits_of(alloc: Global, tree: &Program, name: &[u8]) -> Result<Vec<Await>, S
 /// Only for want of memory.
 pub fn sights(alloc: Global, tree: &Program, line: u16, name: &[u8]) -> Result<Sights, AllocError>
     requires sound { rule.Sound (program_of tree.now) }
-    ensures exact { IfOk result (λ sights. sights ≡ sights_of (program_of tree.now) line name.now) }
+    ensures exact { IfOk result (λ sights. list_items sights ≡ sights_of (program_of tree.now) line name.now) }
 {
     match awaits_of(alloc, tree, name) {
         Ok(awaits) => sights_on(alloc, awaits.as_slice(), line),

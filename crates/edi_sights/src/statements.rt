@@ -3,9 +3,7 @@
 
 ghost use Rattle.std.specs.Prelude.{◌≡◌, OnOk};
 ghost use Rattle.edi_tree.specs.View.{branch_of, cobegin_of, condition_of, conditions_of, list_of, statement_of};
-ghost use Rattle.edi_static.specs.Judged.{gives};
-ghost use Rattle.edi_static.specs.Answers.{JudgedAnswers};
-ghost use Rattle.edi_static.specs.Views.{environment};
+ghost use Rattle.edi_static.specs.Prelude.{JudgedAnswers, environment, gives};
 ghost use Rattle.edi_sema.specs.Blocks.{inside_block, outside_block};
 ghost use Rattle.edi_sights.specs.Counted as spec;
 ghost use Rattle.edi_sights.specs.Views.{met_of};

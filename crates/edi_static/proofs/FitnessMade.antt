@@ -10,7 +10,8 @@ use Rattle.edi_unit.specs.Types.{Shape, int, char, bool, enumeration, record_of,
 use Rattle.edi_unit.specs.Types.{is_elementary_shape, is_set_shape, is_ordinal_of, element_count}
 use Rattle.edi_unit.specs.Tree as unit
 use Rattle.edi_unit.specs.Fits.{HaveTypes, AllHaveType, MakesValue, ExpressionsFit}
-use Rattle.edi_static.specs.InRange.{AreCharacters, ExprInRange, FactorInRange}
+use Rattle.edi_static.specs.Leaves.{ExprHolds, FactorHolds}
+use Rattle.edi_static.specs.InRange.{AreCharacters, in_range}
 use Rattle.edi_static.specs.declared.faults.StaticKind.TheVariants as kind
 use Rattle.edi_static.specs.Judged.{Judged}
 use Rattle.edi_static.specs.Environment.{Environment, here}
@@ -62,14 +63,14 @@ characters_fit env table [] h = tt
 characters_fit env table (c ∷ cs) h = (character_fits env table c h.0, characters_fit env table cs h.1)
 
 -- a string alone
-only_in_range : (e : text.Expr) → ExprInRange e → IfSome (only_factor e) FactorInRange
+only_in_range : (e : text.Expr) → ExprHolds in_range e → IfSome (only_factor e) (FactorHolds in_range)
 only_in_range (text.expr (text.simple None (text.term f text.no_multiplier) text.no_addend) text.no_comparison) h = h.0.0.0
 only_in_range (text.expr (text.simple None (text.term f text.no_multiplier) text.no_addend) (text.compared r line s)) h = tt
 only_in_range (text.expr (text.simple None (text.term f text.no_multiplier) (text.next_addend a more)) c) h = tt
 only_in_range (text.expr (text.simple None (text.term f (text.next_multiplier m ms)) more) c) h = tt
 only_in_range (text.expr (text.simple (Some sign) t more) c) h = tt
 
-string_in_range : (o : Option text.Factor) → IfSome o FactorInRange → IfSome (string_of_factor o) AreCharacters
+string_in_range : (o : Option text.Factor) → IfSome o (FactorHolds in_range) → IfSome (string_of_factor o) AreCharacters
 string_in_range None h = tt
 string_in_range (Some (text.string s)) h = h
 string_in_range (Some (text.numeral n)) h = tt
@@ -84,7 +85,7 @@ taken_fits env table true (Some cs) judged h k = characters_fit env table cs h
 taken_fits env table true None judged h k = bind (TypedFits env) (TypedsFit env) judged _ k (λ v j. (j, tt))
 taken_fits env table false o judged h k = bind (TypedFits env) (TypedsFit env) judged _ k (λ v j. (j, tt))
 
-pub element_fits : (env : Environment) → IsTable env.types → (strings : Bool) (e : text.Expr) (judged : Judged Typed) → ExprInRange e
+pub element_fits : (env : Environment) → IsTable env.types → (strings : Bool) (e : text.Expr) (judged : Judged Typed) → ExprHolds in_range e
     → Gives (TypedFits env) judged → Gives (TypedsFit env) (element env strings e judged)
 element_fits env table strings e judged h k =
     taken_fits env table strings (string_alone e) judged (string_in_range (only_factor e) (only_in_range e h)) k

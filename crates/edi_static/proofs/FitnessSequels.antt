@@ -15,8 +15,8 @@ use Rattle.edi_static.specs.Fitting.{use_of}
 use Rattle.edi_static.specs.Expressions.{expression, variable_place}
 use Rattle.edi_static.specs.Statements.{After, called, assigned, enter_branch, statement_list, statements, statement, conditions, elses, condition, branch}
 use Rattle.edi_static.specs.Statements.{branches}
-use Rattle.edi_static.specs.InRange.{branches_count, ListInRange, StatementsInRange, StatementInRange, ConditionsInRange, ConditionInRange, ElseInRange}
-use Rattle.edi_static.specs.InRange.{BranchInRange, BranchesInRange}
+use Rattle.edi_static.specs.Leaves.{ListHolds, StatementsHolds, StatementHolds, ConditionsHolds, ConditionHolds, ElseHolds, BranchHolds, BranchesHolds}
+use Rattle.edi_static.specs.InRange.{branches_count, in_range}
 use Rattle.edi_static.proofs.Judging.{Gives, bind, behind, ruled}
 use Rattle.edi_static.proofs.Fitness.{EntitySits, Sits, TypedFits, LocatedFits}
 use Rattle.edi_static.proofs.FitnessNames.{look_up_sits}
@@ -67,19 +67,19 @@ joined One Each put both env a b w m rest first sequels =
     (λ others j. both env (here_inside env w.sits w.inside) one others k j))
 
 mutual
-  pub list_does : (l : text.StatementList) (env : Environment) → Deep env (list_depth l) → ListInRange l → Gives (Does ActsFit env) (statement_list l env)
+  pub list_does : (l : text.StatementList) (env : Environment) → Deep env (list_depth l) → ListHolds in_range l → Gives (Does ActsFit env) (statement_list l env)
   list_does (text.list s more) env w h =
       joined ActFits ActsFit unit.act_then sequel env (statement_depth s) (statements_depth more) w (statement s env) (statements more)
       (λ u. statement_does s env u h.0) (λ one u. statements_do more one u h.1)
 
-  statements_do : (ss : text.Statements) (env : Environment) → Deep env (statements_depth ss) → StatementsInRange ss → Gives (Does ActsFit env)
+  statements_do : (ss : text.Statements) (env : Environment) → Deep env (statements_depth ss) → StatementsHolds in_range ss → Gives (Does ActsFit env)
       (statements ss env)
   statements_do text.no_statement env w h = record { steps = steps_same env w.sits; fits = tt }
   statements_do (text.next_statement s more) env w h =
       joined ActFits ActsFit unit.act_then sequel env (statement_depth s) (statements_depth more) w (statement s env) (statements more)
       (λ u. statement_does s env u h.0) (λ one u. statements_do more one u h.1)
 
-  statement_does : (s : text.Statement) (env : Environment) → Deep env (statement_depth s) → StatementInRange s → Gives (Does ActFits env) (statement s env)
+  statement_does : (s : text.Statement) (env : Environment) → Deep env (statement_depth s) → StatementHolds in_range s → Gives (Does ActFits env) (statement s env)
   statement_does text.skip env w h = record { steps = steps_same env w.sits; fits = tt }
   statement_does (text.assignment v line e) env w h =
       bind (ActSits env) (Does ActFits env) (assigned env v line e) (λ a. gives (record { what = a; env = env }))
@@ -103,30 +103,30 @@ mutual
       (λ done k. record { steps = k.steps; fits = k.fits })
   statement_does (text.cobegin line b bs) env w h =
       bind (Branched env (branches_count bs)) (Does ActFits env) _ _
-      (bind (Does ActsFit (enter_branch env)) (Branched env (branches_count bs)) _ _ (branch_does b env (shallower env _ w _ (omega arith)) h.1) (λ one k.
-      branches_do bs env one (shallower env _ w _ (omega arith)) h.2 k))
+      (bind (Does ActsFit (enter_branch env)) (Branched env (branches_count bs)) _ _ (branch_does b env (shallower env _ w _ (omega arith)) h.1.0) (λ one k.
+      branches_do bs env one (shallower env _ w _ (omega arith)) h.1.1 k))
       (λ done k. let many = k.many in record { steps = k.steps; fits = (omega (arith, many), omega (arith, many, h.0), k.fits) })
 
-  conditions_do : (cs : text.Conditions) (env : Environment) → Deep env (conditions_depth cs) → ConditionsInRange cs → Gives (Does ClausesFit env)
+  conditions_do : (cs : text.Conditions) (env : Environment) → Deep env (conditions_depth cs) → ConditionsHolds in_range cs → Gives (Does ClausesFit env)
       (conditions cs env)
   conditions_do (text.conditions c more) env w h =
       joined ClauseFits ClausesFit unit.clause_then sequel_clauses env (condition_depth c) (else_depth more) w (condition c env) (elses more)
       (λ u. condition_does c env u h.0) (λ one u. elses_do more one u h.1)
 
-  elses_do : (cs : text.Else) (env : Environment) → Deep env (else_depth cs) → ElseInRange cs → Gives (Does ClausesFit env) (elses cs env)
+  elses_do : (cs : text.Else) (env : Environment) → Deep env (else_depth cs) → ElseHolds in_range cs → Gives (Does ClausesFit env) (elses cs env)
   elses_do text.no_else env w h = record { steps = steps_same env w.sits; fits = tt }
   elses_do (text.next_else c more) env w h =
       joined ClauseFits ClausesFit unit.clause_then sequel_clauses env (condition_depth c) (else_depth more) w (condition c env) (elses more)
       (λ u. condition_does c env u h.0) (λ one u. elses_do more one u h.1)
 
-  condition_does : (c : text.Condition) (env : Environment) → Deep env (condition_depth c) → ConditionInRange c → Gives (Does ClauseFits env) (condition c env)
+  condition_does : (c : text.Condition) (env : Environment) → Deep env (condition_depth c) → ConditionHolds in_range c → Gives (Does ClauseFits env) (condition c env)
   condition_does (text.condition e line s) env w h =
       bind (TypedFits env) (Does ClauseFits env) (expression env e) _ (expression_fits env w.sits e h.0) (λ c k.
       ruled (Does ClauseFits env) (c.of == bool_type) kind.Types line _ (λ is.
       bind (Does ActsFit env) (Does ClauseFits env) (statement_list s env) _ (list_does s env (shallower env _ w _ (omega arith)) h.1)
       (λ done j. guarded env (here_inside env w.sits w.inside) c done w.sits k (eqb-true c.of bool_type is) j)))
 
-  branch_does : (b : text.Branch) (env : Environment) → Deep env (suc (branch_depth b)) → BranchInRange b
+  branch_does : (b : text.Branch) (env : Environment) → Deep env (suc (branch_depth b)) → BranchHolds in_range b
       → Gives (Does ActsFit (enter_branch env)) (branch b env)
   branch_does (text.branch c line s) env w h =
       behind (Does ActsFit (enter_branch env)) (constant env c) _ (λ k.
@@ -135,7 +135,7 @@ mutual
       list_does s (enter_branch env)
       (record { sits = entered_sits env w.sits w.inside (omega (arith, deep)); inside = omega arith; deep = omega (arith, deep) }) h.1))
 
-  branches_do : (bs : text.Branches) (before : Environment) (done : After Acts) → Deep before (suc (branches_depth bs)) → BranchesInRange bs →
+  branches_do : (bs : text.Branches) (before : Environment) (done : After Acts) → Deep before (suc (branches_depth bs)) → BranchesHolds in_range bs →
       Does ActsFit (enter_branch before) done → Gives (Branched before (branches_count bs)) (branches bs before done)
   branches_do (text.no_branch end) before done w h k =
       bind (Left before) (Branched before 0) _ _ (leave_left before end done w.sits w.inside k) (one_branch before)

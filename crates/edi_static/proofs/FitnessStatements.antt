@@ -21,7 +21,8 @@ use Rattle.edi_static.specs.Operators.{Typed}
 use Rattle.edi_static.specs.Fitting.{Use, constructs, calls, halts, neither, is_function, takes_so_many}
 use Rattle.edi_static.specs.Expressions.{all_arguments, args_count}
 use Rattle.edi_static.specs.Statements.{After, called, close_block, enter_branch, leave_branch}
-use Rattle.edi_static.specs.InRange.{OptionalArgsInRange}
+use Rattle.edi_static.specs.Leaves.{OptionalArgsHolds}
+use Rattle.edi_static.specs.InRange.{in_range}
 use Rattle.edi_static.proofs.Judging.{Gives, bind, ruled}
 use Rattle.edi_static.proofs.Fitness.{headings_of, is_round, Names, IsChain, Sits, TypedFits, UseFits}
 use Rattle.edi_static.proofs.FitnessCalls.{none_fit}
@@ -153,7 +154,7 @@ no_result (Some t) h = absurd (false≢true h)
 abbrev pub ActSits : Environment → Act → Type 0
 ActSits env a = ActFits env.types env.blocks (headings_of env.headings) (here env) a
 
-pub called_fits : (env : Environment) → Sits env → (line : ℕ) (u : Use) (xs : Option text.Args) → UseFits env u → OptionalArgsInRange xs
+pub called_fits : (env : Environment) → Sits env → (line : ℕ) (u : Use) (xs : Option text.Args) → UseFits env u → OptionalArgsHolds in_range xs
     → Gives (ActSits env) (called env line u xs)
 called_fits env s line (calls c) None h i =
     ruled (ActSits env) (not (is_function c.asks) && takes_so_many c.asks 0) kind.Call line _ (λ e.

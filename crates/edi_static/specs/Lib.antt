@@ -1,6 +1,8 @@
 pub mod Judged
 pub mod Environment
 pub mod Proper
+pub mod Declaring
+pub mod Leaves
 pub mod InRange
 pub mod Types
 pub mod Headings
@@ -12,6 +14,7 @@ pub mod Declarations
 pub mod Programs
 pub mod Answers
 pub mod Views
+pub mod Prelude
 pub mod Laws
 pub mod Written
 pub mod Spelled

@@ -1,15 +1,12 @@
 //! The rules on constants.
 
-ghost use Rattle.std.specs.Prelude.{◌≡◌, ◌<◌, length, IsTrue, IfOk, OnOk};
-ghost use Rattle.edi_scope.specs.Scope.{in_module};
+ghost use Rattle.std.specs.Prelude.{◌≡◌, ◌<◌, length, IsTrue, IfOk};
 ghost use Rattle.edi_tree.specs.View.{const_list_of};
 ghost use Rattle.edi_unit.specs.Types.{char_type, is_elementary};
-ghost use Rattle.edi_static.specs.Answers.{JudgedAnswers};
-ghost use Rattle.edi_static.specs.Proper.{Proper};
+ghost use Rattle.edi_static.specs.Prelude.{Declares, JudgedAnswers, MayDeclare, Proper, environment, ordinal_of};
 ghost use Rattle.edi_static.specs.Types as spec;
-ghost use Rattle.edi_static.specs.Views.{environment, ordinal_of};
 
-use crate::faults::{StaticFault, StaticKind};
+use crate::faults::{Judged, StaticKind};
 use crate::known::{Known, fault, must};
 use edi_scope::Entity;
 use edi_tree::{ConstDecl, ConstList, Constant};
@@ -24,7 +21,7 @@ pub struct Ordinal {
 }
 
 /// A constant is asked.
-fn as_constant(line: u16, entity: Entity) -> Result<Ordinal, StaticFault>
+fn as_constant(line: u16, entity: Entity) -> Judged<Ordinal>
     ensures exact { JudgedAnswers ordinal_of result (spec.as_constant line entity) }
     ensures constant { IfOk result (λ c. entity ≡ Entity.Constant c.of c.ordinal) }
 {
@@ -35,7 +32,7 @@ fn as_constant(line: u16, entity: Entity) -> Result<Ordinal, StaticFault>
 }
 
 /// Before a numeral in parentheses the standard type `char` is asked; the numeral is at most 127.
-fn as_character(line: u16, ordinal: i16, entity: Entity) -> Result<Ordinal, StaticFault>
+fn as_character(line: u16, ordinal: i16, entity: Entity) -> Judged<Ordinal>
     ensures exact { JudgedAnswers ordinal_of result (spec.as_character line ordinal entity) }
     ensures character { IfOk result (λ c. c.of ≡ char_type) }
 {
@@ -49,7 +46,7 @@ fn as_character(line: u16, ordinal: i16, entity: Entity) -> Result<Ordinal, Stat
 }
 
 /// The value of a constant.
-pub fn constant(known: &Known, constant: &Constant) -> Result<Ordinal, StaticFault>
+pub fn constant(known: &Known, constant: &Constant) -> Judged<Ordinal>
     ensures exact { JudgedAnswers ordinal_of result (spec.constant (environment known.now) constant.now) }
     ensures known { Proper (environment known.now) → IfOk result (λ c. (c.of < length known.now.types) × IsTrue (is_elementary known.now.types c.of)) }
 {
@@ -70,18 +67,10 @@ pub fn constant(known: &Known, constant: &Constant) -> Result<Ordinal, StaticFau
 }
 
 /// The constant is judged first, then the name is declared.
-fn const_decl(
-    known: &mut Known,
-    alloc: Global,
-    export: bool,
-    declaration: &ConstDecl,
-) -> Result<(), StaticFault>
-    requires exporting { IsTrue export → IsTrue (in_module known.old.scopes) }
-    requires proper { Proper (environment known.old) }
+fn const_decl(known: &mut Known, alloc: Global, export: bool, declaration: &ConstDecl) -> Judged<()>
+    requires may { MayDeclare export (environment known.old) }
     ensures exact { JudgedAnswers (λ _. environment known.new) result (spec.const_decl export declaration.now (environment known.old)) }
-    ensures exporting { IsTrue export → IsTrue (in_module known.new.scopes) }
-    ensures proper { OnOk result (Proper (environment known.new)) }
-    ensures depth { length known.new.scopes ≡ length known.old.scopes }
+    ensures declares { Declares export result (environment known.old) (environment known.new) }
 {
     let value = constant(known, &declaration.constant)?;
     let entity = Entity::Constant {
@@ -91,18 +80,10 @@ fn const_decl(
     known.declare(alloc, export, &declaration.name, entity)
 }
 
-pub fn const_list(
-    known: &mut Known,
-    alloc: Global,
-    export: bool,
-    list: &ConstList,
-) -> Result<(), StaticFault>
-    requires exporting { IsTrue export → IsTrue (in_module known.old.scopes) }
-    requires proper { Proper (environment known.old) }
+pub fn const_list(known: &mut Known, alloc: Global, export: bool, list: &ConstList) -> Judged<()>
+    requires may { MayDeclare export (environment known.old) }
     ensures exact { JudgedAnswers (λ _. environment known.new) result (spec.const_list export (const_list_of list.now) (environment known.old)) }
-    ensures exporting { IsTrue export → IsTrue (in_module known.new.scopes) }
-    ensures proper { OnOk result (Proper (environment known.new)) }
-    ensures depth { length known.new.scopes ≡ length known.old.scopes }
+    ensures declares { Declares export result (environment known.old) (environment known.new) }
 {
     const_decl(known, alloc, export, &list.first)?;
     for declaration in list.more.items() {

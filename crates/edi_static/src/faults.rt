@@ -37,3 +37,6 @@ pub enum StaticFault {
     #[error("no memory")]
     NoMemory,
 }
+
+/// What a construct gives, or why there is no resolved unit.
+pub type Judged<T> = Result<T, StaticFault>;

@@ -3,16 +3,12 @@
 ghost use Rattle.std.specs.Prelude.{◌≡◌, ◌==◌, map};
 ghost use Rattle.std.specs.List.{list_all, list_any};
 ghost use Rattle.edi_unit.specs.Types as types;
-ghost use Rattle.edi_unit.specs.ShapeView.{shape_of};
-ghost use Rattle.edi_unit.specs.View.{argument_of, expression_of};
 ghost use Rattle.edi_unit.specs.Need as need;
-ghost use Rattle.edi_static.specs.Answers.{JudgedAnswers};
+ghost use Rattle.edi_static.specs.Prelude.{JudgedAnswers, argument_of, environment, expression_of, gives, rooted_of, shape_of, typed_of};
 ghost use Rattle.edi_static.specs.Environment.{steps_to};
-ghost use Rattle.edi_static.specs.Judged.{gives};
 ghost use Rattle.edi_static.specs.Fitting as spec;
-ghost use Rattle.edi_static.specs.Views.{environment, rooted_of, typed_of};
 
-use crate::faults::{StaticFault, StaticKind};
+use crate::faults::{Judged, StaticKind};
 use crate::known::{Known, fault, must, number};
 use crate::operands::{Typed, is_set};
 use edi_scope::Entity;
@@ -20,12 +16,7 @@ use edi_unit::{Argument, CHAR, INT, List, Shape, Value};
 use std::alloc::Global;
 
 /// An argument for a `var` parameter is a variable alone, of its type.
-pub fn variable_argument(
-    line: u16,
-    of: u32,
-    alone: bool,
-    value: Typed,
-) -> Result<Argument, StaticFault>
+pub fn variable_argument(line: u16, of: u32, alone: bool, value: Typed) -> Judged<Argument>
     ensures exact { JudgedAnswers argument_of result (spec.variable_argument line of alone (expression_of value.what) value.of) }
 {
     let Typed { what, of: has } = value;
@@ -49,7 +40,7 @@ pub fn character(character: u8) -> Typed
 }
 
 /// A string stands for its characters only where a constructor takes it; elsewhere it has to be one character.
-pub fn single(line: u16, characters: &[u8]) -> Result<Typed, StaticFault>
+pub fn single(line: u16, characters: &[u8]) -> Judged<Typed>
     ensures exact { JudgedAnswers typed_of result (spec.single line characters.now) }
 {
     match characters {
@@ -59,7 +50,7 @@ pub fn single(line: u16, characters: &[u8]) -> Result<Typed, StaticFault>
 }
 
 /// A set type alone is the empty set.
-pub fn empty_set(known: &Known, alloc: Global, line: u16, of: u32) -> Result<Typed, StaticFault>
+pub fn empty_set(known: &Known, alloc: Global, line: u16, of: u32) -> Judged<Typed>
     ensures exact { JudgedAnswers typed_of result (spec.empty_set (environment known.now) line of) }
 {
     must(is_set(known.shape(of)), StaticKind::Constructor, line)?;
@@ -80,7 +71,7 @@ pub struct Rooted {
 }
 
 /// A variable of this block.
-fn rooted_in(known: &Known, block: u32, variable: u32, of: u32) -> Result<Rooted, StaticFault>
+fn rooted_in(known: &Known, block: u32, variable: u32, of: u32) -> Judged<Rooted>
     ensures exact { JudgedAnswers rooted_of result (gives (record { levels = steps_to block (environment known.now).around; variable = variable; of = of })) }
 {
     let levels = number(known.steps_to(block))?;
@@ -92,7 +83,7 @@ fn rooted_in(known: &Known, block: u32, variable: u32, of: u32) -> Result<Rooted
 }
 
 /// A variable is asked.
-pub fn as_variable(known: &Known, line: u16, entity: Entity) -> Result<Rooted, StaticFault>
+pub fn as_variable(known: &Known, line: u16, entity: Entity) -> Judged<Rooted>
     ensures exact { JudgedAnswers rooted_of result (spec.as_variable (environment known.now) line entity) }
 {
     match entity {
@@ -116,7 +107,7 @@ fn block_result(known: &Known, block: u32) -> Option<u32>
 }
 
 /// The variable of a function whose body contains this place.
-pub fn as_function(known: &Known, line: u16, entity: Entity) -> Result<Rooted, StaticFault>
+pub fn as_function(known: &Known, line: u16, entity: Entity) -> Judged<Rooted>
     ensures exact { JudgedAnswers rooted_of result (spec.as_function (environment known.now) line entity) }
 {
     match entity {
@@ -125,7 +116,7 @@ pub fn as_function(known: &Known, line: u16, entity: Entity) -> Result<Rooted, S
     }
 }
 
-fn function_variable(known: &Known, line: u16, block: u32) -> Result<Rooted, StaticFault>
+fn function_variable(known: &Known, line: u16, block: u32) -> Judged<Rooted>
     ensures exact { JudgedAnswers rooted_of result (spec.function_variable (environment known.now) line block
         (list_any (λ a. a == block) (environment known.now).around) (need.block_at (environment known.now).blocks block).result) }
 {

@@ -1,12 +1,11 @@
 //! What headings ask of calls.
 
 ghost use Rattle.std.specs.Prelude.{◌≡◌, [], ◌∷◌, Err, IfOk, OnErr, OnOk, map};
+ghost use Rattle.edi_static.specs.Prelude.{asked_of, formal_of, list_items, same_one};
 ghost use Rattle.edi_static.specs.Headings.{formal_one};
-ghost use Rattle.edi_unit.specs.Lists.{list_items};
 ghost use Rattle.edi_unit.specs.Fits.{heading, heading_result, heading_formals};
 ghost use Rattle.edi_static.specs.Environment as spec;
 ghost use Rattle.edi_static.specs.Views as view;
-ghost use Rattle.edi_static.specs.Views.{asked_of, formal_of, same_one};
 
 use crate::faults::StaticFault;
 use edi_unit::{List, Parameter, Parameters};

@@ -3,20 +3,15 @@
 ghost use Rattle.std.specs.Prelude.{◌≡◌, ◌<◌, ◌++◌, ◌∷◌, [], false, length, Err, OnOk, OnErr, IfOk, IsTrue, ◌==◌};
 ghost use Rattle.std.specs.List.{list_any};
 ghost use Rattle.edi_unit.specs.Types.{shape_at, is_elementary};
-ghost use Rattle.edi_unit.specs.Lists.{list_items};
-ghost use Rattle.edi_unit.specs.ShapeView.{shape_of};
 ghost use Rattle.edi_scope.specs.Scope.{in_module, outside};
-ghost use Rattle.edi_static.specs.Judged.{gives};
+ghost use Rattle.edi_static.specs.Prelude.{EntityFits, JudgedAnswers, Proper, environment, gives, list_items, shape_of};
 ghost use Rattle.edi_static.specs.Judged as judged;
 ghost use Rattle.edi_static.specs.Environment as spec;
 ghost use Rattle.edi_static.specs.Headings.{leave, round};
-ghost use Rattle.edi_static.specs.Proper.{Proper, EntityFits};
-ghost use Rattle.edi_static.specs.Answers.{JudgedAnswers};
 ghost use Rattle.edi_static.specs.Answers as answers;
-ghost use Rattle.edi_static.specs.Views.{environment};
 ghost use Rattle.edi_static.specs.declared.faults.StaticFault.TheVariants as why;
 
-use crate::faults::{StaticFault, StaticKind};
+use crate::faults::{Judged, StaticFault, StaticKind};
 use crate::headings::Asked;
 use edi_scope::{Entity, ScopeFault, Scopes};
 use edi_tree::Name;
@@ -49,14 +44,14 @@ pub struct Known {
 }
 
 /// A fault of this kind at this line.
-pub fn fault<T>(kind: StaticKind, line: u16) -> Result<T, StaticFault>
+pub fn fault<T>(kind: StaticKind, line: u16) -> Judged<T>
     ensures exact { result ≡ Err (StaticFault.At kind line) }
 {
     Err(StaticFault::At { kind, line })
 }
 
 /// A rule: where it does not hold, there is a fault of this kind at this line.
-pub fn must(holds: bool, kind: StaticKind, line: u16) -> Result<(), StaticFault>
+pub fn must(holds: bool, kind: StaticKind, line: u16) -> Judged<()>
     ensures exact { JudgedAnswers (λ _. tt) result (judged.must holds kind line) }
 {
     if holds { Ok(()) } else { fault(kind, line) }
@@ -107,7 +102,7 @@ pub fn boxed(alloc: Global, value: Value) -> Result<Box<Value>, StaticFault>
 }
 
 /// An index as a number, if there is room for more numbers.
-pub fn number(index: usize) -> Result<u32, StaticFault>
+pub fn number(index: usize) -> Judged<u32>
     ensures exact { JudgedAnswers (λ n. n) result (gives index) }
 {
     if index < 0xFFFF_FFFF {
@@ -134,7 +129,7 @@ fn unknown(spelling: &[u8]) -> StaticKind
 
 impl Known {
     /// Opens a scope inside the innermost.
-    pub fn enter(&mut self, alloc: Global, is_module: bool) -> Result<(), StaticFault>
+    pub fn enter(&mut self, alloc: Global, is_module: bool) -> Judged<()>
         requires proper { Proper (environment self.old) }
         ensures exact { JudgedAnswers (λ _. environment self.new) result (gives (spec.enter is_module (environment self.old))) }
         ensures proper { OnOk result (Proper (environment self.new)) }
@@ -154,7 +149,7 @@ impl Known {
     }
 
     /// What a used name means. It must mean something.
-    pub fn look_up(&self, name: &Name) -> Result<Entity, StaticFault>
+    pub fn look_up(&self, name: &Name) -> Judged<Entity>
         ensures exact { JudgedAnswers (λ e. e) result (spec.look_up (environment self.now) name.now) }
         ensures known { Proper (environment self.now) → IfOk result (λ e. EntityFits (environment self.now) e) }
     {
@@ -165,7 +160,7 @@ impl Known {
     }
 
     /// A type is asked.
-    pub fn type_named(&self, name: &Name) -> Result<u32, StaticFault>
+    pub fn type_named(&self, name: &Name) -> Judged<u32>
         ensures exact { JudgedAnswers (λ t. t) result (spec.type_named (environment self.now) name.now) }
         ensures known { Proper (environment self.now) → IfOk result (λ t. t < length self.now.types) }
     {
@@ -176,17 +171,11 @@ impl Known {
     }
 
     /// Declares a name. It must be new in the innermost scope and, where it is exported, in the scope round that one.
-    pub fn declare(
-        &mut self,
-        alloc: Global,
-        export: bool,
-        name: &Name,
-        entity: Entity,
-    ) -> Result<(), StaticFault>
+    pub fn declare(&mut self, alloc: Global, export: bool, name: &Name, means: Entity) -> Judged<()>
         requires module { IsTrue export → IsTrue (in_module self.old.scopes) }
         requires proper { Proper (environment self.old) }
-        requires fits { EntityFits (environment self.old) entity }
-        ensures exact { JudgedAnswers (λ _. environment self.new) result (spec.declare export name.now entity (environment self.old)) }
+        requires fits { EntityFits (environment self.old) means }
+        ensures exact { JudgedAnswers (λ _. environment self.new) result (spec.declare export name.now means (environment self.old)) }
         ensures exporting { IsTrue export → IsTrue (in_module self.new.scopes) }
         ensures proper { OnOk result (Proper (environment self.new)) }
         ensures depth { length self.new.scopes ≡ length self.old.scopes }
@@ -195,7 +184,7 @@ impl Known {
     {
         let stated = self
             .scopes
-            .declare(alloc, name.text.as_slice(), entity, export);
+            .declare(alloc, name.text.as_slice(), means, export);
         fault_at(stated, name.line)
     }
 
@@ -206,42 +195,35 @@ impl Known {
         alloc: Global,
         export: bool,
         name: &Name,
-        entity: Entity,
-    ) -> Result<(), StaticFault>
+        means: Entity,
+    ) -> Judged<()>
         requires depth { 1 < length self.old.scopes }
         requires module { IsTrue export → IsTrue (in_module (outside self.old.scopes)) }
         requires proper { Proper (environment self.old) }
-        requires fits { EntityFits (environment self.old) entity }
-        ensures exact { JudgedAnswers (λ _. environment self.new) result (round (spec.declare export name.now entity) (environment self.old)) }
+        requires fits { EntityFits (environment self.old) means }
+        ensures exact { JudgedAnswers (λ _. environment self.new) result (round (spec.declare export name.now means) (environment self.old)) }
         ensures exporting { OnOk result (IsTrue export → IsTrue (in_module (outside self.new.scopes))) }
         ensures proper { OnOk result (Proper (environment self.new)) }
         ensures depth { OnOk result (length self.new.scopes ≡ length self.old.scopes) }
     {
         let stated = self
             .scopes
-            .declare_round(alloc, name.text.as_slice(), entity, export);
+            .declare_round(alloc, name.text.as_slice(), means, export);
         fault_at(stated, name.line)
     }
 
     /// Gives a name with what it means to the scope round the one round the innermost, which is that of a module. It must be new
     /// there.
-    pub fn give_outside_round(
-        &mut self,
-        alloc: Global,
-        name: &Name,
-        entity: Entity,
-    ) -> Result<(), StaticFault>
+    pub fn give_outside_round(&mut self, alloc: Global, name: &Name, means: Entity) -> Judged<()>
         requires module { IsTrue (in_module (outside self.old.scopes)) }
         requires proper { Proper (environment self.old) }
-        requires fits { EntityFits (environment self.old) entity }
-        ensures exact { JudgedAnswers (λ _. environment self.new) result (round (spec.give_outside name.now entity) (environment self.old)) }
+        requires fits { EntityFits (environment self.old) means }
+        ensures exact { JudgedAnswers (λ _. environment self.new) result (round (spec.give_outside name.now means) (environment self.old)) }
         ensures exporting { OnOk result (IsTrue (in_module (outside self.new.scopes))) }
         ensures proper { OnOk result (Proper (environment self.new)) }
         ensures depth { OnOk result (length self.new.scopes ≡ length self.old.scopes) }
     {
-        let stated = self
-            .scopes
-            .export_round(alloc, name.text.as_slice(), entity);
+        let stated = self.scopes.export_round(alloc, name.text.as_slice(), means);
         fault_at(stated, name.line)
     }
 
@@ -301,7 +283,7 @@ impl Known {
 }
 
 /// What an answer of the scopes is for a name on a line.
-fn fault_at(stated: Result<(), ScopeFault>, line: u16) -> Result<(), StaticFault>
+fn fault_at(stated: Result<(), ScopeFault>, line: u16) -> Judged<()>
     ensures exact { result ≡ answers.fault_at line stated }
 {
     match stated {

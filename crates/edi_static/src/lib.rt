@@ -18,7 +18,7 @@ mod types;
 mod variables;
 
 pub use constants::{Ordinal, const_list, constant};
-pub use faults::{StaticFault, StaticKind};
+pub use faults::{Judged, StaticFault, StaticKind};
 pub use fits::{
     Rooted, as_function, as_variable, character, element_type, empty_set, is_indexed_by, single,
     takes_parts, takes_strings, variable_argument,

@@ -2,15 +2,12 @@
 
 ghost use Rattle.std.specs.Prelude.{◌≡◌};
 ghost use Rattle.edi_unit.specs.Types.{is_set_shape};
-ghost use Rattle.edi_unit.specs.ShapeView.{shape_of};
 ghost use Rattle.edi_unit.specs.View.{expression_of, links_of};
 ghost use Rattle.edi_unit.specs.Tree as unit;
-ghost use Rattle.edi_static.specs.Judged.{gives};
+ghost use Rattle.edi_static.specs.Prelude.{JudgedAnswers, gives, linked_of, shape_of, typed_of};
 ghost use Rattle.edi_static.specs.Operators as spec;
-ghost use Rattle.edi_static.specs.Answers.{JudgedAnswers};
-ghost use Rattle.edi_static.specs.Views.{typed_of, linked_of};
 
-use crate::faults::{StaticFault, StaticKind};
+use crate::faults::{Judged, StaticKind};
 use crate::known::{Known, boxed, must};
 use edi_tree::{Addition, Multiplication, Relation, Sign};
 use edi_unit::{BOOL, INT, Link, Links, Operator, Shape, Value, operator_type};
@@ -30,39 +27,40 @@ pub struct Linked {
     pub of: u32,
 }
 
+/// The operator beside a symbol.
+macro_rules! beside {
+    ($symbol:expr, $of:ident: $($from:ident => $to:ident),*) => {
+        match $symbol {
+            $($of::$from => Operator::$to,)*
+        }
+    };
+}
+
 pub fn relation_operator(relation: Relation) -> Operator
     ensures exact { result ≡ spec.relation_operator relation }
 {
-    match relation {
-        Relation::Equal => Operator::Equal,
-        Relation::NotEqual => Operator::NotEqual,
-        Relation::Less => Operator::Less,
-        Relation::AtMost => Operator::LessOrEqual,
-        Relation::Greater => Operator::Greater,
-        Relation::AtLeast => Operator::GreaterOrEqual,
-        Relation::In => Operator::In,
-    }
+    beside!(
+        relation,
+        Relation: Equal => Equal,
+        NotEqual => NotEqual,
+        Less => Less,
+        AtMost => LessOrEqual,
+        Greater => Greater,
+        AtLeast => GreaterOrEqual,
+        In => In
+    )
 }
 
 pub fn addition_operator(addition: Addition) -> Operator
     ensures exact { result ≡ spec.addition_operator addition }
 {
-    match addition {
-        Addition::Plus => Operator::Plus,
-        Addition::Minus => Operator::Minus,
-        Addition::Or => Operator::Or,
-    }
+    beside!(addition, Addition: Plus => Plus, Minus => Minus, Or => Or)
 }
 
 pub fn multiplication_operator(multiplication: Multiplication) -> Operator
     ensures exact { result ≡ spec.multiplication_operator multiplication }
 {
-    match multiplication {
-        Multiplication::Star => Operator::Times,
-        Multiplication::Div => Operator::Div,
-        Multiplication::Mod => Operator::Mod,
-        Multiplication::And => Operator::And,
-    }
+    beside!(multiplication, Multiplication: Star => Times, Div => Div, Mod => Mod, And => And)
 }
 
 /// Whether a type is that of sets of a type.
@@ -104,7 +102,7 @@ fn takes(known: &Known, operator: Operator, left: u32, right: u32) -> bool
 }
 
 /// A sign takes `int`; a leading `+` leaves nothing in the resolved program.
-pub fn signed(alloc: Global, sign: Option<Sign>, value: Typed) -> Result<Typed, StaticFault>
+pub fn signed(alloc: Global, sign: Option<Sign>, value: Typed) -> Judged<Typed>
     ensures exact { JudgedAnswers typed_of result (spec.signed sign (typed_of value)) }
 {
     match sign {
@@ -128,7 +126,7 @@ pub fn operated(
     line: u16,
     left: u32,
     right: Typed,
-) -> Result<Linked, StaticFault>
+) -> Judged<Linked>
     ensures exact { JudgedAnswers linked_of result (spec.operated known.now.types operator line left (typed_of right)) }
 {
     let holds = takes(known, operator, left, right.of);
@@ -145,7 +143,7 @@ pub fn operated(
 }
 
 /// A chain of at least one operator.
-fn chain(alloc: Global, first: Value, links: Links, of: u32) -> Result<Typed, StaticFault>
+fn chain(alloc: Global, first: Value, links: Links, of: u32) -> Judged<Typed>
     ensures exact { JudgedAnswers typed_of result (gives (record { what = unit.chain (expression_of first) (links_of links); of = of })) }
 {
     let what = Value::Chain(boxed(alloc, first)?, links);
@@ -154,7 +152,7 @@ fn chain(alloc: Global, first: Value, links: Links, of: u32) -> Result<Typed, St
 
 /// A part without an operator is no chain.
 #[tactic(auto, using(crate::proofs::Lengths::no_chain, crate::proofs::Lengths::a_chain))]
-pub fn with_links(alloc: Global, first: Value, links: Links, of: u32) -> Result<Typed, StaticFault>
+pub fn with_links(alloc: Global, first: Value, links: Links, of: u32) -> Judged<Typed>
     ensures exact { JudgedAnswers typed_of result (gives (record { what = spec.chain_of (expression_of first) (links_of links); of = of })) }
 {
     if links.is_empty() {

@@ -4,15 +4,11 @@ ghost use Rattle.std.specs.Prelude.{◌≡◌, ◌<◌, suc, OnOk, length, map};
 ghost use Rattle.edi_scope.specs.Scope.{outside};
 ghost use Rattle.edi_tree.specs.Tree as text;
 ghost use Rattle.edi_tree.specs.View.{group_of, heading_of, more_params, param_of, params_of};
-ghost use Rattle.edi_unit.specs.Lists.{list_items};
-ghost use Rattle.edi_static.specs.Answers.{JudgedAnswers};
+ghost use Rattle.edi_static.specs.Prelude.{JudgedAnswers, Proper, asked_of, environment, formal_of, gives, headed_of, list_items, listed_of};
 ghost use Rattle.edi_static.specs.Headings as spec;
-ghost use Rattle.edi_static.specs.Judged.{gives};
-ghost use Rattle.edi_static.specs.Proper.{Proper};
-ghost use Rattle.edi_static.specs.Views.{environment, asked_of, formal_of, headed_of, listed_of};
 ghost use Rattle.edi_static.specs.Views as view;
 
-use crate::faults::StaticFault;
+use crate::faults::Judged;
 use crate::headings::{Asked, Formal, heading_with, plain_formal, procedure_formal, push_formal};
 use crate::known::{Known, number};
 use edi_scope::Entity;
@@ -41,7 +37,7 @@ fn owner_of(block: u32, heading: &Heading) -> Owner
 
 /// The number of the next parameter.
 #[tactic(auto, using(crate::proofs::Askings::parameters_counted))]
-fn next_parameter(owner: Owner, formals: &List<Formal>) -> Result<u32, StaticFault>
+fn next_parameter(owner: Owner, formals: &List<Formal>) -> Judged<u32>
     ensures exact { JudgedAnswers (λ n. n) result
         (gives (spec.next_parameter owner.block owner.before (view.formals (map formal_of (list_items formals.now))))) }
 {
@@ -57,7 +53,7 @@ fn parameter_named(
     name: &Name,
     of: u32,
     by_variable: bool,
-) -> Result<(), StaticFault>
+) -> Judged<()>
     requires proper { Proper (environment known.old) }
     requires fits { of < length known.old.types }
     ensures exact { JudgedAnswers (λ _. listed_of known.new formals.new) result
@@ -85,7 +81,7 @@ fn parameter_group(
     formals: &mut List<Formal>,
     group: &Group,
     by_variable: bool,
-) -> Result<(), StaticFault>
+) -> Judged<()>
     requires proper { Proper (environment known.old) }
     ensures exact { JudgedAnswers (λ _. listed_of known.new formals.new) result
         (spec.param_group owner.block owner.before by_variable (group_of group.now) (listed_of known.old formals.old)) }
@@ -109,7 +105,7 @@ fn procedure_parameter(
     formals: &mut List<Formal>,
     name: &Name,
     asked: Asked,
-) -> Result<(), StaticFault>
+) -> Judged<()>
     requires depth { 1 < length known.old.scopes }
     requires proper { Proper (environment known.old) }
     ensures exact { JudgedAnswers (λ _. listed_of known.new formals.new) result
@@ -131,7 +127,7 @@ fn procedure_parameter(
 }
 
 /// The type of the result, whose name is looked up from inside the heading's scope.
-fn result_named(known: &Known, of: &Option<Name>) -> Result<Option<u32>, StaticFault>
+fn result_named(known: &Known, of: &Option<Name>) -> Judged<Option<u32>>
     ensures exact { JudgedAnswers (λ t. t) result (spec.result_named of.now (environment known.now)) }
 {
     match of {
@@ -146,7 +142,7 @@ pub fn heading_parts(
     alloc: Global,
     block: u32,
     heading: &Heading,
-) -> Result<Asked, StaticFault>
+) -> Judged<Asked>
     requires proper { Proper (environment known.old) }
     ensures exact { JudgedAnswers (headed_of known.new) result (spec.heading_parts block (heading_of heading.now) (environment known.old)) }
     ensures scope { OnOk result (outside known.new.scopes ≡ known.old.scopes) }
@@ -157,12 +153,7 @@ pub fn heading_parts(
 }
 
 #[cycle(headings)]
-fn parts_of(
-    heading: &Heading,
-    known: &mut Known,
-    alloc: Global,
-    block: u32,
-) -> Result<Asked, StaticFault>
+fn parts_of(heading: &Heading, known: &mut Known, alloc: Global, block: u32) -> Judged<Asked>
     requires proper { Proper (environment known.old) }
     ensures exact { JudgedAnswers (headed_of known.new) result (spec.heading_parts block (heading_of heading.now) (environment known.old)) }
     ensures scope { OnOk result (outside known.new.scopes ≡ known.old.scopes) }
@@ -185,7 +176,7 @@ fn parameters(
     alloc: Global,
     owner: Owner,
     formals: &mut List<Formal>,
-) -> Result<(), StaticFault>
+) -> Judged<()>
     requires inside { 0 < length known.old.scopes }
     requires proper { Proper (environment known.old) }
     ensures exact { JudgedAnswers (λ _. listed_of known.new formals.new) result
@@ -207,7 +198,7 @@ fn parameter(
     alloc: Global,
     owner: Owner,
     formals: &mut List<Formal>,
-) -> Result<(), StaticFault>
+) -> Judged<()>
     requires inside { 0 < length known.old.scopes }
     requires proper { Proper (environment known.old) }
     ensures exact { JudgedAnswers (λ _. listed_of known.new formals.new) result

@@ -2,13 +2,11 @@
 
 ghost use Rattle.std.specs.Prelude.{◌≡◌, map, slice_index_or, [], unwrap_or};
 ghost use Rattle.edi_unit.specs.Types as types;
-ghost use Rattle.edi_unit.specs.ShapeView.{shape_of};
-ghost use Rattle.edi_static.specs.Answers.{JudgedAnswers};
+ghost use Rattle.edi_static.specs.Prelude.{JudgedAnswers, environment, parted_of, shape_of, typed_of};
 ghost use Rattle.edi_static.specs.Expressions as rule;
 ghost use Rattle.edi_static.specs.Fitting as spec;
-ghost use Rattle.edi_static.specs.Views.{environment, parted_of, typed_of};
 
-use crate::faults::{StaticFault, StaticKind};
+use crate::faults::{Judged, StaticKind};
 use crate::fits::{element_type, is_indexed_by};
 use crate::known::{Known, boxed, fault, must, number};
 use crate::operands::Typed;
@@ -71,12 +69,7 @@ fn is_record(shape: &Shape) -> bool
 }
 
 /// The field of a record by its index, if the record has it.
-fn field_at(
-    known: &Known,
-    of: u32,
-    name: &Name,
-    index: Option<usize>,
-) -> Result<Parted, StaticFault>
+fn field_at(known: &Known, of: u32, name: &Name, index: Option<usize>) -> Judged<Parted>
     ensures exact { JudgedAnswers parted_of result (rule.field_at (environment known.now) of name.now index) }
 {
     match index {
@@ -89,7 +82,7 @@ fn field_at(
 }
 
 /// The field of a record.
-pub fn field_of(known: &Known, line: u16, of: u32, name: &Name) -> Result<Parted, StaticFault>
+pub fn field_of(known: &Known, line: u16, of: u32, name: &Name) -> Judged<Parted>
     ensures exact { JudgedAnswers parted_of result (rule.field_of (environment known.now) line of name.now) }
 {
     must(is_record(known.shape(of)), StaticKind::Types, line)?;
@@ -102,13 +95,7 @@ pub fn field_of(known: &Known, line: u16, of: u32, name: &Name) -> Result<Parted
 }
 
 /// The element of an array.
-pub fn element_of(
-    known: &Known,
-    alloc: Global,
-    line: u16,
-    of: u32,
-    index: Typed,
-) -> Result<Parted, StaticFault>
+pub fn element_of(known: &Known, alloc: Global, line: u16, of: u32, index: Typed) -> Judged<Parted>
     ensures exact { JudgedAnswers parted_of result (rule.element_of (environment known.now) line of (typed_of index)) }
 {
     let holds = is_indexed_by(known.shape(of), index.of);

@@ -3,15 +3,12 @@
 ghost use Rattle.std.specs.Prelude.{◌≡◌, ◌<◌, ◌∷◌, ◌++◌, not, [], All, Err, IfOk, OnErr, OnOk, length};
 ghost use Rattle.edi_tree.specs.Tree as text;
 ghost use Rattle.edi_tree.specs.View.{group_of, groups_of};
-ghost use Rattle.edi_unit.specs.Lists.{list_items};
-ghost use Rattle.edi_static.specs.Answers.{JudgedAnswers};
-ghost use Rattle.edi_static.specs.Proper.{Proper};
+ghost use Rattle.edi_static.specs.Prelude.{JudgedAnswers, Proper, environment, list_items};
 ghost use Rattle.edi_static.specs.Spelled.{AreSpelled, HasJoined, has_spelling};
 ghost use Rattle.edi_static.specs.Types as spec;
-ghost use Rattle.edi_static.specs.Views.{environment};
 ghost use Rattle.edi_static.specs.Views as view;
 
-use crate::faults::{StaticFault, StaticKind};
+use crate::faults::{Judged, StaticFault, StaticKind};
 use crate::known::{Known, add, fault, put};
 use edi_tree::{Group, Name, Record};
 use edi_unit::{List, Numbers};
@@ -54,7 +51,7 @@ fn put_spelling(
 
 impl Fields {
     /// A field's name must be new in its record.
-    fn add(&mut self, alloc: Global, name: &Name, of: u32) -> Result<(), StaticFault>
+    fn add(&mut self, alloc: Global, name: &Name, of: u32) -> Judged<()>
         requires spelled { AreSpelled self.old }
         ensures exact { JudgedAnswers (λ _. view.fields_of self.new) result (spec.field_named of name.now (view.fields_of self.old)) }
         ensures types { OnOk result (list_items self.new.types ≡ list_items self.old.types ++ of ∷ []) }
@@ -69,7 +66,7 @@ impl Fields {
     }
 
     /// In a group the type is judged first, then the names in their order.
-    fn add_group(&mut self, known: &Known, alloc: Global, group: &Group) -> Result<(), StaticFault>
+    fn add_group(&mut self, known: &Known, alloc: Global, group: &Group) -> Judged<()>
         requires proper { Proper (environment known.now) }
         requires known { All (λ t. t < length known.now.types) (list_items self.old.types) }
         requires spelled { AreSpelled self.old }
@@ -88,11 +85,7 @@ impl Fields {
 }
 
 /// The fields of a record, group by group.
-pub(crate) fn fields_of(
-    known: &Known,
-    alloc: Global,
-    declared: &Record,
-) -> Result<Fields, StaticFault>
+pub(crate) fn fields_of(known: &Known, alloc: Global, declared: &Record) -> Judged<Fields>
     requires proper { Proper (environment known.now) }
     ensures exact { JudgedAnswers view.fields_of result
         (spec.fields_of_groups (environment known.now) (text.next_group (group_of declared.now.first) (groups_of declared.now.more)) spec.no_fields) }

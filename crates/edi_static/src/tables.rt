@@ -1,20 +1,13 @@
 //! The types, blocks and variables that are known at a place.
 
 ghost use Rattle.std.specs.Prelude.{◌≡◌, ◌+◌, ◌<◌, ◌++◌, ◌∷◌, [], map, length, vec_len, slice_set, option_to_list, OnOk, IfOk};
-ghost use Rattle.edi_unit.specs.Lists.{list_items};
 ghost use Rattle.edi_unit.specs.Types.{IsDeclarable};
-ghost use Rattle.edi_unit.specs.ShapeView.{shape_of};
 ghost use Rattle.edi_unit.specs.Need.{block_at};
-ghost use Rattle.edi_unit.specs.View.{block_of};
-ghost use Rattle.edi_unit.specs.Fits.{heading_result};
-ghost use Rattle.edi_static.specs.Judged.{gives};
+ghost use Rattle.edi_static.specs.Prelude.{JudgedAnswers, Proper, asked_of, block_of, environment, gives, heading_result, list_items, shape_of};
 ghost use Rattle.edi_static.specs.Environment as spec;
 ghost use Rattle.edi_static.specs.Declarations.{with_heading};
-ghost use Rattle.edi_static.specs.Proper.{Proper};
-ghost use Rattle.edi_static.specs.Answers.{JudgedAnswers};
-ghost use Rattle.edi_static.specs.Views.{environment, asked_of};
 
-use crate::faults::StaticFault;
+use crate::faults::{Judged, StaticFault};
 use crate::headings::{Asked, asked_result, copy_asked, kept_parameters};
 use crate::known::{Known, add, number, put};
 use edi_scope::Scopes;
@@ -43,12 +36,7 @@ fn result_count(of: Option<u32>) -> usize
 }
 
 /// One more declared variable of this block.
-fn add_variable_to(
-    blocks: &mut Vec<Block>,
-    alloc: Global,
-    at: usize,
-    of: u32,
-) -> Result<(), StaticFault>
+fn add_variable_to(blocks: &mut Vec<Block>, alloc: Global, at: usize, of: u32) -> Judged<()>
     requires inside { at < vec_len blocks.old }
     ensures exact { JudgedAnswers (λ _. map block_of blocks.new.items) result
         (gives (slice_set (map block_of blocks.old.items) at (spec.with_variable of (block_at (map block_of blocks.old.items) at)))) }
@@ -80,12 +68,7 @@ impl Known {
     }
 
     /// Puts a type behind the others.
-    pub fn push_type(
-        &mut self,
-        alloc: Global,
-        shape: Shape,
-        names: Vec<Vec<u8>>,
-    ) -> Result<(), StaticFault>
+    pub fn push_type(&mut self, alloc: Global, shape: Shape, names: Vec<Vec<u8>>) -> Judged<()>
         requires declarable { IsDeclarable self.old.types (shape_of shape) }
         requires proper { Proper (environment self.old) }
         ensures exact { JudgedAnswers (λ _. environment self.new) result
@@ -102,7 +85,7 @@ impl Known {
     }
 
     /// The number of the next variable of the block in which this place stands.
-    pub fn next_variable(&self) -> Result<u32, StaticFault>
+    pub fn next_variable(&self) -> Judged<u32>
         ensures exact { JudgedAnswers (λ n. n) result (gives (spec.next_variable (environment self.now))) }
     {
         match self.blocks.get(self.here() as usize) {
@@ -115,7 +98,7 @@ impl Known {
     }
 
     /// One more declared variable of the block in which this place stands.
-    pub fn add_variable(&mut self, alloc: Global, of: u32) -> Result<(), StaticFault>
+    pub fn add_variable(&mut self, alloc: Global, of: u32) -> Judged<()>
         requires proper { Proper (environment self.old) }
         ensures exact { JudgedAnswers (λ _. environment self.new) result (gives (spec.set_block (spec.here (environment self.old))
             (spec.with_variable of (block_at (environment self.old).blocks (spec.here (environment self.old)))) (environment self.old))) }
@@ -138,7 +121,7 @@ impl Known {
         kind: BlockKind,
         parameters: Parameters,
         asked: Asked,
-    ) -> Result<(), StaticFault>
+    ) -> Judged<()>
         requires proper { Proper (environment self.old) }
         ensures exact { JudgedAnswers (λ _. environment self.new) result (gives (spec.with_block
             (spec.begun_block kind (spec.here (environment self.old)) (heading_result (asked_of asked)) (list_items parameters))
@@ -159,7 +142,7 @@ impl Known {
     }
 
     /// Keeps the heading of a procedure parameter.
-    pub fn keep_shape(&mut self, alloc: Global, asked: &Asked) -> Result<(), StaticFault>
+    pub fn keep_shape(&mut self, alloc: Global, asked: &Asked) -> Judged<()>
         requires proper { Proper (environment self.old) }
         ensures exact { JudgedAnswers (λ _. environment self.new) result (gives (spec.with_shape (asked_of asked.now) (environment self.old))) }
         ensures proper { OnOk result (Proper (environment self.new)) }
@@ -171,12 +154,7 @@ impl Known {
     }
 
     /// The block of a heading whose scope is the innermost.
-    pub fn begin_block(
-        &mut self,
-        alloc: Global,
-        kind: BlockKind,
-        asked: Asked,
-    ) -> Result<(), StaticFault>
+    pub fn begin_block(&mut self, alloc: Global, kind: BlockKind, asked: Asked) -> Judged<()>
         requires proper { Proper (environment self.old) }
         ensures exact { JudgedAnswers (λ _. environment self.new) result
             (gives (with_heading kind (record { env = environment self.old; asks = asked_of asked }))) }

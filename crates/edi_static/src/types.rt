@@ -1,19 +1,15 @@
 //! The rules on types.
 
 ghost use Rattle.std.specs.Prelude.{◌≡◌, ◌<◌, All, IsTrue, OnOk, length, map};
-ghost use Rattle.edi_scope.specs.Scope.{in_module};
 ghost use Rattle.edi_tree.specs.Sequences.{items_of};
 ghost use Rattle.edi_tree.specs.Tree as text;
 ghost use Rattle.edi_tree.specs.View.{names, group_of, groups_of, type_decl_of};
-ghost use Rattle.edi_unit.specs.ShapeView.{shape_of};
 ghost use Rattle.edi_unit.specs.Types.{is_elementary, named_types, ordinal_types, HasOrderedBounds};
-ghost use Rattle.edi_static.specs.Answers.{JudgedAnswers};
-ghost use Rattle.edi_static.specs.Proper.{Proper};
+ghost use Rattle.edi_static.specs.Prelude.{Declares, JudgedAnswers, MayDeclare, environment, shape_of};
 ghost use Rattle.edi_static.specs.Types as spec;
-ghost use Rattle.edi_static.specs.Views.{environment};
 
 use crate::constants::constant;
-use crate::faults::{StaticFault, StaticKind};
+use crate::faults::{Judged, StaticKind};
 use crate::known::{Known, fault, number};
 use crate::records::fields_of;
 use edi_scope::Entity;
@@ -32,14 +28,11 @@ fn enum_constant(
     of: u32,
     ordinal: usize,
     name: &Name,
-) -> Result<(), StaticFault>
-    requires exporting { IsTrue export → IsTrue (in_module known.old.scopes) }
-    requires proper { Proper (environment known.old) }
+) -> Judged<()>
+    requires may { MayDeclare export (environment known.old) }
     requires fits { (of < length known.old.types) × IsTrue (is_elementary known.old.types of) }
     ensures exact { JudgedAnswers (λ _. environment known.new) result (spec.enum_constant export of ordinal name.now (environment known.old)) }
-    ensures exporting { IsTrue export → IsTrue (in_module known.new.scopes) }
-    ensures proper { OnOk result (Proper (environment known.new)) }
-    ensures depth { length known.new.scopes ≡ length known.old.scopes }
+    ensures declares { Declares export result (environment known.old) (environment known.new) }
     ensures types { OnOk result (known.new.types ≡ known.old.types) }
 {
     if ordinal < MOST_CONSTANTS {
@@ -57,15 +50,12 @@ fn enum_constants(
     export: bool,
     of: u32,
     declared: &Enum,
-) -> Result<(), StaticFault>
-    requires exporting { IsTrue export → IsTrue (in_module known.old.scopes) }
-    requires proper { Proper (environment known.old) }
+) -> Judged<()>
+    requires may { MayDeclare export (environment known.old) }
     requires fits { (of < length known.old.types) × IsTrue (is_elementary known.old.types of) }
     ensures exact { JudgedAnswers (λ _. environment known.new) result
         (spec.enum_constants export of 0 (text.next_name declared.now.first (names (items_of declared.now.more))) (environment known.old)) }
-    ensures exporting { IsTrue export → IsTrue (in_module known.new.scopes) }
-    ensures proper { OnOk result (Proper (environment known.new)) }
-    ensures depth { length known.new.scopes ≡ length known.old.scopes }
+    ensures declares { Declares export result (environment known.old) (environment known.new) }
 {
     enum_constant(known, alloc, export, of, 0, &declared.first)?;
     let mut ordinal = 1;
@@ -77,19 +67,11 @@ fn enum_constants(
 }
 
 /// The type is put behind the others, and its name is declared before its constants.
-fn enum_decl(
-    known: &mut Known,
-    alloc: Global,
-    export: bool,
-    declared: &Enum,
-) -> Result<(), StaticFault>
-    requires exporting { IsTrue export → IsTrue (in_module known.old.scopes) }
-    requires proper { Proper (environment known.old) }
+fn enum_decl(known: &mut Known, alloc: Global, export: bool, declared: &Enum) -> Judged<()>
+    requires may { MayDeclare export (environment known.old) }
     ensures exact { JudgedAnswers (λ _. environment known.new) result
         (spec.enum_decl export declared.now.name (text.next_name declared.now.first (names (items_of declared.now.more))) (environment known.old)) }
-    ensures exporting { IsTrue export → IsTrue (in_module known.new.scopes) }
-    ensures proper { OnOk result (Proper (environment known.new)) }
-    ensures depth { length known.new.scopes ≡ length known.old.scopes }
+    ensures declares { Declares export result (environment known.old) (environment known.new) }
 {
     let of = known.types.len();
     let constants = number(declared.more.len() + 1)?;
@@ -106,17 +88,14 @@ fn declare_type(
     name: &Name,
     shape: Shape,
     fields: Vec<Vec<u8>>,
-) -> Result<(), StaticFault>
-    requires exporting { IsTrue export → IsTrue (in_module known.old.scopes) }
-    requires proper { Proper (environment known.old) }
+) -> Judged<()>
+    requires may { MayDeclare export (environment known.old) }
     requires named { All (λ t. t < length known.old.types) (named_types (shape_of shape)) }
     requires elementary { All (λ t. IsTrue (is_elementary known.old.types t)) (ordinal_types (shape_of shape)) }
     requires ordered { HasOrderedBounds (shape_of shape) }
     ensures exact { JudgedAnswers (λ _. environment known.new) result
         (spec.declare_type export name.now (shape_of shape) (map (λ field. field.items) fields.items) (environment known.old)) }
-    ensures exporting { IsTrue export → IsTrue (in_module known.new.scopes) }
-    ensures proper { OnOk result (Proper (environment known.new)) }
-    ensures depth { length known.new.scopes ≡ length known.old.scopes }
+    ensures declares { Declares export result (environment known.old) (environment known.new) }
 {
     if !known.types.is_declarable(&shape) {
         return fault(StaticKind::Range, name.line);
@@ -126,19 +105,11 @@ fn declare_type(
     known.declare(alloc, export, name, Entity::Types(of))
 }
 
-fn record_decl(
-    known: &mut Known,
-    alloc: Global,
-    export: bool,
-    declared: &Record,
-) -> Result<(), StaticFault>
-    requires exporting { IsTrue export → IsTrue (in_module known.old.scopes) }
-    requires proper { Proper (environment known.old) }
+fn record_decl(known: &mut Known, alloc: Global, export: bool, declared: &Record) -> Judged<()>
+    requires may { MayDeclare export (environment known.old) }
     ensures exact { JudgedAnswers (λ _. environment known.new) result
         (spec.type_decl export (text.record_decl declared.now.name (group_of declared.now.first) (groups_of declared.now.more)) (environment known.old)) }
-    ensures exporting { IsTrue export → IsTrue (in_module known.new.scopes) }
-    ensures proper { OnOk result (Proper (environment known.new)) }
-    ensures depth { length known.new.scopes ≡ length known.old.scopes }
+    ensures declares { Declares export result (environment known.old) (environment known.new) }
 {
     let fields = fields_of(known, alloc, declared)?;
     let shape = Shape::Record(fields.types);
@@ -146,19 +117,11 @@ fn record_decl(
 }
 
 /// The bounds are of one elementary type, and the lower one is not above the upper one.
-fn array_decl(
-    known: &mut Known,
-    alloc: Global,
-    export: bool,
-    declared: &Array,
-) -> Result<(), StaticFault>
-    requires exporting { IsTrue export → IsTrue (in_module known.old.scopes) }
-    requires proper { Proper (environment known.old) }
+fn array_decl(known: &mut Known, alloc: Global, export: bool, declared: &Array) -> Judged<()>
+    requires may { MayDeclare export (environment known.old) }
     ensures exact { JudgedAnswers (λ _. environment known.new) result
         (spec.array_decl export declared.now.name declared.now.lower declared.now.upper declared.now.element (environment known.old)) }
-    ensures exporting { IsTrue export → IsTrue (in_module known.new.scopes) }
-    ensures proper { OnOk result (Proper (environment known.new)) }
-    ensures depth { length known.new.scopes ≡ length known.old.scopes }
+    ensures declares { Declares export result (environment known.old) (environment known.new) }
 {
     let lower = constant(known, &declared.lower)?;
     let upper = constant(known, &declared.upper)?;
@@ -179,18 +142,10 @@ fn array_decl(
 }
 
 /// The base is elementary.
-fn set_decl(
-    known: &mut Known,
-    alloc: Global,
-    export: bool,
-    declared: &Set,
-) -> Result<(), StaticFault>
-    requires exporting { IsTrue export → IsTrue (in_module known.old.scopes) }
-    requires proper { Proper (environment known.old) }
+fn set_decl(known: &mut Known, alloc: Global, export: bool, declared: &Set) -> Judged<()>
+    requires may { MayDeclare export (environment known.old) }
     ensures exact { JudgedAnswers (λ _. environment known.new) result (spec.set_decl export declared.now.name declared.now.base (environment known.old)) }
-    ensures exporting { IsTrue export → IsTrue (in_module known.new.scopes) }
-    ensures proper { OnOk result (Proper (environment known.new)) }
-    ensures depth { length known.new.scopes ≡ length known.old.scopes }
+    ensures declares { Declares export result (environment known.old) (environment known.new) }
 {
     let base = known.type_named(&declared.base)?;
     if !known.is_elementary(base) {
@@ -207,18 +162,10 @@ fn set_decl(
 }
 
 /// A declaration of a type.
-pub fn type_decl(
-    known: &mut Known,
-    alloc: Global,
-    export: bool,
-    declared: &TypeDecl,
-) -> Result<(), StaticFault>
-    requires exporting { IsTrue export → IsTrue (in_module known.old.scopes) }
-    requires proper { Proper (environment known.old) }
+pub fn type_decl(known: &mut Known, alloc: Global, export: bool, declared: &TypeDecl) -> Judged<()>
+    requires may { MayDeclare export (environment known.old) }
     ensures exact { JudgedAnswers (λ _. environment known.new) result (spec.type_decl export (type_decl_of declared.now) (environment known.old)) }
-    ensures exporting { IsTrue export → IsTrue (in_module known.new.scopes) }
-    ensures proper { OnOk result (Proper (environment known.new)) }
-    ensures depth { length known.new.scopes ≡ length known.old.scopes }
+    ensures declares { Declares export result (environment known.old) (environment known.new) }
 {
     match declared {
         TypeDecl::Enum(declared) => enum_decl(known, alloc, export, declared),

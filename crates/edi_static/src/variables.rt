@@ -1,34 +1,22 @@
 //! The rules on variables.
 
-ghost use Rattle.std.specs.Prelude.{◌≡◌, ◌<◌, IsTrue, OnOk, length};
-ghost use Rattle.edi_scope.specs.Scope.{in_module};
+ghost use Rattle.std.specs.Prelude.{◌≡◌, ◌<◌, OnOk, length};
 ghost use Rattle.edi_tree.specs.View.{group_of, var_list_of};
-ghost use Rattle.edi_static.specs.Answers.{JudgedAnswers};
-ghost use Rattle.edi_static.specs.Proper.{Proper};
+ghost use Rattle.edi_static.specs.Prelude.{Declares, JudgedAnswers, MayDeclare, environment};
 ghost use Rattle.edi_static.specs.Types as spec;
-ghost use Rattle.edi_static.specs.Views.{environment};
 
-use crate::faults::StaticFault;
+use crate::faults::Judged;
 use crate::known::Known;
 use edi_scope::Entity;
 use edi_tree::{Group, Name, VarList};
 use std::alloc::Global;
 
 /// A declared variable belongs to the block in which it stands, also in a module.
-fn variable_decl(
-    known: &mut Known,
-    alloc: Global,
-    export: bool,
-    of: u32,
-    name: &Name,
-) -> Result<(), StaticFault>
-    requires exporting { IsTrue export → IsTrue (in_module known.old.scopes) }
-    requires proper { Proper (environment known.old) }
+fn variable_decl(known: &mut Known, alloc: Global, export: bool, of: u32, name: &Name) -> Judged<()>
+    requires may { MayDeclare export (environment known.old) }
     requires fits { of < length known.old.types }
     ensures exact { JudgedAnswers (λ _. environment known.new) result (spec.variable_decl export of name.now (environment known.old)) }
-    ensures exporting { IsTrue export → IsTrue (in_module known.new.scopes) }
-    ensures proper { OnOk result (Proper (environment known.new)) }
-    ensures depth { length known.new.scopes ≡ length known.old.scopes }
+    ensures declares { Declares export result (environment known.old) (environment known.new) }
     ensures types { OnOk result (known.new.types ≡ known.old.types) }
 {
     let entity = Entity::Variable {
@@ -41,18 +29,10 @@ fn variable_decl(
 }
 
 /// In a group the type is judged first, then the names in their order.
-fn variable_group(
-    known: &mut Known,
-    alloc: Global,
-    export: bool,
-    group: &Group,
-) -> Result<(), StaticFault>
-    requires exporting { IsTrue export → IsTrue (in_module known.old.scopes) }
-    requires proper { Proper (environment known.old) }
+fn variable_group(known: &mut Known, alloc: Global, export: bool, group: &Group) -> Judged<()>
+    requires may { MayDeclare export (environment known.old) }
     ensures exact { JudgedAnswers (λ _. environment known.new) result (spec.variables_of_group export (group_of group.now) (environment known.old)) }
-    ensures exporting { IsTrue export → IsTrue (in_module known.new.scopes) }
-    ensures proper { OnOk result (Proper (environment known.new)) }
-    ensures depth { length known.new.scopes ≡ length known.old.scopes }
+    ensures declares { Declares export result (environment known.old) (environment known.new) }
 {
     let of = known.type_named(&group.type_name)?;
     variable_decl(known, alloc, export, of, &group.first)?;
@@ -63,18 +43,10 @@ fn variable_group(
 }
 
 /// A declaration of variables.
-pub fn var_list(
-    known: &mut Known,
-    alloc: Global,
-    export: bool,
-    list: &VarList,
-) -> Result<(), StaticFault>
-    requires exporting { IsTrue export → IsTrue (in_module known.old.scopes) }
-    requires proper { Proper (environment known.old) }
+pub fn var_list(known: &mut Known, alloc: Global, export: bool, list: &VarList) -> Judged<()>
+    requires may { MayDeclare export (environment known.old) }
     ensures exact { JudgedAnswers (λ _. environment known.new) result (spec.var_list export (var_list_of list.now) (environment known.old)) }
-    ensures exporting { IsTrue export → IsTrue (in_module known.new.scopes) }
-    ensures proper { OnOk result (Proper (environment known.new)) }
-    ensures depth { length known.new.scopes ≡ length known.old.scopes }
+    ensures declares { Declares export result (environment known.old) (environment known.new) }
 {
     variable_group(known, alloc, export, &list.first)?;
     for group in list.more.items() {

@@ -4,20 +4,16 @@ ghost use Rattle.std.specs.Prelude.{◌≡◌, ◌++◌, map};
 ghost use Rattle.edi_unit.specs.Tree as unit;
 ghost use Rattle.edi_unit.specs.Types.{shape_at};
 ghost use Rattle.edi_unit.specs.View.{expression_of, expressions_of};
-ghost use Rattle.edi_static.specs.Answers.{JudgedAnswers};
+ghost use Rattle.edi_static.specs.Prelude.{JudgedAnswers, environment, gives, typed_of};
 ghost use Rattle.edi_static.specs.Fitting as spec;
-ghost use Rattle.edi_static.specs.Judged.{gives};
-ghost use Rattle.edi_static.specs.Views.{environment, typed_of};
 
-use edi_static::{
-    Known, StaticFault, StaticKind, Typed, add, boxed, character, must, put, takes_parts,
-};
+use edi_static::{Judged, Known, StaticKind, Typed, add, boxed, character, must, put, takes_parts};
 use edi_unit::{List, Value, Values};
 use std::alloc::Global;
 
 /// The values of these parts.
 #[tactic(auto, using(crate::proofs::Making::values_are))]
-fn values_of(alloc: Global, parts: Vec<Typed>) -> Result<Values, StaticFault>
+fn values_of(alloc: Global, parts: Vec<Typed>) -> Judged<Values>
     ensures exact { JudgedAnswers expressions_of result (gives (spec.expressions_of (map typed_of parts.items))) }
 {
     let mut values = List::new(alloc);
@@ -39,7 +35,7 @@ fn make(of: u32, values: Values, line: u16) -> Value
 }
 
 /// An elementary value of another type.
-fn convert(alloc: Global, of: u32, value: Value, line: u16) -> Result<Value, StaticFault>
+fn convert(alloc: Global, of: u32, value: Value, line: u16) -> Judged<Value>
     ensures exact { JudgedAnswers expression_of result (gives (unit.convert of (expression_of value) line)) }
 {
     Ok(Value::Convert {
@@ -50,13 +46,7 @@ fn convert(alloc: Global, of: u32, value: Value, line: u16) -> Result<Value, Sta
 }
 
 /// An elementary type converts its one argument.
-fn made(
-    alloc: Global,
-    elementary: bool,
-    of: u32,
-    mut parts: Vec<Typed>,
-    line: u16,
-) -> Result<Value, StaticFault>
+fn made(alloc: Global, elementary: bool, of: u32, mut parts: Vec<Typed>, line: u16) -> Judged<Value>
     ensures exact { JudgedAnswers expression_of result (gives (spec.made elementary of (map typed_of parts.items) line)) }
 {
     if elementary && parts.len() == 1 {
@@ -82,7 +72,7 @@ pub(crate) fn constructed(
     line: u16,
     of: u32,
     parts: Vec<Typed>,
-) -> Result<Typed, StaticFault>
+) -> Judged<Typed>
     ensures exact { JudgedAnswers typed_of result (spec.constructed (environment known.now) line of (map typed_of parts.items)) }
 {
     let fit = fits(known, of, parts.as_slice());
@@ -92,7 +82,7 @@ pub(crate) fn constructed(
 }
 
 /// A string that a constructor takes stands for its characters.
-pub(crate) fn add_characters(characters: &[u8], parts: &mut Vec<Typed>) -> Result<(), StaticFault>
+pub(crate) fn add_characters(characters: &[u8], parts: &mut Vec<Typed>) -> Judged<()>
     ensures exact { JudgedAnswers (λ _. map typed_of parts.new.items) result (gives (map typed_of parts.old.items ++ map spec.character characters.now)) }
 {
     for one in characters {

@@ -18,13 +18,12 @@ ghost use Rattle.edi_tree.specs.View.{
   variable_of,
 };
 ghost use Rattle.edi_tree.specs.Tree as text;
-ghost use Rattle.edi_unit.specs.View.{argument_of, arguments_of, expression_of};
 ghost use Rattle.edi_unit.specs.Tree as unit;
-ghost use Rattle.edi_static.specs.Answers.{JudgedAnswers};
+ghost use Rattle.edi_static.specs.Prelude.{JudgedAnswers, argument_of, arguments_of, asked_of, environment, expression_of, formal_of, linked_of};
+ghost use Rattle.edi_static.specs.Prelude.{parted_of, typed_of};
 ghost use Rattle.edi_static.specs.Expressions as rule;
 ghost use Rattle.edi_static.specs.Fitting as spec;
 ghost use Rattle.edi_static.specs.Views as view;
-ghost use Rattle.edi_static.specs.Views.{asked_of, environment, formal_of, linked_of, parted_of, typed_of};
 ghost use Rattle.edi_values.specs.Parts as part;
 ghost use Rattle.edi_values.specs.Views.{called_of, chained_of, located_of, reached_of, used_of};
 
@@ -36,7 +35,7 @@ use crate::passing::{args_count, rest_of, value_argument};
 use crate::places::{Located, Reached, loaded, part_at, rooted};
 use crate::uses::{Called, Use, passed, use_of};
 use edi_static::{
-    Asked, Formal, Known, Linked, Parted, StaticFault, StaticKind, Typed, add, addition_operator,
+    Asked, Formal, Judged, Known, Linked, Parted, StaticKind, Typed, add, addition_operator,
     element_of, fault, field_of, multiplication_operator, operated, put, signed, single,
     takes_strings, variable_argument,
 };
@@ -49,7 +48,7 @@ use std::alloc::Global;
 
 /// An expression with its type.
 #[cycle(expressions)]
-pub fn expression(known: &Known, alloc: Global, expr: &Expr) -> Result<Typed, StaticFault>
+pub fn expression(known: &Known, alloc: Global, expr: &Expr) -> Judged<Typed>
     ensures exact { JudgedAnswers typed_of result (rule.expression (environment known.now) (expr_of expr.now)) }
 {
     let left = simple(known, alloc, &expr.left)?;
@@ -71,7 +70,7 @@ pub fn expression(known: &Known, alloc: Global, expr: &Expr) -> Result<Typed, St
 
 /// A leading sign belongs to the first term.
 #[cycle(expressions)]
-fn simple(known: &Known, alloc: Global, simple: &Simple) -> Result<Typed, StaticFault>
+fn simple(known: &Known, alloc: Global, simple: &Simple) -> Judged<Typed>
     ensures exact { JudgedAnswers typed_of result (rule.simple (environment known.now) (simple_of simple.now)) }
 {
     let first = term(known, alloc, &simple.first)?;
@@ -81,12 +80,7 @@ fn simple(known: &Known, alloc: Global, simple: &Simple) -> Result<Typed, Static
 }
 
 #[cycle(expressions)]
-fn addends(
-    known: &Known,
-    alloc: Global,
-    left: u32,
-    addends: &Addends,
-) -> Result<Chained, StaticFault>
+fn addends(known: &Known, alloc: Global, left: u32, addends: &Addends) -> Judged<Chained>
     ensures exact { JudgedAnswers chained_of result (rule.addends (environment known.now) left (addends_of addends.now)) }
 {
     let mut links = List::new(alloc);
@@ -100,7 +94,7 @@ fn addends(
 }
 
 #[cycle(expressions)]
-fn addend(known: &Known, alloc: Global, left: u32, addend: &Addend) -> Result<Linked, StaticFault>
+fn addend(known: &Known, alloc: Global, left: u32, addend: &Addend) -> Judged<Linked>
     ensures exact { JudgedAnswers linked_of result (rule.addend (environment known.now) left (addend_of addend.now)) }
 {
     let right = term(known, alloc, &addend.term)?;
@@ -109,7 +103,7 @@ fn addend(known: &Known, alloc: Global, left: u32, addend: &Addend) -> Result<Li
 }
 
 #[cycle(expressions)]
-fn term(known: &Known, alloc: Global, term: &Term) -> Result<Typed, StaticFault>
+fn term(known: &Known, alloc: Global, term: &Term) -> Judged<Typed>
     ensures exact { JudgedAnswers typed_of result (rule.term (environment known.now) (term_of term.now)) }
 {
     let first = factor(known, alloc, &term.first)?;
@@ -123,7 +117,7 @@ fn multipliers(
     alloc: Global,
     left: u32,
     multipliers: &Multipliers,
-) -> Result<Chained, StaticFault>
+) -> Judged<Chained>
     ensures exact { JudgedAnswers chained_of result (rule.multipliers (environment known.now) left (multipliers_of multipliers.now)) }
 {
     let mut links = List::new(alloc);
@@ -137,12 +131,7 @@ fn multipliers(
 }
 
 #[cycle(expressions)]
-fn multiplier(
-    known: &Known,
-    alloc: Global,
-    left: u32,
-    multiplier: &Multiplier,
-) -> Result<Linked, StaticFault>
+fn multiplier(known: &Known, alloc: Global, left: u32, multiplier: &Multiplier) -> Judged<Linked>
     ensures exact { JudgedAnswers linked_of result (rule.multiplier (environment known.now) left (multiplier_of multiplier.now)) }
 {
     let right = factor(known, alloc, &multiplier.factor)?;
@@ -151,7 +140,7 @@ fn multiplier(
 }
 
 #[cycle(expressions)]
-fn factor(known: &Known, alloc: Global, one: &Factor) -> Result<Typed, StaticFault>
+fn factor(known: &Known, alloc: Global, one: &Factor) -> Judged<Typed>
     ensures exact { JudgedAnswers typed_of result (rule.factor (environment known.now) (factor_of one.now)) }
 {
     match one {
@@ -169,7 +158,7 @@ fn factor(known: &Known, alloc: Global, one: &Factor) -> Result<Typed, StaticFau
 
 /// The name before arguments is judged first: it is a type or a function.
 #[cycle(expressions)]
-fn call(known: &Known, alloc: Global, name: &Name, args: &Args) -> Result<Typed, StaticFault>
+fn call(known: &Known, alloc: Global, name: &Name, args: &Args) -> Judged<Typed>
     ensures exact { JudgedAnswers typed_of result (rule.factor (environment known.now) (text.call_factor name.now (args_of args.now))) }
 {
     let entity = known.look_up(name)?;
@@ -179,13 +168,7 @@ fn call(known: &Known, alloc: Global, name: &Name, args: &Args) -> Result<Typed,
 
 #[cycle(expressions)]
 #[tactic(auto, using(crate::proofs::Calls::construction_answered, crate::proofs::Calls::invocation_answered))]
-fn applied(
-    known: &Known,
-    alloc: Global,
-    line: u16,
-    used: Use,
-    args: &Args,
-) -> Result<Typed, StaticFault>
+fn applied(known: &Known, alloc: Global, line: u16, used: Use, args: &Args) -> Judged<Typed>
     ensures exact { JudgedAnswers typed_of result (rule.applied (environment known.now) line (used_of used.entry) (args_of args.now)) }
 {
     match used {
@@ -197,13 +180,7 @@ fn applied(
 }
 
 #[cycle(expressions)]
-fn constructor(
-    known: &Known,
-    alloc: Global,
-    line: u16,
-    of: u32,
-    args: &Args,
-) -> Result<Typed, StaticFault>
+fn constructor(known: &Known, alloc: Global, line: u16, of: u32, args: &Args) -> Judged<Typed>
     ensures exact { JudgedAnswers typed_of result (part.construction (environment known.now) line of (args_of args.now)) }
 {
     let strings = takes_strings(known.shape(of));
@@ -218,7 +195,7 @@ fn application(
     line: u16,
     called: Called,
     args: &Args,
-) -> Result<Typed, StaticFault>
+) -> Judged<Typed>
     ensures exact { JudgedAnswers typed_of result (part.invocation (environment known.now) line (called_of called.entry) (args_of args.now)) }
 {
     function_called(line, called, args_count(args))?;
@@ -228,12 +205,7 @@ fn application(
 
 /// The parts that the arguments of a constructor stand for.
 #[cycle(expressions)]
-fn parts(
-    known: &Known,
-    alloc: Global,
-    strings: bool,
-    args: &Args,
-) -> Result<Vec<Typed>, StaticFault>
+fn parts(known: &Known, alloc: Global, strings: bool, args: &Args) -> Judged<Vec<Typed>>
     ensures exact { JudgedAnswers (λ parts. map typed_of parts.items) result (part.elements (environment known.now) strings (args_of args.now)) }
 {
     let mut parts = Vec::new(alloc);
@@ -252,7 +224,7 @@ fn add_element(
     strings: bool,
     expr: &Expr,
     parts: &mut Vec<Typed>,
-) -> Result<(), StaticFault>
+) -> Judged<()>
     ensures exact { JudgedAnswers (λ _. map typed_of parts.new.items) result (part.behind (map typed_of parts.old.items)
         (rule.element (environment known.now) strings (expr_of expr.now) (rule.expression (environment known.now) (expr_of expr.now)))) }
 {
@@ -273,7 +245,7 @@ pub fn arguments(
     line: u16,
     args: &Args,
     formals: &[Formal],
-) -> Result<Arguments, StaticFault>
+) -> Judged<Arguments>
     ensures exact { JudgedAnswers arguments_of result
         (rule.all_arguments (environment known.now) line (args_of args.now) (view.formals (map formal_of formals.now))) }
 {
@@ -298,7 +270,7 @@ fn argument(
     line: u16,
     expr: &Expr,
     formals: &[Formal],
-) -> Result<Argument, StaticFault>
+) -> Judged<Argument>
     ensures exact { JudgedAnswers argument_of result (rule.argument (environment known.now) line (expr_of expr.now)
         (rule.expression (environment known.now) (expr_of expr.now)) (view.formals (map formal_of formals.now))) }
 {
@@ -310,13 +282,7 @@ fn argument(
 
 /// An argument of a call, for this parameter.
 #[cycle(expressions)]
-fn fitted(
-    known: &Known,
-    alloc: Global,
-    line: u16,
-    expr: &Expr,
-    formal: &Formal,
-) -> Result<Argument, StaticFault>
+fn fitted(known: &Known, alloc: Global, line: u16, expr: &Expr, formal: &Formal) -> Judged<Argument>
     ensures exact { JudgedAnswers argument_of result (part.fitted (environment known.now) line (expr_of expr.now)
         (rule.expression (environment known.now) (expr_of expr.now)) (formal_of formal.now)) }
 {
@@ -342,7 +308,7 @@ fn procedure_argument(
     line: u16,
     expr: &Expr,
     asked: &Asked,
-) -> Result<Argument, StaticFault>
+) -> Judged<Argument>
     ensures exact { JudgedAnswers argument_of result (rule.procedure_argument (environment known.now) line (asked_of asked.now)
         (spec.name_alone (expr_of expr.now)) (rule.expression (environment known.now) (expr_of expr.now))) }
 {
@@ -362,7 +328,7 @@ fn procedure_argument(
 /// A variable as a value.
 #[cycle(expressions)]
 #[tactic(auto, using(crate::proofs::Steps::whole, crate::proofs::Steps::not_whole))]
-fn variable_value(known: &Known, alloc: Global, variable: &Variable) -> Result<Typed, StaticFault>
+fn variable_value(known: &Known, alloc: Global, variable: &Variable) -> Judged<Typed>
     ensures exact { JudgedAnswers typed_of result (rule.variable_value (environment known.now) (variable_of variable.now)) }
 {
     match whole_name(variable) {
@@ -373,7 +339,7 @@ fn variable_value(known: &Known, alloc: Global, variable: &Variable) -> Result<T
 
 /// The value of a variable that is `val f` or has a selector.
 #[cycle(expressions)]
-fn place_value(known: &Known, alloc: Global, variable: &Variable) -> Result<Typed, StaticFault>
+fn place_value(known: &Known, alloc: Global, variable: &Variable) -> Judged<Typed>
     ensures exact { JudgedAnswers typed_of result (part.place_value (environment known.now) (variable_of variable.now)) }
 {
     let located = variable_place(known, alloc, variable)?;
@@ -382,11 +348,7 @@ fn place_value(known: &Known, alloc: Global, variable: &Variable) -> Result<Type
 
 /// A variable as a place.
 #[cycle(expressions)]
-pub fn variable_place(
-    known: &Known,
-    alloc: Global,
-    variable: &Variable,
-) -> Result<Located, StaticFault>
+pub fn variable_place(known: &Known, alloc: Global, variable: &Variable) -> Judged<Located>
     ensures exact { JudgedAnswers located_of result (rule.variable_place (environment known.now) (variable_of variable.now)) }
 {
     let root = rooted(known, &variable.root)?;
@@ -395,12 +357,7 @@ pub fn variable_place(
 }
 
 #[cycle(expressions)]
-fn selectors(
-    known: &Known,
-    alloc: Global,
-    of: u32,
-    selectors: &Selectors,
-) -> Result<Reached, StaticFault>
+fn selectors(known: &Known, alloc: Global, of: u32, selectors: &Selectors) -> Judged<Reached>
     ensures exact { JudgedAnswers reached_of result (rule.selectors (environment known.now) of (selectors_of selectors.now)) }
 {
     let mut parts = List::new(alloc);
@@ -414,12 +371,7 @@ fn selectors(
 }
 
 #[cycle(expressions)]
-fn selector(
-    known: &Known,
-    alloc: Global,
-    of: u32,
-    selector: &Selector,
-) -> Result<Parted, StaticFault>
+fn selector(known: &Known, alloc: Global, of: u32, selector: &Selector) -> Judged<Parted>
     ensures exact { JudgedAnswers parted_of result (rule.selector (environment known.now) of (selector_of selector.now)) }
 {
     match selector {

@@ -2,18 +2,16 @@
 
 ghost use Rattle.std.specs.Prelude.{◌≡◌};
 ghost use Rattle.edi_unit.specs.Tree as unit;
-ghost use Rattle.edi_unit.specs.View.{arguments_of};
-ghost use Rattle.edi_static.specs.Answers.{JudgedAnswers};
+ghost use Rattle.edi_static.specs.Prelude.{JudgedAnswers, arguments_of, environment, typed_of};
 ghost use Rattle.edi_static.specs.Expressions as rule;
 ghost use Rattle.edi_static.specs.Fitting as spec;
-ghost use Rattle.edi_static.specs.Views.{environment, typed_of};
 ghost use Rattle.edi_values.specs.Parts as part;
 ghost use Rattle.edi_values.specs.Views.{called_of, used_of};
 
 use crate::places::rooted_value;
 use crate::uses::{Called, Use, use_of};
 use edi_scope::Entity;
-use edi_static::{Known, StaticFault, StaticKind, Typed, as_variable, empty_set, fault, must};
+use edi_static::{Judged, Known, StaticKind, Typed, as_variable, empty_set, fault, must};
 use edi_tree::Name;
 use edi_unit::{Arguments, List, Value};
 use std::alloc::Global;
@@ -40,18 +38,14 @@ pub(crate) fn invoked(line: u16, called: Called, arguments: Arguments) -> Typed
 }
 
 /// A call in an expression is that of a function, with as many arguments as its heading has parameters.
-pub(crate) fn function_called(
-    line: u16,
-    called: Called,
-    arguments: usize,
-) -> Result<(), StaticFault>
+pub(crate) fn function_called(line: u16, called: Called, arguments: usize) -> Judged<()>
     ensures exact { JudgedAnswers (λ _. tt) result (spec.function_called line (called_of called.entry) arguments) }
 {
     must(called.is_function_of(arguments), StaticKind::Call, line)
 }
 
 /// A function without parameters.
-fn invoked_alone(alloc: Global, line: u16, called: Called) -> Result<Typed, StaticFault>
+fn invoked_alone(alloc: Global, line: u16, called: Called) -> Judged<Typed>
     ensures exact { JudgedAnswers typed_of result (part.invoked_alone line (called_of called.entry)) }
 {
     function_called(line, called, 0)?;
@@ -59,12 +53,7 @@ fn invoked_alone(alloc: Global, line: u16, called: Called) -> Result<Typed, Stat
 }
 
 /// A constant or a variable.
-fn value_alone(
-    known: &Known,
-    alloc: Global,
-    line: u16,
-    entity: Entity,
-) -> Result<Typed, StaticFault>
+fn value_alone(known: &Known, alloc: Global, line: u16, entity: Entity) -> Judged<Typed>
     ensures exact { JudgedAnswers typed_of result (rule.used_alone (environment known.now) line spec.neither entity) }
 {
     match entity {
@@ -74,13 +63,7 @@ fn value_alone(
 }
 
 /// What an entity is alone, by what it can be used for.
-fn used_alone(
-    known: &Known,
-    alloc: Global,
-    line: u16,
-    used: Use,
-    entity: Entity,
-) -> Result<Typed, StaticFault>
+fn used_alone(known: &Known, alloc: Global, line: u16, used: Use, entity: Entity) -> Judged<Typed>
     ensures exact { JudgedAnswers typed_of result (rule.used_alone (environment known.now) line (used_of used.entry) entity) }
 {
     match used {
@@ -92,7 +75,7 @@ fn used_alone(
 }
 
 /// A name alone: a constant, a variable, a call of a function without parameters, or a set type.
-pub(crate) fn alone(known: &Known, alloc: Global, name: &Name) -> Result<Typed, StaticFault>
+pub(crate) fn alone(known: &Known, alloc: Global, name: &Name) -> Judged<Typed>
     ensures exact { JudgedAnswers typed_of result (rule.alone (environment known.now) name.now) }
 {
     let entity = known.look_up(name)?;

@@ -2,16 +2,14 @@
 
 ghost use Rattle.std.specs.Prelude.{◌≡◌, map};
 ghost use Rattle.edi_unit.specs.Tree as unit;
-ghost use Rattle.edi_unit.specs.View.{argument_of, expression_of};
 ghost use Rattle.edi_tree.specs.View.{args_of};
-ghost use Rattle.edi_static.specs.Answers.{JudgedAnswers};
+ghost use Rattle.edi_static.specs.Prelude.{JudgedAnswers, argument_of, expression_of, formal_of, typed_of};
 ghost use Rattle.edi_static.specs.Expressions as rule;
 ghost use Rattle.edi_static.specs.Fitting as spec;
 ghost use Rattle.edi_static.specs.Views as view;
-ghost use Rattle.edi_static.specs.Views.{formal_of, typed_of};
 ghost use Rattle.edi_values.specs.Parts as part;
 
-use edi_static::{Formal, StaticFault, StaticKind, Typed, must};
+use edi_static::{Formal, Judged, StaticKind, Typed, must};
 use edi_tree::Args;
 use edi_unit::{Argument, Value};
 
@@ -39,7 +37,7 @@ fn by_value(value: Value) -> Argument
 }
 
 /// An argument for a value parameter is of its type.
-pub(crate) fn value_argument(line: u16, of: u32, value: Typed) -> Result<Argument, StaticFault>
+pub(crate) fn value_argument(line: u16, of: u32, value: Typed) -> Judged<Argument>
     ensures exact { JudgedAnswers argument_of result (part.value_argument line of (typed_of value)) }
 {
     must(value.of == of, StaticKind::Call, line)?;

@@ -2,13 +2,12 @@
 
 ghost use Rattle.std.specs.Prelude.{◌≡◌};
 ghost use Rattle.edi_unit.specs.View.{parts_of};
-ghost use Rattle.edi_static.specs.Answers.{JudgedAnswers};
+ghost use Rattle.edi_static.specs.Prelude.{JudgedAnswers, environment, rooted_of, typed_of};
 ghost use Rattle.edi_static.specs.Expressions as rule;
 ghost use Rattle.edi_static.specs.Fitting as spec;
-ghost use Rattle.edi_static.specs.Views.{environment, rooted_of, typed_of};
 ghost use Rattle.edi_values.specs.Views.{located_of, reached_of};
 
-use edi_static::{Known, Rooted, StaticFault, Typed, as_function, as_variable};
+use edi_static::{Judged, Known, Rooted, Typed, as_function, as_variable};
 use edi_tree::Root;
 use edi_unit::{List, Parts, Place, Value};
 use std::alloc::Global;
@@ -28,7 +27,7 @@ pub struct Located {
 }
 
 /// The variable that a name or `val f` means.
-pub(crate) fn rooted(known: &Known, root: &Root) -> Result<Rooted, StaticFault>
+pub(crate) fn rooted(known: &Known, root: &Root) -> Judged<Rooted>
     ensures exact { JudgedAnswers rooted_of result (rule.rooted (environment known.now) root.now) }
 {
     match root {

@@ -3,19 +3,15 @@
 ghost use Rattle.std.specs.Prelude.{◌≡◌, ◌&&◌, not, map, option_copied};
 ghost use Rattle.edi_scope.specs.declared.entity.Entity.TheVariants as entity;
 ghost use Rattle.edi_unit.specs.Fits.{heading_formals, no_formal};
-ghost use Rattle.edi_unit.specs.Lists.{list_items};
-ghost use Rattle.edi_unit.specs.View.{argument_of};
 ghost use Rattle.edi_unit.specs.Need.{block_at};
-ghost use Rattle.edi_static.specs.Answers.{JudgedAnswers};
+ghost use Rattle.edi_static.specs.Prelude.{JudgedAnswers, argument_of, asked_of, environment, formal_of, gives, list_items};
 ghost use Rattle.edi_static.specs.Environment.{heading_at, no_heading, same_formals, same_heading};
 ghost use Rattle.edi_static.specs.Fitting as spec;
-ghost use Rattle.edi_static.specs.Judged.{gives};
 ghost use Rattle.edi_static.specs.Views as view;
-ghost use Rattle.edi_static.specs.Views.{asked_of, environment, formal_of};
 ghost use Rattle.edi_values.specs.Views.{asks_of, called_of, used_of};
 
 use edi_scope::Entity;
-use edi_static::{Asked, Formal, Known, StaticFault, StaticKind, fault, must, number, same_asked};
+use edi_static::{Asked, Formal, Judged, Known, StaticKind, fault, must, number, same_asked};
 use edi_unit::{Argument, Callee, INT, List};
 
 /// What is called or passed on, with its heading.
@@ -57,7 +53,7 @@ fn heading_of(headings: &[Asked], number: u32) -> Option<&Asked>
 }
 
 /// A block is called in the block in which it is declared, so many steps out.
-fn block_use<'a>(known: &'a Known, block: u32) -> Result<Use<'a>, StaticFault>
+fn block_use<'a>(known: &'a Known, block: u32) -> Judged<Use<'a>>
     ensures exact { JudgedAnswers used_of result (gives (spec.use_of (environment known.now) (entity.Procedure block))) }
 {
     let levels = number(known.steps_to(up(known, block)))?;
@@ -68,12 +64,7 @@ fn block_use<'a>(known: &'a Known, block: u32) -> Result<Use<'a>, StaticFault>
 }
 
 /// A procedure parameter is called in the block whose parameter it is.
-fn formal_use<'a>(
-    known: &'a Known,
-    block: u32,
-    variable: u32,
-    shape: u32,
-) -> Result<Use<'a>, StaticFault>
+fn formal_use<'a>(known: &'a Known, block: u32, variable: u32, shape: u32) -> Judged<Use<'a>>
     ensures exact { JudgedAnswers used_of result (gives (spec.use_of (environment known.now) (entity.Formal block variable shape))) }
 {
     let levels = number(known.steps_to(block))?;
@@ -84,7 +75,7 @@ fn formal_use<'a>(
 }
 
 /// What an entity can be used for.
-pub fn use_of<'a>(known: &'a Known, entity: Entity) -> Result<Use<'a>, StaticFault>
+pub fn use_of<'a>(known: &'a Known, entity: Entity) -> Judged<Use<'a>>
     ensures exact { JudgedAnswers used_of result (gives (spec.use_of (environment known.now) entity)) }
 {
     match entity {
@@ -180,7 +171,7 @@ fn asks_nothing(asked: &Asked) -> bool
 }
 
 /// An argument for a procedure parameter is a name alone, of a procedure other than `halt` with its shape.
-pub(crate) fn passed(line: u16, asked: &Asked, used: Use) -> Result<Argument, StaticFault>
+pub(crate) fn passed(line: u16, asked: &Asked, used: Use) -> Judged<Argument>
     ensures exact { JudgedAnswers argument_of result (spec.passed line (asked_of asked.now) (used_of used.entry)) }
 {
     match used {
@@ -191,7 +182,7 @@ pub(crate) fn passed(line: u16, asked: &Asked, used: Use) -> Result<Argument, St
     }
 }
 
-fn passed_procedure(line: u16, asked: &Asked, called: Called) -> Result<Argument, StaticFault>
+fn passed_procedure(line: u16, asked: &Asked, called: Called) -> Judged<Argument>
     ensures exact { JudgedAnswers argument_of result (spec.passed line (asked_of asked.now) (spec.calls (called_of called.entry))) }
 {
     must(called.has_shape(asked), StaticKind::Call, line)?;

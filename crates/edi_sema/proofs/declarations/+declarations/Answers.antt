@@ -51,5 +51,5 @@ procedure_rest-returns t c =
 pub item-returns-in_ok-procedure_rest-in-Post-clause-comes : goal.item-returns-in_ok-procedure_rest-in-Post-clause-comes
 item-returns-in_ok-procedure_rest-in-Post-clause-comes t c =
     post_comes (environment c.args.known.now) (environment c.begin_post.new.known) (environment c.procedure_rest-in-Post.new.known)
-    (environment c.completed.new.known) _ c.requires.stands c.in_ok-block-in-Post.ensures.begins c.in_ok-procedure_rest-in-Post.ensures.leaves
+    (environment c.completed.new.known) _ c.requires.stands.stands c.in_ok-block-in-Post.ensures.begins c.in_ok-procedure_rest-in-Post.ensures.leaves
     c.completed.ensures.exact

@@ -13,7 +13,7 @@ pub complete-requires-clause-fits : goal.complete-requires-clause-fits
 complete-requires-clause-fits c =
     post_fits (heading_of c.args.heading.now) (out-Heading c.args.heading.now).name.text (environment c.args.known.now) (headed_of
     c.heading_parts.new.known c.in_ok-asked.asked) c.begun_block-found.result
-    c.in_ok-block.block c.requires.stands.begun_fit c.begun_block-found.ensures.exact c.in_ok-block.ensures.exact c.in_ok-asked.ensures.exact
+    c.in_ok-block.block c.requires.stands.stands.begun_fit c.begun_block-found.ensures.exact c.in_ok-block.ensures.exact c.in_ok-asked.ensures.exact
 
 pub returns-clause-exact : goal.returns-clause-exact
 returns-clause-exact c =

@@ -14,7 +14,7 @@ begin_block_of-requires-clause-fits c =
     let n = given (length env.blocks) c.in_ok-block.block c.in_ok-block.ensures.exact in
     let kept = headings_kept c.in_ok-block.block (heading_of c.args.heading.now) env (headed_of c.heading_parts.new.known c.in_ok-asked.asked)
     c.in_ok-asked.ensures.exact in
-    omega (arith, ap length kept, c.requires.stands.proper.headings, n)
+    omega (arith, ap length kept, c.requires.stands.stands.proper.headings, n)
 
 pub returns-clause-exact : goal.returns-clause-exact
 returns-clause-exact c =

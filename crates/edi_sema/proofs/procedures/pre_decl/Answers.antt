@@ -31,6 +31,6 @@ returns-clause-comes c =
     (gives (with_begun ((environment c.leave.new.self).begun ++ b ∷ []) (environment c.leave.new.self)))
     c.begin_split.ensures.exact
     (subst (λ e. Comes env (with_begun (e.begun ++ b ∷ []) e)) (sym c.leave.ensures.exact)
-    (pre_comes env inside b c.requires.stands c.in_ok-block.ensures.begins (subst Proper c.leave.ensures.exact c.leave.ensures.proper)
-    (begun_block c.args.export (heading_of c.args.heading.now) env inside c.in_ok-block.block c.in_ok-block.ensures.exact c.requires.stands.proper
+    (pre_comes env inside b c.requires.stands.stands c.in_ok-block.ensures.begins (subst Proper c.leave.ensures.exact c.leave.ensures.proper)
+    (begun_block c.args.export (heading_of c.args.heading.now) env inside c.in_ok-block.block c.in_ok-block.ensures.exact c.requires.stands.stands.proper
     c.in_ok-block.ensures.number)))

@@ -25,7 +25,7 @@ procedure_met-returns-clause-exact t c =
 pub item_met-returns-in_ok-procedure_met-in-Post-clause-comes : goal.item_met-returns-in_ok-procedure_met-in-Post-clause-comes
 item_met-returns-in_ok-procedure_met-in-Post-clause-comes t c =
     post_comes (environment c.args.known.now) (environment c.begin_post.new.known) (environment c.procedure_met-in-Post.new.known)
-    (environment c.completed.new.known) _ c.requires.stands c.in_ok-block-in-Post.ensures.begins c.in_ok-procedure_met-in-Post.ensures.leaves
+    (environment c.completed.new.known) _ c.requires.stands.stands c.in_ok-block-in-Post.ensures.begins c.in_ok-procedure_met-in-Post.ensures.leaves
     c.completed.ensures.exact
 
 pub procedure_met-returns-clause-awaits : goal.procedure_met-returns-clause-awaits

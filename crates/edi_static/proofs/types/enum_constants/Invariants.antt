@@ -1,16 +1,14 @@
 use Rattle.std.proofs.Common.{◌≡◌, ◌+◌, ◌<◌, drop, length, IsTrue}
-use Rattle.edi_scope.specs.Scope.{in_module}
 use Rattle.edi_tree.specs.View.{names as listed}
 use Rattle.edi_unit.specs.Types.{is_elementary}
 use Rattle.edi_static.specs.Types.{enum_constants}
-use Rattle.edi_static.specs.Proper.{Proper}
+use Rattle.edi_static.specs.Declaring.{MayDeclare}
 use Rattle.edi_static.specs.Views.{environment}
 use Rattle.edi_static.proofs.types.enum_constants.Given as goal
 
 abbrev pub invariant-loop-name : goal.invariant-loop-name
 invariant-loop-name l = record {
-  exporting : IsTrue l.export → IsTrue (in_module l.known.scopes);
-  proper : Proper (environment l.known);
+  may : MayDeclare l.export (environment l.known);
   depth : length l.known.scopes ≡ length l.initial.known.scopes;
   fits : (l.of < length l.known.types) × IsTrue (is_elementary l.known.types l.of);
   at : l.ordinal ≡ 1 + l.name-index;

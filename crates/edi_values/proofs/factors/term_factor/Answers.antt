@@ -9,16 +9,12 @@ use Rattle.edi_values.proofs.factors.term_factor.Goals as goal
 
 pub returns-then-is_empty : goal.returns-then-is_empty
 returns-then-is_empty c =
-    record {
-      exact = unmultiplied (factor_of (out-Term c.args.term.now).first) (items_of (out-Term c.args.term.now).more) (sym c.is_empty.ensures.exact ∙
-          c.if-is_empty.true)
-          ∙ ap term_factor (sym (term_seen c.args.term.now));
-    }
+    let t = out-Term c.args.term.now in
+    let seen = ap term_factor (sym (term_seen c.args.term.now)) in
+    record { exact = unmultiplied (factor_of t.first) (items_of t.more) (sym c.is_empty.ensures.exact ∙ c.if-is_empty.true) ∙ seen }
 
 pub returns-else-is_empty : goal.returns-else-is_empty
 returns-else-is_empty c =
-    record {
-      exact = multiplied (factor_of (out-Term c.args.term.now).first) (items_of (out-Term c.args.term.now).more) (sym c.is_empty.ensures.exact ∙
-          c.if-is_empty.false)
-          ∙ ap term_factor (sym (term_seen c.args.term.now));
-    }
+    let t = out-Term c.args.term.now in
+    let seen = ap term_factor (sym (term_seen c.args.term.now)) in
+    record { exact = multiplied (factor_of t.first) (items_of t.more) (sym c.is_empty.ensures.exact ∙ c.if-is_empty.false) ∙ seen }
