@@ -1,6 +1,6 @@
 //! The slots of the files, and the blocks that the files take.
 
-ghost use Rattle.std.specs.Prelude.{◌≡◌, ◌<◌, ◌≤◌, ◌*◌, length, IfSome, is_none};
+ghost use Rattle.std.specs.Prelude.{◌≡◌, ◌<◌, ◌≤◌, ◌*◌, length, position, IfSome, is_none};
 ghost use Rattle.edi_calls.specs.State.{File, most_bytes, pages_of, blocks_of, blocks_in, blocks_taken, is_titled, first_index, find_slot, first_free, slot_at};
 ghost use Rattle.edi_calls.specs.Calls.{is_protected, open_slot, slot_for};
 
@@ -39,30 +39,36 @@ fn is_titled(slot: &Option<StoredFile>, title: &[u8]) -> bool
     }
 }
 
+// The first place of a file with this title.
+fn titled_place(slots: &[Option<StoredFile>], title: &[u8]) -> Option<usize>
+    ensures { result ≡ position (is_titled title.now) slots.now }
+{
+    slots.iter().position(|slot| is_titled(slot, title))
+}
+
 /// The slot of the file with this title.
+#[tactic(auto, using(crate::proofs::Places::first_place, crate::proofs::Places::within_slots))]
 pub(crate) fn find_slot(slots: &[Option<StoredFile>], title: &[u8]) -> Option<usize>
     ensures exact { result ≡ find_slot slots.now title.now }
     ensures within { IfSome result (λ index. index < length slots.now) }
 {
-    for (index, slot) in slots.iter().enumerate() {
-        if is_titled(slot, title) {
-            return Some(index);
-        }
-    }
-    None
+    titled_place(slots, title)
+}
+
+// The first place without a file.
+fn free_place(slots: &[Option<StoredFile>]) -> Option<usize>
+    ensures { result ≡ position is_none slots.now }
+{
+    slots.iter().position(|slot| slot.is_none())
 }
 
 /// The first free slot.
+#[tactic(auto, using(crate::proofs::Places::first_place, crate::proofs::Places::within_slots))]
 pub(crate) fn first_free(slots: &[Option<StoredFile>]) -> Option<usize>
     ensures exact { result ≡ first_free slots.now }
     ensures within { IfSome result (λ index. index < length slots.now) }
 {
-    for (index, slot) in slots.iter().enumerate() {
-        if slot.is_none() {
-            return Some(index);
-        }
-    }
-    None
+    free_place(slots)
 }
 
 fn is_protected(slot: &Option<StoredFile>) -> bool
