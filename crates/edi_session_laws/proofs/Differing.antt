@@ -128,12 +128,8 @@ module _ (bound : ℕ) (choices : Choices) (s : Shell) (next other : AfterLine) 
         text = text;
         title = g;
         at = t;
-        one = p.0;
-        another = q.0;
-        one_for = p.1;
-        another_for = q.1;
-        next_is = p.2;
-        other_is = q.2;
+        one = record { code = p.0; code_for = p.1; next_is = p.2 };
+        another = record { code = q.0; code_for = q.1; next_is = q.2 };
       }))
 
   compiles_file : (f g : List ℕ) (file : Option File) (t : Shell) → HasFiles s t → CompilesFile f g file t next → CompilesFile f g file t other → Differ

@@ -41,17 +41,19 @@ pub record WantsMemory (s : Shell) (next : AfterLine) : Type 0 where
   pub shows : next ≡ goes (says_no_memory at)
   pub files : (state_in at).slots ≡ (state_in s).slots
 
--- both are what `compile` leaves of one text, with two codes that may be made of it
+-- this is what `compile` leaves of a text, with a code that may be made of it
+pub record HasCode (text title : List ℕ) (at : Shell) (next : AfterLine) : Type 0 where
+  pub code : CodeParts
+  pub code_for : IsCodeFor text code
+  pub next_is : next ≡ goes (stores_code title (code_bytes code) at)
+
+-- so both are of one text, with a code each
 pub record HaveTwoCodes (next other : AfterLine) : Type 0 where
   pub text : List ℕ
   pub title : List ℕ
   pub at : Shell
-  pub one : CodeParts
-  pub another : CodeParts
-  pub one_for : IsCodeFor text one
-  pub another_for : IsCodeFor text another
-  pub next_is : next ≡ goes (stores_code title (code_bytes one) at)
-  pub other_is : other ≡ goes (stores_code title (code_bytes another) at)
+  pub one : HasCode text title at next
+  pub another : HasCode text title at other
 
 -- two ways on from one shell differ in nothing else
 abbrev pub SessionsDifferInThese : Type 0

@@ -15,6 +15,7 @@ use Rattle.edi_session.specs.Session.{AfterLine, goes, closes, shell_in, StoresT
 use Rattle.edi_session.specs.Shell.{Shell, Taken, took, ended, limited, shell_of, limit, state_in, took_byte, ends_text, text_with, line_with, take_text, next_text}
 use Rattle.edi_session.proofs.Later.{Later, answered_on, take_text_on}
 use Rattle.edi_shell_calls.specs.Standing.{At, StandsIn, IsFault, IsLeft, Leads}
+use Rattle.edi_shell_calls.proofs.Faulted.{of_fault}
 use Rattle.edi_shell.specs.Rows.{LineBreaks, LineCloses, LineDoesOrEnds, LineEnds, EntersFile}
 use Rattle.edi_shell.specs.Taking.{GivesNone, GivesText, IsSoFar, Stops}
 use Rattle.edi_shell.proofs.Keeping.{TakingKeeps, itself, one_keeps, taking_behind, took_keeps}
@@ -185,13 +186,7 @@ module _ {C : Type 0} (at : C → State → ℕ → Type 0) (stands : C → Stat
   -- a fault ends the session
   fault_ends : (Row : Shell → AfterLine → Type 0) (e : SessionEnd) (drawn : ℕ) (s : Shell) (c : C) → IsFault e → LineBreaks at stands Row s c
       → LineEnds at stands Row e drawn s c
-  fault_ends Row end.Halted drawn s c fault b = absurd fault
-  fault_ends Row end.InputEnd drawn s c fault b = absurd fault
-  fault_ends Row end.Limit drawn s c fault b = absurd fault
-  fault_ends Row end.DriveFault drawn s c fault b = b
-  fault_ends Row end.InputFault drawn s c fault b = b
-  fault_ends Row end.TerminalFault drawn s c fault b = b
-  fault_ends Row end.PrinterFault drawn s c fault b = b
+  fault_ends Row e drawn s c fault b = of_fault (λ x. LineEnds at stands Row x drawn s c) b b b b e fault
 
   -- the text was taken, and is stored, or it is shown why not
   pub enter_stores : (ready : C → Type 0) (failed : C → Option Outside) (s t : Shell) (text : List ℕ) (count : ℕ) (result : Result (Unit {0}) SessionEnd) (c : C)

@@ -1,15 +1,14 @@
 -- Rows of the table of commands: what a line leads to is what the object was led to.
-use Rattle.std.proofs.Common.{◌≡◌, ◌⊎◌, ℕ, List, Option, Some, None, refl, sym, ap, subst}
+use Rattle.std.proofs.Common.{◌≡◌, ℕ, List, Option, Some, None, refl, sym, ap, subst}
 use Rattle.std.specs.Prelude.{Result, Ok, Err}
 use Rattle.edi_calls.specs.declared.kinds.FileKind.{FileKind}
 use Rattle.edi_calls.specs.declared.kinds.FileKind.TheVariants as file_kind
 use Rattle.edi_calls.specs.Choice.{Choices}
 use Rattle.edi_calls.specs.State.{File, State}
 use Rattle.edi_catalog.specs.declared.ends.CatEnd.{CatEnd}
-use Rattle.edi_target.specs.File.{code_fault_of}
 use Rattle.edi_session.specs.declared.end.SessionEnd.{SessionEnd}
 use Rattle.edi_session.specs.Files.{answered}
-use Rattle.edi_session.specs.Session.{AfterLine, goes, ExecutesFile, ExecutesBytes, says_no_memory}
+use Rattle.edi_session.specs.Session.{AfterLine, goes, ExecutesFile, ExecutesKind}
 use Rattle.edi_session.specs.Shell.{Shell, says}
 use Rattle.edi_shell_calls.specs.Standing.{Leads}
 use Rattle.edi_shell.specs.Files.{wrong, refused, refused_kind, IsOpened}
@@ -37,6 +36,13 @@ module _ {C : Type 0} (at : C → State → ℕ → Type 0) (stands : C → Stat
   leads_does Row s t (Ok x) c row like draws l = record { after = t; row = row; like = like; draws = draws; at_ = l }
   leads_does Row s t (Err e) c row like draws l = record { next = goes t; row = row; in_ = l }
 
+  -- a line that does so by one row does so by another that leads to the same
+  pub does_by : (Row Other : Shell → AfterLine → Type 0) (s : Shell) (drawn : ℕ) (result : Result (Unit {0}) SessionEnd) (c : C)
+      → ((next : AfterLine) → Row s next → Other s next) → LineDoes at stands Row result drawn s c → LineDoes at stands Other result drawn s c
+  does_by Row Other s drawn (Ok x) c other d =
+      record { after = d.after; row = other (goes d.after) d.row; like = d.like; draws = d.draws; at_ = d.at_ }
+  does_by Row Other s drawn (Err e) c other d = record { next = d.next; row = other d.next d.row; in_ = d.in_ }
+
 -- ---- the execution of a file
 
 execute_kind : (bound : ℕ) (choices : Choices) (f : List ℕ) (file : File) (s t : Shell) (kind : FileKind) → refused_kind (wrong (Some file_kind.Code) kind) f
@@ -51,14 +57,12 @@ execute_refused bound choices f None s t e = ap goes (sym (some_same e))
 execute_refused bound choices f (Some file) s t e = execute_kind bound choices f file s t file.kind e
 
 opened_code : (bound : ℕ) (choices : Choices) (f : List ℕ) (file : File) (s : Shell) (next : AfterLine) (kind : FileKind) → wrong (Some file_kind.Code) kind ≡ None
-    → ExecutesBytes bound choices f file.bytes (code_fault_of file.bytes) s next ⊎ (next ≡ goes (says_no_memory s)) → ExecutesFile bound choices f
-    (Some (record file { kind = kind })) s next
+    → ExecutesKind bound choices file_kind.Code f file.bytes s next → ExecutesFile bound choices f (Some (record file { kind = kind })) s next
 opened_code bound choices f file s next file_kind.Code e row = row
 opened_code bound choices f file s next file_kind.Text e row = absurd cc
 
 pub execute_opened : (bound : ℕ) (choices : Choices) (f : List ℕ) (file : Option File) (opened : File) (s : Shell) (next : AfterLine)
     → IsOpened (Some file_kind.Code) file opened
-    → ExecutesBytes bound choices f opened.bytes (code_fault_of opened.bytes) s next ⊎ (next ≡ goes (says_no_memory s)) → ExecutesFile bound choices f file s
-    next
+    → ExecutesKind bound choices file_kind.Code f opened.bytes s next → ExecutesFile bound choices f file s next
 execute_opened bound choices f file opened s next o row =
     subst (λ x. ExecutesFile bound choices f x s next) (sym o.is) (opened_code bound choices f opened s next opened.kind o.right row)

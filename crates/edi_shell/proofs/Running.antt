@@ -15,7 +15,7 @@ use Rattle.edi_target.specs.File.{code_fault_of, code_of}
 use Rattle.edi_target.specs.declared.code_fault.CodeFault.{CodeFault}
 use Rattle.edi_target.specs.declared.code_fault.CodeFault.TheVariants as fault
 use Rattle.edi_session.specs.declared.end.SessionEnd.{SessionEnd}
-use Rattle.edi_session.specs.Session.{AfterLine, goes, ExecutesBytes, ExecutesCode, ExecutesFile, ends_with, says_no_memory}
+use Rattle.edi_session.specs.Session.{goes, ExecutesBytes, ExecutesCode, ExecutesFile, ExecutesKind, ends_with, says_no_memory}
 use Rattle.edi_session.specs.Shell.{Shell, says, shown_by, on_fresh_line}
 use Rattle.edi_session.specs.Texts.{ending_line}
 use Rattle.edi_session.proofs.Later.{ends_on, says_on}
@@ -23,7 +23,7 @@ use Rattle.edi_shell_lines.specs.Endings.{line_for}
 use Rattle.edi_shell_calls.specs.Standing.{At, StandsIn, Leads, HasRun, RunsTo, RunBreaks}
 use Rattle.edi_shell.specs.Rows.{IsLike, LineGoesOn, LineBreaks, LineDoes}
 use Rattle.edi_shell.specs.Files.{Reads, code_refusal}
-use Rattle.edi_shell.proofs.Rows.{execute_refused, execute_opened, leads_does, like_says}
+use Rattle.edi_shell.proofs.Rows.{does_by, execute_refused, execute_opened, leads_does, like_says}
 use Rattle.edi_shell.proofs.Opening.{some_same}
 use Rattle.edi_shell.proofs.Standing.{stands_later}
 
@@ -179,30 +179,29 @@ module _ {C : Type 0} (at : C → State → ℕ → Type 0) (stands : C → Stat
   }
 
   -- the code was not loaded
-  pub execute_not_loaded : (into front : List ℕ) (file : Option File) (kind : FileKind) (n drawn : ℕ) (s : Shell) (c d : C) (why : CodeFault)
-      (result : Result (Unit {0}) SessionEnd) → front ≡ take n into
-      → Reads at stands (Ok (Some (kind, n))) (Some file_kind.Code) file f into s c → IsFault why (code_fault_of front) → s.drawn ≡ drawn
-      → Leads at stands result (says (code_refusal f why) s) d → LineDoes at stands (ExecutesFile bound choices f file) result drawn s d
-  execute_not_loaded into front file kind n drawn s c d why result part r h e l =
-      subst (λ k. LineDoes at stands (ExecutesFile bound choices f file) result k s d) e
-      (leads_does at stands (ExecutesFile bound choices f file) s (says (code_refusal f why) s) result d
-      (execute_opened bound choices f file r.0 s (goes (says (code_refusal f why) s)) r.1
-      (refused_bytes bound choices f r.0.bytes (code_fault_of r.0.bytes) s why (subst (λ b. IsFault why (code_fault_of b)) (part ∙ r.3) h)))
-      (like_says (code_refusal f why) s) refl l)
+  pub bytes_refused : (bytes : List ℕ) (drawn : ℕ) (s : Shell) (c : C) (why : CodeFault) (result : Result (Unit {0}) SessionEnd)
+      → IsFault why (code_fault_of bytes) → s.drawn ≡ drawn → Leads at stands result (says (code_refusal f why) s) c
+      → LineDoes at stands (ExecutesKind bound choices file_kind.Code f bytes) result drawn s c
+  bytes_refused bytes drawn s c why result h e l =
+      subst (λ k. LineDoes at stands (ExecutesKind bound choices file_kind.Code f bytes) result k s c) e
+      (leads_does at stands (ExecutesKind bound choices file_kind.Code f bytes) s (says (code_refusal f why) s) result c
+      (refused_bytes bound choices f bytes (code_fault_of bytes) s why h) (like_says (code_refusal f why) s) refl l)
 
   -- the code was loaded, and run
-  pub execute_loaded : (into front : List ℕ) (file : Option File) (kind : FileKind) (n drawn : ℕ) (s : Shell) (c d : C) (code : CodeParts)
-      (result : Result (Unit {0}) SessionEnd) → front ≡ take n into
-      → Reads at stands (Ok (Some (kind, n))) (Some file_kind.Code) file f into s c → code_fault_of front ≡ None → code ≡ code_of front
-      → LineDoes at stands (ExecutesCode bound choices f code) result drawn s d → LineDoes at stands (ExecutesFile bound choices f file) result drawn s d
-  execute_loaded into front file kind n drawn s c d code result part r sound is does = go result does where
-    row : (next : AfterLine) → ExecutesCode bound choices f code s next → ExecutesFile bound choices f file s next
-    row next ran =
-        execute_opened bound choices f file r.0 s next r.1
-        (inl (subst (λ k. ExecutesBytes bound choices f r.0.bytes k s next) (sym sound ∙ ap code_fault_of (part ∙ r.3))
-        (subst (λ p. ExecutesCode bound choices f p s next) (is ∙ ap code_of (part ∙ r.3)) ran)))
+  pub bytes_run : (bytes : List ℕ) (drawn : ℕ) (s : Shell) (c : C) (code : CodeParts) (result : Result (Unit {0}) SessionEnd)
+      → code_fault_of bytes ≡ None → code ≡ code_of bytes → LineDoes at stands (ExecutesCode bound choices f code) result drawn s c
+      → LineDoes at stands (ExecutesKind bound choices file_kind.Code f bytes) result drawn s c
+  bytes_run bytes drawn s c code result sound is =
+      does_by at stands (ExecutesCode bound choices f code) (ExecutesKind bound choices file_kind.Code f bytes) s drawn result c
+      (λ next ran. inl (subst (λ k. ExecutesBytes bound choices f bytes k s next) (sym sound)
+      (subst (λ p. ExecutesCode bound choices f p s next) is ran)))
 
-    go : (result : Result (Unit {0}) SessionEnd) → LineDoes at stands (ExecutesCode bound choices f code) result drawn s d
-        → LineDoes at stands (ExecutesFile bound choices f file) result drawn s d
-    go (Ok x) g = record { after = g.after; row = row (goes g.after) g.row; like = g.like; draws = g.draws; at_ = g.at_ }
-    go (Err e) b = record { next = b.next; row = row b.next b.row; in_ = b.in_ }
+  -- what these bytes of the file do, the file does
+  pub execute_does : (into front : List ℕ) (file : Option File) (kind : FileKind) (n drawn : ℕ) (s : Shell) (c d : C)
+      (result : Result (Unit {0}) SessionEnd) → front ≡ take n into → Reads at stands (Ok (Some (kind, n))) (Some file_kind.Code) file f into s c
+      → LineDoes at stands (ExecutesKind bound choices file_kind.Code f front) result drawn s d
+      → LineDoes at stands (ExecutesFile bound choices f file) result drawn s d
+  execute_does into front file kind n drawn s c d result part r =
+      does_by at stands (ExecutesKind bound choices file_kind.Code f front) (ExecutesFile bound choices f file) s drawn result d
+      (λ next row. execute_opened bound choices f file r.0 s next r.1
+      (subst (λ b. ExecutesKind bound choices file_kind.Code f b s next) (part ∙ r.3) row))

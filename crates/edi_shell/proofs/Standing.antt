@@ -7,6 +7,7 @@ use Rattle.edi_session.specs.declared.end.SessionEnd.TheVariants as end
 use Rattle.edi_session.specs.Shell.{Shell, Taken, limited, shell_of, limit}
 use Rattle.edi_session.proofs.Later.{Later}
 use Rattle.edi_shell_calls.specs.Standing.{StandsIn, IsFault}
+use Rattle.edi_shell_calls.proofs.Faulted.{of_fault}
 use Rattle.edi_shell.specs.Taking.{GivesNone, Stops}
 
 module _ {C : Type 0} (stands : C → State → Type 0) where
@@ -16,13 +17,7 @@ module _ {C : Type 0} (stands : C → State → Type 0) where
 -- no line is taken where an object has failed on the way to it
 pub fault_stops : {C : Type 0} (at : C → State → ℕ → Type 0) (stands : C → State → Type 0) (e : SessionEnd) (taken : Taken) (c : C)
     → IsFault e → StandsIn stands (shell_of taken) c → Stops at stands e taken c
-fault_stops at stands end.Halted taken c f st = absurd f
-fault_stops at stands end.InputEnd taken c f st = absurd f
-fault_stops at stands end.Limit taken c f st = absurd f
-fault_stops at stands end.DriveFault taken c f st = st
-fault_stops at stands end.InputFault taken c f st = st
-fault_stops at stands end.TerminalFault taken c f st = st
-fault_stops at stands end.PrinterFault taken c f st = st
+fault_stops at stands e taken c fault st = of_fault (λ x. Stops at stands x taken c) st st st st e fault
 
 -- no byte is taken, and so neither a line nor a text
 pub nothing_stops : {C : Type 0} (at : C → State → ℕ → Type 0) (stands : C → State → Type 0) (s : Shell) (taken : Taken) (e : SessionEnd) (c : C)

@@ -1,10 +1,10 @@
 -- Words of contracts. What is taken of the input, and where the object stands then.
-use Rattle.std.specs.Prelude.{◌≡◌, ℕ, ◌+◌, Bool, true, false, nat_le, List, [], ◌∷◌, length, take, Option, Some, None, Result, Ok, Err}
+use Rattle.std.specs.Prelude.{◌≡◌, ◌++◌, ℕ, ◌+◌, Bool, true, false, nat_le, List, [], ◌∷◌, length, take, Option, Some, None, Result, Ok, Err}
 use Rattle.edi_calls.specs.declared.ends.Outside.{Outside}
 use Rattle.edi_calls.specs.State.{State}
 use Rattle.edi_session.specs.declared.end.SessionEnd.{SessionEnd}
 use Rattle.edi_session.specs.declared.end.SessionEnd.TheVariants as end
-use Rattle.edi_session.specs.Shell.{Shell, Taken, took, ended, limited, shell_of, limit, state_in, took_byte, ends_text}
+use Rattle.edi_session.specs.Shell.{Shell, Taken, took, ended, limited, shell_of, limit, state_in, took_byte, ends_text, take_line}
 use Rattle.edi_shell_calls.specs.Standing.{At, StandsIn, failed_by}
 
 -- So many bytes of a text have been taken, so many of them are its whole lines, and this tells whether the line behind them is the
@@ -13,6 +13,16 @@ pub record IsSoFar (count whole : ℕ) (dot : Bool) (text line : List ℕ) : Typ
   pub all : count ≡ length text + length line
   pub lines_ : whole ≡ length text
   pub ends : dot ≡ ends_text line
+
+-- So much of a line has been taken: from here on the rest comes to what the whole does. Its first bytes are kept, `most` of them, and
+-- so many bytes have been taken in the session.
+pub record LineUnderway {C : Type 0} (at : C → State → ℕ → Type 0) (echo : Bool) (most : ℕ) (whole : Taken) (kept : List ℕ) (count : ℕ) (c : C) : Type 0 where
+  pub now : Shell
+  pub line : List ℕ
+  pub comes : take_line echo (state_in now).input line now ≡ whole
+  pub kept_is : kept ≡ take most line
+  pub taken_is : now.taken ≡ count
+  pub at_ : At at c now
 
 module _ {C : Type 0} (ready : C → Type 0) (failed : C → Option Outside) where
   -- a further call may be made, unless an object has failed
@@ -62,6 +72,13 @@ module _ {C : Type 0} (at : C → State → ℕ → Type 0) (stands : C → Stat
   GivesLine most (Ok x) (took bytes s) kept count c = (kept ≡ take most bytes) × (s.taken ≡ count) × At at c s
   GivesLine most (Ok x) _ kept count c = ⊥
   GivesLine most (Err e) taken kept count c = Stops e taken c
+
+  -- A further byte of a line is taken, of which the first are kept, or the line has ended and is taken.
+  abbrev pub GivesMore : (echo : Bool) → (most : ℕ) → Result (Option ℕ) SessionEnd → Taken → (kept : List ℕ) → (count : ℕ) → C → Type 0
+  GivesMore echo most (Ok (Some byte)) taken kept count c =
+      (more : List ℕ) → more ≡ take most (kept ++ byte ∷ []) → LineUnderway at echo most taken more count c
+  GivesMore echo most (Ok None) taken kept count c = GivesLine most (Ok tt) taken kept count c
+  GivesMore echo most (Err e) taken kept count c = Stops e taken c
 
   -- A text is taken, of so many bytes. The room has the first of them, and so many bytes have been taken in the session.
   abbrev pub GivesText : Result ℕ SessionEnd → Taken → (room : List ℕ) → (count : ℕ) → C → Type 0

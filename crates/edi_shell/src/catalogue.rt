@@ -8,15 +8,14 @@ ghost use Rattle.edi_shell_calls.specs.Standing.{At, IsLeft, Leads};
 ghost use Rattle.edi_shell.specs.Files.{slot_line};
 
 use crate::saying::say;
-use edi_session::SessionEnd;
-use edi_shell_calls::ShellCalls;
+use edi_shell_calls::{OrEnd, ShellCalls};
 use edi_shell_lines::{entry_line, free_line};
 
 /// The slots of a catalogue.
 const SLOTS: usize = 256;
 
 // The line of slot `i`, where it has a file.
-fn list_slot<C: ShellCalls>(calls: &mut C, i: usize) -> Result<(), SessionEnd>
+fn list_slot<C: ShellCalls>(calls: &mut C, i: usize) -> OrEnd<()>
     requires ready { C.ready calls.old }
     ensures exact { (s : Shell) → At C.at calls.old s → C.tells calls.new → Leads C.at C.stands result (shown_by (slot_line (slot_at (state_in s).slots i)) s)
         calls.new }
@@ -30,7 +29,7 @@ fn list_slot<C: ShellCalls>(calls: &mut C, i: usize) -> Result<(), SessionEnd>
 }
 
 /// `list`
-pub fn list_files<C: ShellCalls>(calls: &mut C) -> Result<(), SessionEnd>
+pub fn list_files<C: ShellCalls>(calls: &mut C) -> OrEnd<()>
     requires ready { C.ready calls.old }
     ensures exact { (s : Shell) → At C.at calls.old s → C.tells calls.new → Leads C.at C.stands result (shown_by (catalogue_text (state_in s)) s) calls.new }
     ensures left { IsLeft C.ready C.failed result calls.new }

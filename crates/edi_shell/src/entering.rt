@@ -17,7 +17,7 @@ use edi_calls::FileKind;
 use edi_catalog::CatEnd;
 use edi_image::Title;
 use edi_session::SessionEnd;
-use edi_shell_calls::ShellCalls;
+use edi_shell_calls::{OrEnd, ShellCalls};
 
 const LINE_FEED: u8 = 10;
 
@@ -69,11 +69,7 @@ fn keep_byte(room: &mut [u8], at: u32, byte: u8)
 
 // Takes lines up to a line `.`, and gives how many bytes they have with their line feeds. The first of them stand in `room`, as
 // many as it has room for.
-fn take_text<C: ShellCalls>(
-    calls: &mut C,
-    taken: &mut u32,
-    room: &mut [u8],
-) -> Result<u32, SessionEnd>
+fn take_text<C: ShellCalls>(calls: &mut C, taken: &mut u32, room: &mut [u8]) -> OrEnd<u32>
     requires ready { C.ready calls.old }
     requires limit { taken.old ≤ LIMIT }
     ensures exact { (s : Shell) → s.taken ≡ taken.old → At C.at calls.old s → C.tells calls.new →
@@ -116,7 +112,7 @@ fn is_protected<C: ShellCalls>(calls: &C, f: &Title) -> bool
 }
 
 // Shows why a text of so many bytes, which are too many for a file, is not stored as `f`.
-fn refuse_large<C: ShellCalls>(calls: &mut C, f: &Title, bytes: u32) -> Result<(), SessionEnd>
+fn refuse_large<C: ShellCalls>(calls: &mut C, f: &Title, bytes: u32) -> OrEnd<()>
     requires ready { C.ready calls.old }
     requires large { most_bytes < bytes }
     ensures exact { (s : Shell) (text : List ℕ) → length text ≡ bytes → At C.at calls.old s → C.tells calls.new →
@@ -137,7 +133,7 @@ pub fn enter_file<C: ShellCalls>(
     taken: &mut u32,
     f: &Title,
     room: &mut [u8],
-) -> Result<(), SessionEnd>
+) -> OrEnd<()>
     requires ready { C.ready calls.old }
     requires limit { taken.old ≤ LIMIT }
     requires room { most_bytes ≤ length room.old }

@@ -1,6 +1,6 @@
 //! The commands that change files.
 
-ghost use Rattle.std.specs.Prelude.{◌≡◌, ◌<◌, ◌^◌, true, false, length};
+ghost use Rattle.std.specs.Prelude.{◌≡◌, ◌<◌, ◌^◌, length};
 ghost use Rattle.edi_session.specs.Files.{deletes, protects, renames, stores};
 ghost use Rattle.edi_session.specs.Shell.{Shell};
 ghost use Rattle.edi_shell_calls.specs.Standing.{At, IsLeft, Leads};
@@ -8,8 +8,7 @@ ghost use Rattle.edi_shell_calls.specs.Standing.{At, IsLeft, Leads};
 use crate::saying::answer;
 use edi_calls::FileKind;
 use edi_image::Title;
-use edi_session::SessionEnd;
-use edi_shell_calls::ShellCalls;
+use edi_shell_calls::{OrEnd, ShellCalls};
 
 /// Stores bytes as a file, or shows why not.
 pub fn store_file<C: ShellCalls>(
@@ -17,7 +16,7 @@ pub fn store_file<C: ShellCalls>(
     title: &Title,
     kind: FileKind,
     bytes: &[u8],
-) -> Result<(), SessionEnd>
+) -> OrEnd<()>
     requires ready { C.ready calls.old }
     requires size { length bytes.now < 2 ^ 32 }
     ensures exact { (s : Shell) → At C.at calls.old s → C.tells calls.new → Leads C.at C.stands result (stores title.now kind bytes.now s) calls.new }
@@ -29,7 +28,7 @@ pub fn store_file<C: ShellCalls>(
 }
 
 /// `delete f`
-pub fn delete_file<C: ShellCalls>(calls: &mut C, f: &Title) -> Result<(), SessionEnd>
+pub fn delete_file<C: ShellCalls>(calls: &mut C, f: &Title) -> OrEnd<()>
     requires ready { C.ready calls.old }
     ensures exact { (s : Shell) → At C.at calls.old s → C.tells calls.new → Leads C.at C.stands result (deletes f.now s) calls.new }
     ensures left { IsLeft C.ready C.failed result calls.new }
@@ -40,7 +39,7 @@ pub fn delete_file<C: ShellCalls>(calls: &mut C, f: &Title) -> Result<(), Sessio
 }
 
 /// `rename f g`
-pub fn rename_file<C: ShellCalls>(calls: &mut C, f: &Title, g: &Title) -> Result<(), SessionEnd>
+pub fn rename_file<C: ShellCalls>(calls: &mut C, f: &Title, g: &Title) -> OrEnd<()>
     requires ready { C.ready calls.old }
     ensures exact { (s : Shell) → At C.at calls.old s → C.tells calls.new → Leads C.at C.stands result (renames f.now g.now s) calls.new }
     ensures left { IsLeft C.ready C.failed result calls.new }
@@ -50,24 +49,13 @@ pub fn rename_file<C: ShellCalls>(calls: &mut C, f: &Title, g: &Title) -> Result
     answer(calls, f, g, renamed)
 }
 
-/// `protect f`
-pub fn protect_file<C: ShellCalls>(calls: &mut C, f: &Title) -> Result<(), SessionEnd>
+/// `protect f`, or `release f` where the file is not to be protected.
+pub fn protect_file<C: ShellCalls>(calls: &mut C, f: &Title, protected: bool) -> OrEnd<()>
     requires ready { C.ready calls.old }
-    ensures exact { (s : Shell) → At C.at calls.old s → C.tells calls.new → Leads C.at C.stands result (protects true f.now s) calls.new }
+    ensures exact { (s : Shell) → At C.at calls.old s → C.tells calls.new → Leads C.at C.stands result (protects protected f.now s) calls.new }
     ensures left { IsLeft C.ready C.failed result calls.new }
     ensures lasts { C.lasts calls.old calls.new }
 {
-    let protected = calls.protect(f);
-    answer(calls, f, f, protected)
-}
-
-/// `release f`
-pub fn release_file<C: ShellCalls>(calls: &mut C, f: &Title) -> Result<(), SessionEnd>
-    requires ready { C.ready calls.old }
-    ensures exact { (s : Shell) → At C.at calls.old s → C.tells calls.new → Leads C.at C.stands result (protects false f.now s) calls.new }
-    ensures left { IsLeft C.ready C.failed result calls.new }
-    ensures lasts { C.lasts calls.old calls.new }
-{
-    let released = calls.release(f);
-    answer(calls, f, f, released)
+    let done = calls.protect(f, protected);
+    answer(calls, f, f, done)
 }

@@ -12,8 +12,7 @@ use crate::saying::say;
 use edi_calls::FileKind;
 use edi_catalog::Entry;
 use edi_image::Title;
-use edi_session::SessionEnd;
-use edi_shell_calls::ShellCalls;
+use edi_shell_calls::{OrEnd, ShellCalls};
 use edi_shell_lines::about;
 
 // What is said of a file of another kind than the one that is asked for, if one is.
@@ -33,7 +32,7 @@ pub fn open<C: ShellCalls>(
     calls: &mut C,
     f: &Title,
     wanted: Option<FileKind>,
-) -> Result<Option<Entry>, SessionEnd>
+) -> OrEnd<Option<Entry>>
     requires ready { C.ready calls.old }
     ensures exact { (s : Shell) → At C.at calls.old s → C.tells calls.new → Opens C.at C.stands result wanted (file_in s f.now) f.now s calls.new }
     ensures left { IsLeft C.ready C.failed result calls.new }
@@ -57,7 +56,7 @@ pub fn read_file<C: ShellCalls>(
     f: &Title,
     wanted: Option<FileKind>,
     room: &mut [u8],
-) -> Result<Option<(FileKind, usize)>, SessionEnd>
+) -> OrEnd<Option<(FileKind, usize)>>
     requires ready { C.ready calls.old }
     requires room { most_bytes ≤ length room.old }
     ensures exact { (s : Shell) → At C.at calls.old s → C.tells calls.new → Reads C.at C.stands result wanted (file_in s f.now) f.now room.new s calls.new }
@@ -75,7 +74,7 @@ pub fn read_file<C: ShellCalls>(
 }
 
 /// `type f`
-pub fn show_file<C: ShellCalls>(calls: &mut C, f: &Title, room: &mut [u8]) -> Result<(), SessionEnd>
+pub fn show_file<C: ShellCalls>(calls: &mut C, f: &Title, room: &mut [u8]) -> OrEnd<()>
     requires ready { C.ready calls.old }
     requires room { most_bytes ≤ length room.old }
     ensures exact { (s : Shell) → At C.at calls.old s → C.tells calls.new →
@@ -92,11 +91,7 @@ pub fn show_file<C: ShellCalls>(calls: &mut C, f: &Title, room: &mut [u8]) -> Re
 }
 
 /// `print f`
-pub fn print_file<C: ShellCalls>(
-    calls: &mut C,
-    f: &Title,
-    room: &mut [u8],
-) -> Result<(), SessionEnd>
+pub fn print_file<C: ShellCalls>(calls: &mut C, f: &Title, room: &mut [u8]) -> OrEnd<()>
     requires ready { C.ready calls.old }
     requires room { most_bytes ≤ length room.old }
     ensures exact { (s : Shell) → At C.at calls.old s → C.tells calls.new →
@@ -112,12 +107,7 @@ pub fn print_file<C: ShellCalls>(
 }
 
 /// `copy f g`
-pub fn copy_file<C: ShellCalls>(
-    calls: &mut C,
-    f: &Title,
-    g: &Title,
-    room: &mut [u8],
-) -> Result<(), SessionEnd>
+pub fn copy_file<C: ShellCalls>(calls: &mut C, f: &Title, g: &Title, room: &mut [u8]) -> OrEnd<()>
     requires ready { C.ready calls.old }
     requires room { most_bytes ≤ length room.old }
     ensures exact { (s : Shell) → At C.at calls.old s → C.tells calls.new →

@@ -11,11 +11,11 @@ ghost use Rattle.edi_shell_calls.specs.Standing.{Answers, At, IsLeft, IsLeftBy, 
 use edi_catalog::CatEnd;
 use edi_image::Title;
 use edi_session::SessionEnd;
-use edi_shell_calls::ShellCalls;
+use edi_shell_calls::{OrEnd, ShellCalls};
 use edi_shell_lines::{Shown, change_refusal};
 
 /// Shows a line with its line feed.
-pub fn say<C: ShellCalls>(calls: &mut C, line: &Shown) -> Result<(), SessionEnd>
+pub fn say<C: ShellCalls>(calls: &mut C, line: &Shown) -> OrEnd<()>
     requires ready { C.ready calls.old }
     ensures exact { (s : Shell) → At C.at calls.old s → C.tells calls.new → Leads C.at C.stands result (shown_by line.now.items s) calls.new }
     ensures left { IsLeft C.ready C.failed result calls.new }
@@ -30,7 +30,7 @@ pub(crate) fn answer<C: ShellCalls>(
     f: &Title,
     g: &Title,
     answer: Result<(), CatEnd>,
-) -> Result<(), SessionEnd>
+) -> OrEnd<()>
     requires left { IsLeftBy C.ready C.failed answer calls.old }
     ensures exact { (s : Shell) (refusal : Option CatEnd) (wanted : List (Option File)) → Answers C.at C.stands answer refusal wanted s calls.old
         → C.tells calls.new →

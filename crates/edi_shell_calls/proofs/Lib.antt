@@ -1,3 +1,5 @@
 pub mod Steps
 pub mod Told
 pub mod Executed
+pub mod Faulted
+pub mod Pages

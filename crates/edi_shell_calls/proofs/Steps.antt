@@ -50,30 +50,20 @@ module _ (f : List ℕ → Course → Course) (more : State → List ℕ → Sta
     behind = λ part now x y alike is. ap fresh is ∙ opens x part ∙ ap (λ s. more s part) alike ∙ sym (opens now part);
   }
 
--- ---- the terminal
+-- ---- the terminal and the printer
 
 abbrev pub more_shown : State → List ℕ → State
 more_shown s bytes = record s { shown = s.shown ++ bytes }
 
-shown_none : (s : State) → more_shown s [] ≡ s
-shown_none s = ap (λ xs. record s { shown = xs }) (append-nil s.shown)
-
-shown_two : (s : State) (xs ys : List ℕ) → more_shown (more_shown s xs) ys ≡ more_shown s (xs ++ ys)
-shown_two s xs ys = ap (λ zs. record s { shown = zs }) (append_assoc s.shown xs ys)
-
-pub shows_append : Appends shows more_shown
-shows_append = appends shows more_shown shown_none shown_two (λ s xs. refl) (λ c. refl) (λ b bs c. refl)
-
--- ---- the printer
-
 abbrev pub more_printed : State → List ℕ → State
 more_printed s bytes = record s { printed = s.printed ++ bytes }
 
-printed_none : (s : State) → more_printed s [] ≡ s
-printed_none s = ap (λ xs. record s { printed = xs }) (append-nil s.printed)
-
-printed_two : (s : State) (xs ys : List ℕ) → more_printed (more_printed s xs) ys ≡ more_printed s (xs ++ ys)
-printed_two s xs ys = ap (λ zs. record s { printed = zs }) (append_assoc s.printed xs ys)
+pub shows_append : Appends shows more_shown
+shows_append =
+    appends shows more_shown (λ s. ap (λ xs. record s { shown = xs }) (append-nil s.shown))
+    (λ s xs ys. ap (λ zs. record s { shown = zs }) (append_assoc s.shown xs ys)) (λ s xs. refl) (λ c. refl) (λ b bs c. refl)
 
 pub prints_append : Appends prints more_printed
-prints_append = appends prints more_printed printed_none printed_two (λ s xs. refl) (λ c. refl) (λ b bs c. refl)
+prints_append =
+    appends prints more_printed (λ s. ap (λ xs. record s { printed = xs }) (append-nil s.printed))
+    (λ s xs ys. ap (λ zs. record s { printed = zs }) (append_assoc s.printed xs ys)) (λ s xs. refl) (λ c. refl) (λ b bs c. refl)

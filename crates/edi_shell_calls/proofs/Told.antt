@@ -1,10 +1,9 @@
 -- What the calls of a system say, told by the shells of the definition.
-use Rattle.std.proofs.Common.{◌≡◌, ℕ, ◌+◌, ◌-◌, ◌*◌, ◌<◌, Bool, true, false, List, [], ◌∷◌, length, take, drop, get_or, map, Option, Some, None, Result, Ok}
+use Rattle.std.proofs.Common.{◌≡◌, ℕ, ◌-◌, Bool, true, false, List, [], ◌∷◌, length, take, drop, map, Option, Some, None, Result, Ok}
 use Rattle.std.proofs.Common.{Err, refl, sym, ap, subst, ◌∙◌, arith, inl, inr}
-use Rattle.std.specs.Prelude.{◌==◌, IsSome, IfSome, not, Contains, slice_get, unwrap_or, if◌then◌else◌}
+use Rattle.std.specs.Prelude.{◌==◌, IsSome, IfSome, not, Contains, slice_get, if◌then◌else◌}
 use Rattle.std.specs.Option.{option_map, option_map_or}
-use Rattle.std.proofs.lemmas.List.{take_all, drop_all, ext_get_or, get_or-take, get_or-drop, length-take, length-drop, length-map}
-use Rattle.std.proofs.lemmas.Option.{unwrap_or-slice_get}
+use Rattle.std.proofs.lemmas.List.{take_all, length-map}
 use Rattle.edi_told.specs.Told.{WhereTold}
 use Rattle.edi_host.specs.declared.source.Next.{Next}
 use Rattle.edi_host.specs.declared.source.Next.TheVariants as next
@@ -14,11 +13,12 @@ use Rattle.edi_image.specs.Stored.{StoredFile, stored_of}
 use Rattle.edi_catalog.specs.declared.ends.CatEnd.{CatEnd}
 use Rattle.edi_catalog.specs.declared.ends.CatEnd.TheVariants as cat
 use Rattle.edi_catalog.specs.declared.entry.Entry.{Entry}
-use Rattle.edi_catalog.specs.InSlots.{entry_told}
+use Rattle.edi_catalog.specs.Changes.{file_protected, slots_changed}
+use Rattle.edi_catalog.specs.InSlots.{entry_told, no_such}
 use Rattle.edi_catalog.specs.Mounted.{files_of}
 use Rattle.edi_system.specs.AsCalls.{IsDueFrom, IsDueSince, KeepsDue}
 use Rattle.edi_system.specs.InState as InState
-use Rattle.edi_system.specs.InState.{ReadsWhole, StateAnswer}
+use Rattle.edi_system.specs.InState.{ReadsWhole, StateAnswer, left_open}
 use Rattle.edi_system.specs.Parts.{IsPart, due_after, line_end, ShowsMore, PrintsMore, TakesByte}
 use Rattle.edi_system.specs.State.{IsReady, all_told, catalog_in, drive_in, due_in, input_in, printer_in, state_of, state_with, terminal_in}
 use Rattle.edi_system.specs.declared.system.System.{System}
@@ -28,7 +28,8 @@ use Rattle.edi_session.specs.Files.{file_in}
 use Rattle.edi_session.specs.Shell.{Shell, state_in, shown_by, printed_by, on_fresh_line, shown_in, took_byte}
 use Rattle.edi_session.specs.Texts as texts
 use Rattle.edi_shell_calls.specs.OnSystem.{HasState, StandsAt, taken_by, put_by, read_by, page_by, page_size}
-use Rattle.edi_shell_calls.specs.Standing.{Answers, At, HasRead, Leads, ReadsFile, ReadsPage, StandsIn, Takes, with_slots}
+use Rattle.edi_shell_calls.specs.Standing.{Answers, At, Leads, ReadsFile, ReadsPage, StandsIn, Takes, with_slots}
+use Rattle.edi_shell_calls.proofs.Pages.{counted, page_part}
 use Rattle.edi_shell_calls.proofs.Steps.{Appends, is_now, is_past, more_printed, more_shown, prints_append, shows_append}
 
 -- ---- options
@@ -96,52 +97,6 @@ as_many : (blocks : List (List ℕ)) (files : List (Option StoredFile)) → file
 unfolding slots_of
 as_many blocks files e many =
     length-map (entries_of blocks) (slot_in blocks) ∙ sym (length-map (entries_of blocks) (stored_of blocks)) ∙ ap length (sym e) ∙ many
-
--- ---- pages
-
--- so many bytes of a page of a file
-page_part : (n i : ℕ) (bytes page : List ℕ) → length page ≡ 512 → n ≡ page_size i (length bytes)
-    → ((k : ℕ) → k < 512 → 512 * i + k < length bytes → slice_get page k ≡ slice_get bytes (512 * i + k)) → take n page ≡ take 512 (drop (512 * i) bytes)
-page_part n i bytes page size count same = ext_get_or 0 (take n page) (take 512 (drop (512 * i) bytes)) long each where
-  rest : ℕ
-  rest = length bytes - 512 * i
-
-  long : length (take n page) ≡ length (take 512 (drop (512 * i) bytes))
-  long =
-      let one = length-take n page in
-      let two = length-take 512 (drop (512 * i) bytes) in
-      let three = length-drop (512 * i) bytes in
-      omega (arith, one, two, three, count, size)
-
-  each : (k : ℕ) → k < length (take n page) → get_or (take n page) k 0 ≡ get_or (take 512 (drop (512 * i) bytes)) k 0
-  each k h =
-      let one = length-take n page in
-      let within : k < n = omega (arith, one, h) in
-      let here : k < 512 = omega (arith, within, count) in
-      let there : 512 * i + k < length bytes = omega (arith, within, count) in
-      get_or-take n page k 0 within
-      ∙ sym (unwrap_or-slice_get page k 0) ∙ ap (λ o. unwrap_or o 0) (same k here there) ∙ unwrap_or-slice_get bytes (512 * i + k) 0
-      ∙ sym (get_or-take 512 (drop (512 * i) bytes) k 0 here ∙ get_or-drop (512 * i) bytes k 0)
-
-counted : (file : Option File) (entry : Entry) (n i : ℕ) → option_map entry_told file ≡ Some entry → n ≡ page_size i entry.length
-    → IfSome file (λ f. n ≡ page_size i (length f.bytes))
-counted (Some file) entry n i found count =
-    let same : entry_told file ≡ entry = cc in
-    count ∙ ap (λ e. page_size i e.length) (sym same)
-counted None entry n i found count = tt
-
--- no byte stands behind the last one
-pub nothing_behind : (file : Option File) (entry : Entry) (i : ℕ) (into : List ℕ) → option_map entry_told file ≡ Some entry → page_size i entry.length ≡ 0
-    → HasRead (Some 0) file (λ bytes. take 512 (drop (512 * i) bytes)) into
-nothing_behind (Some file) entry i into found none =
-    let same : entry_told file ≡ entry = cc in
-    let is : page_size i (length file.bytes) ≡ 0 = ap (λ e. page_size i e.length) same ∙ none in
-    ap (take 512) (sym (drop_all (512 * i) file.bytes (omega (arith, is))))
-nothing_behind None entry i into found none = absurd (cc)
-
-pub no_file : (file : Option File) (part : List ℕ → List ℕ) (into : List ℕ) → option_map entry_told file ≡ None → HasRead None file part into
-no_file None part into found = tt
-no_file (Some file) part into found = absurd (cc)
 
 module _ {D S T P : Type 0} (contents : D → Option (List (List ℕ))) (left : S → Option (List ℕ)) (shown : T → Option (List ℕ)) (printed : P → Option (List ℕ))
   where
@@ -242,10 +197,6 @@ module _ {D S T P : Type 0} (contents : D → Option (List (List ℕ))) (left : 
           stands_in new s p.after (state_in s) p.is
           (ap fresh p.so.1 ∙ ap (λ (i : List ℕ). record (fresh p.before) { input = i }) p.so.0.1 ∙ p.alike) (is_now s.system)
 
-      pub takes_as : (answer : Next) (result : Result (Option ℕ) SessionEnd) → result ≡ taken_by answer
-          → WhereTold (told old) (told new) (TakesByte answer) → Takes at stands result s new
-      takes_as answer result e so = subst (λ r. Takes at stands r s new) (sym e) (takes answer so)
-
       -- ---- the terminal and the printer
 
       whole_part : (piece : List ℕ) (taken : ℕ) → taken ≡ length piece → take taken piece ≡ piece
@@ -269,19 +220,11 @@ module _ {D S T P : Type 0} (contents : D → Option (List (List ℕ))) (left : 
           let p = pair (ShowsMore done piece) so in
           put_so shows more_shown shows_append done fault piece p.so.taken p.before p.after p.is p.alike p.so.now p.so.part
 
-      pub shows_as : (done : Bool) (fault : SessionEnd) (piece : List ℕ) (result : Result (Unit {0}) SessionEnd) → result ≡ put_by done fault
-          → WhereTold (told old) (told new) (ShowsMore done piece) → Leads at stands result (shown_by piece s) new
-      shows_as done fault piece result e so = subst (λ r. Leads at stands r (shown_by piece s) new) (sym e) (shows_by done fault piece so)
-
       pub prints_by : (done : Bool) (fault : SessionEnd) (piece : List ℕ) → WhereTold (told old) (told new) (PrintsMore done piece)
           → Leads at stands (put_by done fault) (printed_by piece s) new
       prints_by done fault piece so =
           let p = pair (PrintsMore done piece) so in
           put_so prints more_printed prints_append done fault piece p.so.taken p.before p.after p.is p.alike p.so.now p.so.part
-
-      pub prints_as : (done : Bool) (fault : SessionEnd) (piece : List ℕ) (result : Result (Unit {0}) SessionEnd) → result ≡ put_by done fault
-          → WhereTold (told old) (told new) (PrintsMore done piece) → Leads at stands result (printed_by piece s) new
-      prints_as done fault piece result e so = subst (λ r. Leads at stands r (printed_by piece s) new) (sym e) (prints_by done fault piece so)
 
       -- a line feed is shown where the definition has one
       pub freshens : (done : Bool) (fault : SessionEnd) → WhereTold (told old) (told new) (ShowsMore done (line_end (due_in old)))
@@ -295,10 +238,6 @@ module _ {D S T P : Type 0} (contents : D → Option (List (List ℕ))) (left : 
           ap line_end from.is ∙ ap (λ bytes. line_end (due_after false (drop s.shown_before bytes))) (ap (λ x. x.shown) p.alike)
           ∙ same_end (shown_in s) in
           shows_by done fault (texts.line_end (shown_in s)) (subst (λ piece. WhereTold (told old) (told new) (ShowsMore done piece)) same so)
-
-      pub freshens_as : (done : Bool) (fault : SessionEnd) (result : Result (Unit {0}) SessionEnd) → result ≡ put_by done fault
-          → WhereTold (told old) (told new) (ShowsMore done (line_end (due_in old))) → Leads at stands result (on_fresh_line s) new
-      freshens_as done fault result e so = subst (λ r. Leads at stands r (on_fresh_line s) new) (sym e) (freshens done fault so)
 
       -- ---- reading files
 
@@ -409,3 +348,12 @@ module _ {D S T P : Type 0} (contents : D → Option (List (List ℕ))) (left : 
         answers (Err (cat.TooLarge n)) so = let p = pair (Answer (Err (cat.TooLarge n))) so in unchanged (cat.TooLarge n) p.before p.after p.is p.alike p.so
         answers (Err cat.CatalogFull) so = let p = pair (Answer (Err cat.CatalogFull)) so in unchanged cat.CatalogFull p.before p.after p.is p.alike p.so
         answers (Err (cat.Full w f)) so = let p = pair (Answer (Err (cat.Full w f))) so in unchanged (cat.Full w f) p.before p.after p.is p.alike p.so
+
+      -- protection is given or taken
+      pub protects : (on : Bool) (title : List ℕ) (result : Result (Unit {0}) CatEnd) → WhereTold (told old) (told new)
+          (λ before after. StateAnswer result (no_such (find_file before.slots title)) (slots_changed (file_protected on) title before.slots) left_open
+          before after)
+          → Answers at stands result (no_such (file_in s title)) (slots_changed (file_protected on) title (state_in s).slots) s new
+      protects on title result so =
+          answers (λ (x : State). no_such (find_file x.slots title)) (λ (x : State). slots_changed (file_protected on) title x.slots) left_open
+          (λ x. refl) (λ x. refl) (λ x slots. refl) result so

@@ -10,7 +10,6 @@ ghost use Rattle.edi_catalog.specs.Storing.{slots_stored};
 ghost use Rattle.edi_session.specs.Files.{file_in};
 ghost use Rattle.edi_session.specs.Shell.{Shell, on_fresh_line, printed_by, shown_by, state_in};
 ghost use Rattle.edi_shell_calls.specs.Standing.{Answers, At, IsLeft, IsLeftBy, Leads, Runs, ReadsFile, ReadsPage, Takes};
-ghost use Rattle.std.specs.Prelude.{true, false};
 
 use edi_calls::FileKind;
 use edi_catalog::{CatEnd, Entry};
@@ -19,6 +18,9 @@ use edi_kernel::{Ending, Kernel};
 use edi_session::SessionEnd;
 use edi_target::Code;
 use edi_trace::Choices;
+
+/// What a call gives, or how the session ends there.
+pub type OrEnd<T> = Result<T, SessionEnd>;
 
 /// An object that the shell works on: files, an input, a terminal and a printer, on which programs run.
 ///
@@ -44,28 +46,28 @@ pub trait ShellCalls {
     ghost lasts: { Self → Self → Type 0 };
 
     /// The next byte of the input; none where the input has ended.
-    fn take(&mut self) -> Result<Option<u8>, SessionEnd>
+    fn take(&mut self) -> OrEnd<Option<u8>>
         requires ready { ready self.old }
         ensures exact { (s : Shell) → At at self.old s → tells self.new → Takes at stands result s self.new }
         ensures left { IsLeft ready failed result self.new }
         ensures lasts { lasts self.old self.new };
 
     /// Shows these bytes.
-    fn show(&mut self, bytes: &[u8]) -> Result<(), SessionEnd>
+    fn show(&mut self, bytes: &[u8]) -> OrEnd<()>
         requires ready { ready self.old }
         ensures exact { (s : Shell) → At at self.old s → tells self.new → Leads at stands result (shown_by bytes.now s) self.new }
         ensures left { IsLeft ready failed result self.new }
         ensures lasts { lasts self.old self.new };
 
     /// Prints these bytes.
-    fn print_out(&mut self, bytes: &[u8]) -> Result<(), SessionEnd>
+    fn print_out(&mut self, bytes: &[u8]) -> OrEnd<()>
         requires ready { ready self.old }
         ensures exact { (s : Shell) → At at self.old s → tells self.new → Leads at stands result (printed_by bytes.now s) self.new }
         ensures left { IsLeft ready failed result self.new }
         ensures lasts { lasts self.old self.new };
 
     /// Shows a line feed where a line was begun on the terminal and is not ended.
-    fn fresh_line(&mut self) -> Result<(), SessionEnd>
+    fn fresh_line(&mut self) -> OrEnd<()>
         requires ready { ready self.old }
         ensures exact { (s : Shell) → At at self.old s → tells self.new → Leads at stands result (on_fresh_line s) self.new }
         ensures left { IsLeft ready failed result self.new }
@@ -89,7 +91,7 @@ pub trait ShellCalls {
 
     /// Reads a whole file into `into`, which has room for 261,120 bytes, and gives the number of its bytes; none where no file has
     /// the title. What stands in `into` beyond them is open.
-    fn read_into(&mut self, title: &Title, into: &mut [u8]) -> Result<Option<usize>, SessionEnd>
+    fn read_into(&mut self, title: &Title, into: &mut [u8]) -> OrEnd<Option<usize>>
         requires ready { ready self.old }
         requires room { most_bytes ≤ length into.old }
         ensures exact { (s : Shell) → At at self.old s → tells self.new → ReadsFile at stands result (file_in s title.now) into.new s self.new }
@@ -99,12 +101,7 @@ pub trait ShellCalls {
 
     /// Reads page `i` of a file, counted from 0, and gives the number of its bytes, 0 where the file has no such page; none where
     /// no file has the title. What stands in `into` beyond them is open.
-    fn read_page(
-        &mut self,
-        title: &Title,
-        i: u32,
-        into: &mut [u8; 512],
-    ) -> Result<Option<usize>, SessionEnd>
+    fn read_page(&mut self, title: &Title, i: u32, into: &mut [u8; 512]) -> OrEnd<Option<usize>>
         requires ready { ready self.old }
         ensures exact { (s : Shell) → At at self.old s → tells self.new → ReadsPage at stands result (file_in s title.now) i into.new s self.new }
         ensures within { IfOk result (λ read. IfSome read (λ n. n ≤ 512)) }
@@ -138,19 +135,11 @@ pub trait ShellCalls {
         ensures left { IsLeftBy ready failed result self.new }
         ensures lasts { lasts self.old self.new };
 
-    /// Protects the file with this title.
-    fn protect(&mut self, title: &Title) -> Result<(), CatEnd>
+    /// Protects the file with this title, or takes its protection.
+    fn protect(&mut self, title: &Title, protected: bool) -> Result<(), CatEnd>
         requires ready { ready self.old }
         ensures exact { (s : Shell) → At at self.old s → tells self.new →
-            Answers at stands result (no_such (file_in s title.now)) (slots_changed (file_protected true) title.now (state_in s).slots) s self.new }
-        ensures left { IsLeftBy ready failed result self.new }
-        ensures lasts { lasts self.old self.new };
-
-    /// Takes the protection from the file with this title.
-    fn release(&mut self, title: &Title) -> Result<(), CatEnd>
-        requires ready { ready self.old }
-        ensures exact { (s : Shell) → At at self.old s → tells self.new →
-            Answers at stands result (no_such (file_in s title.now)) (slots_changed (file_protected false) title.now (state_in s).slots) s self.new }
+            Answers at stands result (no_such (file_in s title.now)) (slots_changed (file_protected protected) title.now (state_in s).slots) s self.new }
         ensures left { IsLeftBy ready failed result self.new }
         ensures lasts { lasts self.old self.new };
 
@@ -161,7 +150,7 @@ pub trait ShellCalls {
         code: &Code,
         bound: u64,
         choices: &mut Choices,
-    ) -> Result<Ending, SessionEnd>
+    ) -> OrEnd<Ending>
         requires ready { ready self.old }
         ensures exact { choices.old.drawn + bound < 2 ^ 64 → (s : Shell) → s.drawn ≡ choices.old.drawn → At at self.old s → tells self.new →
             Runs at stands code.now bound choices.old.source result choices.new.drawn s self.new }

@@ -4,4 +4,4 @@
 mod calls;
 mod on_system;
 
-pub use calls::ShellCalls;
+pub use calls::{OrEnd, ShellCalls};

@@ -3,7 +3,7 @@
 ghost use Rattle.std.specs.Prelude.{◌≡◌};
 ghost use Rattle.edi_shell_calls.specs.OnSystem as on_system;
 
-use crate::calls::ShellCalls;
+use crate::calls::{OrEnd, ShellCalls};
 use edi_calls::{FileKind, Outside};
 use edi_catalog::{CatEnd, Entry};
 use edi_execute::execute;
@@ -18,7 +18,7 @@ use edi_trace::Choices;
 /// The bytes of a page.
 const PAGE: u64 = 512;
 
-fn taken_by(next: Next) -> Result<Option<u8>, SessionEnd>
+fn taken_by(next: Next) -> OrEnd<Option<u8>>
     ensures { result ≡ on_system.taken_by next }
 {
     match next {
@@ -28,13 +28,13 @@ fn taken_by(next: Next) -> Result<Option<u8>, SessionEnd>
     }
 }
 
-fn put_by(done: bool, fault: SessionEnd) -> Result<(), SessionEnd>
+fn put_by(done: bool, fault: SessionEnd) -> OrEnd<()>
     ensures { result ≡ on_system.put_by done fault }
 {
     if done { Ok(()) } else { Err(fault) }
 }
 
-fn read_by(answer: Result<u32, CatEnd>) -> Result<Option<usize>, SessionEnd>
+fn read_by(answer: Result<u32, CatEnd>) -> OrEnd<Option<usize>>
     ensures { result ≡ on_system.read_by answer }
 {
     match answer {
@@ -44,7 +44,7 @@ fn read_by(answer: Result<u32, CatEnd>) -> Result<Option<usize>, SessionEnd>
     }
 }
 
-fn page_by(answer: Result<(), CatEnd>, size: usize) -> Result<Option<usize>, SessionEnd>
+fn page_by(answer: Result<(), CatEnd>, size: usize) -> OrEnd<Option<usize>>
     ensures { result ≡ on_system.page_by size answer }
 {
     match answer {
@@ -100,19 +100,19 @@ impl<'d, 'c, 'i, 't, 'p, 'b, D: Drive, S: Source, T: Sink, P: Sink> ShellCalls
 
     ghost lasts_told = { told_before D.contents D.count S.left T.taken P.taken D.faults S.faults T.faults P.faults };
 
-    fn take(&mut self) -> Result<Option<u8>, SessionEnd> {
+    fn take(&mut self) -> OrEnd<Option<u8>> {
         taken_by(System::take(self))
     }
 
-    fn show(&mut self, bytes: &[u8]) -> Result<(), SessionEnd> {
+    fn show(&mut self, bytes: &[u8]) -> OrEnd<()> {
         put_by(System::show(self, bytes), SessionEnd::TerminalFault)
     }
 
-    fn print_out(&mut self, bytes: &[u8]) -> Result<(), SessionEnd> {
+    fn print_out(&mut self, bytes: &[u8]) -> OrEnd<()> {
         put_by(System::print_out(self, bytes), SessionEnd::PrinterFault)
     }
 
-    fn fresh_line(&mut self) -> Result<(), SessionEnd> {
+    fn fresh_line(&mut self) -> OrEnd<()> {
         put_by(System::fresh_line(self), SessionEnd::TerminalFault)
     }
 
@@ -128,16 +128,11 @@ impl<'d, 'c, 'i, 't, 'p, 'b, D: Drive, S: Source, T: Sink, P: Sink> ShellCalls
         System::free(self)
     }
 
-    fn read_into(&mut self, title: &Title, into: &mut [u8]) -> Result<Option<usize>, SessionEnd> {
+    fn read_into(&mut self, title: &Title, into: &mut [u8]) -> OrEnd<Option<usize>> {
         read_by(System::read_into(self, title, into))
     }
 
-    fn read_page(
-        &mut self,
-        title: &Title,
-        i: u32,
-        into: &mut [u8; 512],
-    ) -> Result<Option<usize>, SessionEnd> {
+    fn read_page(&mut self, title: &Title, i: u32, into: &mut [u8; 512]) -> OrEnd<Option<usize>> {
         let Some(entry) = System::find(self, title) else {
             return Ok(None);
         };
@@ -160,11 +155,10 @@ impl<'d, 'c, 'i, 't, 'p, 'b, D: Drive, S: Source, T: Sink, P: Sink> ShellCalls
         System::rename(self, old, new)
     }
 
-    fn protect(&mut self, title: &Title) -> Result<(), CatEnd> {
-        System::protect(self, title)
-    }
-
-    fn release(&mut self, title: &Title) -> Result<(), CatEnd> {
+    fn protect(&mut self, title: &Title, protected: bool) -> Result<(), CatEnd> {
+        if protected {
+            return System::protect(self, title);
+        }
         System::release(self, title)
     }
 
@@ -174,7 +168,7 @@ impl<'d, 'c, 'i, 't, 'p, 'b, D: Drive, S: Source, T: Sink, P: Sink> ShellCalls
         code: &Code,
         bound: u64,
         choices: &mut Choices,
-    ) -> Result<Ending, SessionEnd> {
+    ) -> OrEnd<Ending> {
         let ending = execute(kernel, code, self, bound, choices);
         match self.failed() {
             Some(outside) => Err(fault_of(outside)),

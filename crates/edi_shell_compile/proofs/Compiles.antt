@@ -1,7 +1,7 @@
 -- The compilation of a file is a row of the table.
 use Rattle.std.proofs.Common.{◌≡◌, inl, inr, ℕ, ◌+◌, ◌*◌, ◌<◌, ◌≤◌, Bool, true, false, List, [], ◌∷◌, ◌++◌, length, take, drop, Option, Some, None}
 use Rattle.std.proofs.Common.{refl, sym, ap, subst, ◌∙◌, arith, take-add, take_all}
-use Rattle.std.specs.Prelude.{if◌then◌else◌, nat_lt, Result, Ok, Err, codes}
+use Rattle.std.specs.Prelude.{if◌then◌else◌, nat_lt, Result, codes}
 use Rattle.std.specs.Int.{div_ceil}
 use Rattle.std.proofs.lemmas.Grind.{div_ceil_times}
 use Rattle.edi_calls.specs.State.{File, State, free, most_bytes}
@@ -29,7 +29,7 @@ use Rattle.edi_shell_calls.specs.Standing.{StandsIn, Leads, HasRead}
 use Rattle.edi_shell.specs.Files.{IsOpened, WasRefused, RefusalBroke, refused, refused_kind, wrong}
 use Rattle.edi_shell.proofs.Opening.{some_same}
 use Rattle.edi_shell.specs.Rows.{IsLike, LineGoesOn, LineBreaks, LineDoes}
-use Rattle.edi_shell.proofs.Rows.{drawn_answered, leads_does, like_answered, like_says}
+use Rattle.edi_shell.proofs.Rows.{does_by, drawn_answered, leads_does, like_answered, like_says}
 use Rattle.edi_shell.proofs.Standing.{stands_later}
 
 -- ---- pages
@@ -150,6 +150,14 @@ module _ {C : Type 0} (at : C → State → ℕ → Type 0) (stands : C → Stat
       leads_does at stands (CompilesText text g) s (stores_code g bytes s) result c (inr (inl (code, own, ap (λ b. goes (stores_code g b s)) is)))
       (like_code g bytes s) (drawn_code g bytes s) l
 
+  -- the drive failed in the midst of it
+  pub compiling_broke : (s : Shell) (c : C) → StandsIn stands s c → LineBreaks at stands (CompilesText text g) s c
+  compiling_broke s c st = record {
+    next = goes (says_no_memory s);
+    row = inr (inr refl);
+    in_ = stands_later stands s (says_no_memory s) c (says_on (codes "no memory") s) st;
+  }
+
 module _ {C : Type 0} (at : C → State → ℕ → Type 0) (stands : C → State → Type 0) (f g : List ℕ) where
   pub compile_was_refused : (file : Option File) (s : Shell) (c : C) → WasRefused at stands (Some file_kind.Text) file f s c
       → LineGoesOn at stands (CompilesFile f g file) s s.drawn c
@@ -165,15 +173,5 @@ module _ {C : Type 0} (at : C → State → ℕ → Type 0) (stands : C → Stat
   pub compile_does : (file : Option File) (opened : File) (s : Shell) (result : Result (Unit {0}) SessionEnd) (c : C)
       → IsOpened (Some file_kind.Text) file opened
       → LineDoes at stands (CompilesText opened.bytes g) result s.drawn s c → LineDoes at stands (CompilesFile f g file) result s.drawn s c
-  compile_does file opened s (Ok x) c o d =
-      record { after = d.after; row = compile_opened f g file opened s (goes d.after) o d.row; like = d.like; draws = d.draws; at_ = d.at_ }
-  compile_does file opened s (Err e) c o d = record { next = d.next; row = compile_opened f g file opened s d.next o d.row; in_ = d.in_ }
-
-  -- the drive failed in the midst of it
-  pub compile_broke : (file : Option File) (opened : File) (s : Shell) (c : C) → IsOpened (Some file_kind.Text) file opened → StandsIn stands s c
-      → LineBreaks at stands (CompilesFile f g file) s c
-  compile_broke file opened s c o st = record {
-    next = goes (says_no_memory s);
-    row = compile_opened f g file opened s (goes (says_no_memory s)) o (inr (inr refl));
-    in_ = stands_later stands s (says_no_memory s) c (says_on (codes "no memory") s) st;
-  }
+  compile_does file opened s result c o =
+      does_by at stands (CompilesText opened.bytes g) (CompilesFile f g file) s s.drawn result c (λ next row. compile_opened f g file opened s next o row)

@@ -16,9 +16,8 @@ use edi_calls::FileKind;
 use edi_codefile::pack;
 use edi_compile::Intake;
 use edi_image::Title;
-use edi_session::SessionEnd;
 use edi_shell::{open, say, store_file};
-use edi_shell_calls::ShellCalls;
+use edi_shell_calls::{OrEnd, ShellCalls};
 use edi_shell_lines::{fault_line, plain, with_number};
 use edi_target::Code;
 use edi_texts::Refusal;
@@ -34,7 +33,7 @@ fn feed_file<C: ShellCalls>(
     f: &Title,
     pages: u32,
     intake: &mut Intake,
-) -> Result<bool, SessionEnd>
+) -> OrEnd<bool>
     requires ready { C.ready calls.old }
     requires empty { HasTaken intake.old [] }
     ensures exact { (s : Shell) (file : File) → At C.at calls.old s → C.tells calls.new → file_in s f.now ≡ Some file →
@@ -56,7 +55,7 @@ fn feed_file<C: ShellCalls>(
 }
 
 // Stores the bytes of a code as the file `g`, or shows why not.
-fn store_code<C: ShellCalls>(calls: &mut C, g: &Title, bytes: &[u8]) -> Result<(), SessionEnd>
+fn store_code<C: ShellCalls>(calls: &mut C, g: &Title, bytes: &[u8]) -> OrEnd<()>
     requires ready { C.ready calls.old }
     requires size { length bytes.now < 2 ^ 32 }
     ensures exact { (s : Shell) → At C.at calls.old s → C.tells calls.new → Leads C.at C.stands result (stores_code g.now bytes.now s) calls.new }
@@ -70,12 +69,7 @@ fn store_code<C: ShellCalls>(calls: &mut C, g: &Title, bytes: &[u8]) -> Result<(
 }
 
 // Stores the code as the file `g`, or shows why not.
-fn pack_code<C: ShellCalls>(
-    alloc: Global,
-    calls: &mut C,
-    g: &Title,
-    code: &Code,
-) -> Result<(), SessionEnd>
+fn pack_code<C: ShellCalls>(alloc: Global, calls: &mut C, g: &Title, code: &Code) -> OrEnd<()>
     requires ready { C.ready calls.old }
     ensures exact { (s : Shell) (text : List ℕ) → IsCodeFor text code.now → At C.at calls.old s → C.tells calls.new →
         LineDoes C.at C.stands (CompilesText text g.now) result s.drawn s calls.new }
@@ -89,7 +83,7 @@ fn pack_code<C: ShellCalls>(
 }
 
 // Shows why no code was made of a text.
-fn refuse_text<C: ShellCalls>(calls: &mut C, why: Refusal) -> Result<(), SessionEnd>
+fn refuse_text<C: ShellCalls>(calls: &mut C, why: Refusal) -> OrEnd<()>
     requires ready { C.ready calls.old }
     ensures exact { (s : Shell) (text g : List ℕ) → Gives (IsCodeFor text) text (Err why) → At C.at calls.old s → C.tells calls.new →
         LineDoes C.at C.stands (CompilesText text g) result s.drawn s calls.new }
@@ -103,12 +97,7 @@ fn refuse_text<C: ShellCalls>(calls: &mut C, why: Refusal) -> Result<(), Session
 }
 
 // Shows the fault of the text, or stores its code.
-fn finish_file<C: ShellCalls>(
-    alloc: Global,
-    calls: &mut C,
-    g: &Title,
-    intake: Intake,
-) -> Result<(), SessionEnd>
+fn finish_file<C: ShellCalls>(alloc: Global, calls: &mut C, g: &Title, intake: Intake) -> OrEnd<()>
     requires ready { C.ready calls.old }
     ensures exact { (s : Shell) (text : List ℕ) → HasTaken intake text → At C.at calls.old s → C.tells calls.new →
         LineDoes C.at C.stands (CompilesText text g.now) result s.drawn s calls.new }
@@ -121,13 +110,29 @@ fn finish_file<C: ShellCalls>(
     }
 }
 
-/// `compile f g`
-pub fn compile_file<C: ShellCalls>(
+// Compiles the text that the pages of a file are.
+fn compile_pages<C: ShellCalls>(
     alloc: Global,
     calls: &mut C,
     f: &Title,
     g: &Title,
-) -> Result<(), SessionEnd>
+    pages: u32,
+) -> OrEnd<()>
+    requires ready { C.ready calls.old }
+    ensures exact { (s : Shell) (file : File) → At C.at calls.old s → C.tells calls.new → file_in s f.now ≡ Some file →
+        length file.bytes ≤ 512 * pages → LineDoes C.at C.stands (CompilesText file.bytes g.now) result s.drawn s calls.new }
+    ensures left { IsLeft C.ready C.failed result calls.new }
+    ensures lasts { C.lasts calls.old calls.new }
+{
+    let mut intake = Intake::new(alloc);
+    if !feed_file(alloc, calls, f, pages, &mut intake)? {
+        return say(calls, &plain("no memory"));
+    }
+    finish_file(alloc, calls, g, intake)
+}
+
+/// `compile f g`
+pub fn compile_file<C: ShellCalls>(alloc: Global, calls: &mut C, f: &Title, g: &Title) -> OrEnd<()>
     requires ready { C.ready calls.old }
     ensures exact { (s : Shell) → At C.at calls.old s → C.tells calls.new →
         LineDoes C.at C.stands (CompilesFile f.now g.now (file_in s f.now)) result s.drawn s calls.new }
@@ -137,9 +142,5 @@ pub fn compile_file<C: ShellCalls>(
     let Some(entry) = open(calls, f, Some(FileKind::Text))? else {
         return Ok(());
     };
-    let mut intake = Intake::new(alloc);
-    if !feed_file(alloc, calls, f, entry.length.div_ceil(512), &mut intake)? {
-        return say(calls, &plain("no memory"));
-    }
-    finish_file(alloc, calls, g, intake)
+    compile_pages(alloc, calls, f, g, entry.length.div_ceil(512))
 }

@@ -20,8 +20,8 @@ use Rattle.edi_session.specs.Files.{answered, why_line}
 use Rattle.edi_session.specs.Session.{AfterLine, ChangesLine, TakesBack, Writes, edit_refusal, edits_on, leaves, says_no_memory, written_back}
 use Rattle.edi_session.specs.Shell.{Shell, says, shown_by, state_in}
 use Rattle.edi_session.specs.declared.end.SessionEnd.{SessionEnd}
-use Rattle.edi_session.specs.declared.end.SessionEnd.TheVariants as end
 use Rattle.edi_shell_calls.specs.Standing.{Answers, At, IsFault, IsLeft, StandsIn, with_slots}
+use Rattle.edi_shell_calls.proofs.Faulted.{of_fault}
 use Rattle.edi_shell_edit.specs.Rows.{EditingBreaks, Edits, IsBehindLine, SaysOn, EditingStops}
 use Rattle.std.proofs.lemmas.List.Sums.{sum_by-cons}
 
@@ -46,13 +46,7 @@ follows_itself s = record { taken_is = refl; drawn_is = refl; before_is = refl }
 module _ {C : Type 0} (at : C → State → ℕ → Type 0) (stands : C → State → Type 0) where
   -- an object failed, and so the session stops
   pub broke : (Row : AfterLine → Type 0) (e : SessionEnd) (s : Shell) (c : C) → IsFault e → EditingBreaks at stands Row c → EditingStops at stands e Row s c
-  broke Row end.Halted s c fault b = absurd fault
-  broke Row end.InputEnd s c fault b = absurd fault
-  broke Row end.Limit s c fault b = absurd fault
-  broke Row end.DriveFault s c fault b = b
-  broke Row end.InputFault s c fault b = b
-  broke Row end.TerminalFault s c fault b = b
-  broke Row end.PrinterFault s c fault b = b
+  broke Row e s c fault b = of_fault (λ x. EditingStops at stands x Row s c) b b b b e fault
 
   -- the mode of a shell tells nothing of where an object stands
   breaks : (Row : AfterLine → Type 0) (title : List ℕ) (e : Editing) (t : Shell) (c : C) → Row (edits_on title e t) → StandsIn stands t c

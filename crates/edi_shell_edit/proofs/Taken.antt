@@ -97,35 +97,20 @@ module _ {C : Type 0} (at : C → State → ℕ → Type 0) (stands : C → Stat
       change_comes (refusal (is_index n (length before.lines + 1)) after) n title before (changed before after) t)
       (line_keeps false (state_in s).input [] s).drawn_is h
 
-  pub replaces : (replacing : Bool) (answer : Result (Unit {0}) EditEnd) (n : ℕ) (title line kept : List ℕ) (before now : Editing) (count : ℕ)
-      (result : Result Bool SessionEnd) (s : Shell) (b c : C) → replacing ≡ true → line ≡ kept
-      → EndsBy answer (refusal (is_index n (length before.lines)) (slice_set before.lines (n - 1) line)) (changed before (slice_set before.lines (n - 1) line))
-      before now
-      → GivesLine at stands 261121 (Ok tt) (next_line false s) kept count b
+  -- the line that was taken changes the text, where it is changed in place `there`, or it is shown why not
+  pub line_changes : (there : Bool) (put : List ℕ → List (List ℕ)) (answer : Result (Unit {0}) EditEnd) (n : ℕ) (title line kept : List ℕ)
+      (before now : Editing) (count : ℕ) (result : Result Bool SessionEnd) (s : Shell) (b c : C) → line ≡ kept
+      → EndsBy answer (refusal there (put line)) (changed before (put line)) before now → GivesLine at stands 261121 (Ok tt) (next_line false s) kept count b
       → ((t : Shell) (cause : Option EditEnd) (after : Editing) → EndsBy answer cause after before now → At at b t
       → Edits at stands result (ChangesLine cause n title before after t) t t.taken title now c)
-      → Edits at stands result (EditsBy (puts replacing n) title before s) s count title now c
-  replaces replacing answer n title line kept before now count result s b c is_true same ends g say =
-      subst (λ r. Edits at stands result (EditsBy (puts r n) title before s) s count title now c) (sym is_true)
-      (taking_edits (Replaces n title before) (next_line false s) kept count count result s title now b c (line_keeps false (state_in s).input [] s) g
-      (λ bytes t is taken a. subst (λ m. Edits at stands result (Replaces n title before bytes t) t m title now c) taken
-      (say t _ _ (subst (λ l. EndsBy answer (refusal (is_index n (length before.lines)) (slice_set before.lines (n - 1) l))
-      (changed before (slice_set before.lines (n - 1) l)) before now) (same ∙ is) ends) a)))
-
-  pub inserts : (replacing : Bool) (answer : Result (Unit {0}) EditEnd) (n : ℕ) (title line kept : List ℕ) (before now : Editing) (count : ℕ)
-      (result : Result Bool SessionEnd) (s : Shell) (b c : C) → replacing ≡ false → line ≡ kept
-      → EndsBy answer (refusal (is_index n (length before.lines + 1)) (insert before.lines (n - 1) line)) (changed before (insert before.lines (n - 1) line))
-      before now
-      → GivesLine at stands 261121 (Ok tt) (next_line false s) kept count b
-      → ((t : Shell) (cause : Option EditEnd) (after : Editing) → EndsBy answer cause after before now → At at b t
-      → Edits at stands result (ChangesLine cause n title before after t) t t.taken title now c)
-      → Edits at stands result (EditsBy (puts replacing n) title before s) s count title now c
-  inserts replacing answer n title line kept before now count result s b c is_false same ends g say =
-      subst (λ r. Edits at stands result (EditsBy (puts r n) title before s) s count title now c) (sym is_false)
-      (taking_edits (Inserts n title before) (next_line false s) kept count count result s title now b c (line_keeps false (state_in s).input [] s) g
-      (λ bytes t is taken a. subst (λ m. Edits at stands result (Inserts n title before bytes t) t m title now c) taken
-      (say t _ _ (subst (λ l. EndsBy answer (refusal (is_index n (length before.lines + 1)) (insert before.lines (n - 1) l))
-      (changed before (insert before.lines (n - 1) l)) before now) (same ∙ is) ends) a)))
+      → Edits at stands result (BehindTaken (next_line false s)
+      (λ bytes t. ChangesLine (refusal there (put (kept_line bytes))) n title before (changed before (put (kept_line bytes))) t)) s count title now c
+  line_changes there put answer n title line kept before now count result s b c same ends g say =
+      let Row : List ℕ → Shell → AfterLine → Type 0 =
+      λ bytes t. ChangesLine (refusal there (put (kept_line bytes))) n title before (changed before (put (kept_line bytes))) t in
+      taking_edits Row (next_line false s) kept count count result s title now b c (line_keeps false (state_in s).input [] s) g
+      (λ bytes t is taken a. subst (λ m. Edits at stands result (Row bytes t) t m title now c) taken
+      (say t _ _ (subst (λ l. EndsBy answer (refusal there (put l)) (changed before (put l)) before now) (same ∙ is) ends) a))
 
   -- ---- a line of the editing
 

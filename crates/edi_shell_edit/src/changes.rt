@@ -1,22 +1,18 @@
 //! Changes of the text.
 
 ghost use Rattle.std.specs.Prelude.{◌≡◌, ◌≤◌, ◌++◌, ◌∷◌, [], ℕ, List, Option, false, length, vec_capacity};
-ghost use Rattle.edi_edit.specs.Editing.{Editing, EndsBy};
+ghost use Rattle.edi_shell_edit.specs.Prelude.{Editing, EditsBy, Shell, IsLeftSo, At, IsLeft, Edits, puts};
+ghost use Rattle.edi_edit.specs.Editing.{EndsBy};
 ghost use Rattle.edi_edit.specs.Lines.{has_feed};
 ghost use Rattle.edi_edit.specs.declared.EditEnd.{EditEnd};
-ghost use Rattle.edi_session.specs.Session.{ChangesLine, EditsBy, edit_refusal};
-ghost use Rattle.edi_session.specs.Shell.{Shell};
+ghost use Rattle.edi_session.specs.Session.{ChangesLine, edit_refusal};
 ghost use Rattle.edi_session.specs.declared.line.EditLine.TheVariants as edit;
-ghost use Rattle.edi_shell.specs.Taking.{IsLeftSo};
-ghost use Rattle.edi_shell_calls.specs.Standing.{At, IsLeft};
-ghost use Rattle.edi_shell_edit.specs.Rows.{Edits, puts};
 
 use crate::looking::say_on;
 use crate::taking::{MOST_KEPT, take_line};
 use edi_edit::{EditEnd, Text};
-use edi_session::SessionEnd;
 use edi_shell::LIMIT;
-use edi_shell_calls::ShellCalls;
+use edi_shell_calls::{OrEnd, ShellCalls};
 use edi_shell_lines::{Shown, plain, with_number};
 use std::alloc::Global;
 
@@ -32,11 +28,7 @@ fn edit_refusal(n: u32, why: EditEnd) -> Shown
 }
 
 // Shows why line `n` was not changed, where it was not.
-fn answer_change<C: ShellCalls>(
-    calls: &mut C,
-    n: u32,
-    answer: Result<(), EditEnd>,
-) -> Result<bool, SessionEnd>
+fn answer_change<C: ShellCalls>(calls: &mut C, n: u32, answer: Result<(), EditEnd>) -> OrEnd<bool>
     requires ready { C.ready calls.old }
     ensures exact { (s : Shell) (title : List ℕ) (cause : Option EditEnd) (before after now : Editing) → EndsBy answer cause after before now
         → At C.at calls.old s → C.tells calls.new →
@@ -59,7 +51,7 @@ pub(crate) fn put_line<C: ShellCalls>(
     line: &mut Vec<u8>,
     replacing: bool,
     n: u32,
-) -> Result<bool, SessionEnd>
+) -> OrEnd<bool>
     requires ready { C.ready calls.old }
     requires limit { taken.old ≤ LIMIT }
     requires room { MOST_KEPT ≤ vec_capacity line.old }
@@ -86,7 +78,7 @@ pub(crate) fn delete_line<C: ShellCalls>(
     calls: &mut C,
     text: &mut Text,
     n: u32,
-) -> Result<bool, SessionEnd>
+) -> OrEnd<bool>
     requires ready { C.ready calls.old }
     ensures exact { (s : Shell) (title : List ℕ) → At C.at calls.old s → C.tells calls.new →
         Edits C.at C.stands result (EditsBy (edit.Delete n) title text.old s) s s.taken title text.new calls.new }
@@ -102,7 +94,7 @@ pub(crate) fn undo_change<C: ShellCalls>(
     alloc: Global,
     calls: &mut C,
     text: &mut Text,
-) -> Result<bool, SessionEnd>
+) -> OrEnd<bool>
     requires ready { C.ready calls.old }
     ensures exact { (s : Shell) (title : List ℕ) → At C.at calls.old s → C.tells calls.new →
         Edits C.at C.stands result (EditsBy edit.Undo title text.old s) s s.taken title text.new calls.new }

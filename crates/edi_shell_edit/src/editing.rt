@@ -1,13 +1,9 @@
 //! The lines of an editing.
 
 ghost use Rattle.std.specs.Prelude.{◌≡◌, ◌≤◌, ◌<◌, ℕ, IfOk, vec_capacity};
-ghost use Rattle.edi_calls.specs.Choice.{Choices};
-ghost use Rattle.edi_session.specs.Session.{EditsBy, Goes};
-ghost use Rattle.edi_session.specs.Shell.{Shell, editing};
-ghost use Rattle.edi_shell.specs.Taking.{IsLeftSo};
-ghost use Rattle.edi_shell_calls.specs.Standing.{At};
-ghost use Rattle.edi_shell_edit.specs.Chain.{LinesCome};
-ghost use Rattle.edi_shell_edit.specs.Rows.{Edits};
+ghost use Rattle.edi_shell_edit.specs.Prelude.{Choices, EditsBy, Shell, IsLeftSo, At, LinesCome, Edits};
+ghost use Rattle.edi_session.specs.Session.{Goes};
+ghost use Rattle.edi_session.specs.Shell.{editing};
 
 use crate::changes::{delete_line, put_line, undo_change};
 use crate::looking::{look_at_line, refuse_line};
@@ -15,9 +11,9 @@ use crate::taking::{MOST_KEPT, take_line};
 use crate::writing::write_text;
 use edi_edit::Text;
 use edi_image::Title;
-use edi_session::{EditLine, SessionEnd};
+use edi_session::EditLine;
 use edi_shell::LIMIT;
-use edi_shell_calls::ShellCalls;
+use edi_shell_calls::{OrEnd, ShellCalls};
 use edi_shell_words::edit_line;
 use std::alloc::Global;
 
@@ -30,7 +26,7 @@ fn edit_by<C: ShellCalls>(
     text: &mut Text,
     line: &mut Vec<u8>,
     command: EditLine,
-) -> Result<bool, SessionEnd>
+) -> OrEnd<bool>
     requires ready { C.ready calls.old }
     requires limit { taken.old ≤ LIMIT }
     requires room { MOST_KEPT ≤ vec_capacity line.old }
@@ -62,7 +58,7 @@ fn edit_next<C: ShellCalls>(
     f: &Title,
     text: &mut Text,
     line: &mut Vec<u8>,
-) -> Result<bool, SessionEnd>
+) -> OrEnd<bool>
     requires ready { C.ready calls.old }
     requires limit { taken.old ≤ LIMIT }
     requires room { MOST_KEPT ≤ vec_capacity line.old }
@@ -88,7 +84,7 @@ pub(crate) fn edit_lines<C: ShellCalls>(
     f: &Title,
     text: &mut Text,
     line: &mut Vec<u8>,
-) -> Result<(), SessionEnd>
+) -> OrEnd<()>
     requires ready { C.ready calls.old }
     requires limit { taken.old ≤ LIMIT }
     requires room { MOST_KEPT ≤ vec_capacity line.old }

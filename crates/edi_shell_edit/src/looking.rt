@@ -1,20 +1,15 @@
 //! Lines that change nothing.
 
 ghost use Rattle.std.specs.Prelude.{◌≡◌, ◌++◌, ◌∷◌, [], ℕ, List};
-ghost use Rattle.edi_edit.specs.Editing.{Editing};
-ghost use Rattle.edi_session.specs.Session.{EditsBy};
-ghost use Rattle.edi_session.specs.Shell.{Shell};
+ghost use Rattle.edi_shell_edit.specs.Prelude.{Editing, EditsBy, Shell, At, IsLeft, Edits, SaysOn};
 ghost use Rattle.edi_session.specs.declared.line.EditLine.TheVariants as edit;
-ghost use Rattle.edi_shell_calls.specs.Standing.{At, IsLeft};
-ghost use Rattle.edi_shell_edit.specs.Rows.{Edits, SaysOn};
 
 use edi_edit::Text;
-use edi_session::SessionEnd;
-use edi_shell_calls::ShellCalls;
+use edi_shell_calls::{OrEnd, ShellCalls};
 use edi_shell_lines::with_number;
 
 /// Shows these bytes, and tells that the editing is not left.
-pub(crate) fn say_on<C: ShellCalls>(calls: &mut C, bytes: &[u8]) -> Result<bool, SessionEnd>
+pub(crate) fn say_on<C: ShellCalls>(calls: &mut C, bytes: &[u8]) -> OrEnd<bool>
     requires ready { C.ready calls.old }
     ensures exact { (s : Shell) → At C.at calls.old s → C.tells calls.new → SaysOn C.at C.stands result bytes.now s calls.new }
     ensures left { IsLeft C.ready C.failed result calls.new }
@@ -27,7 +22,7 @@ pub(crate) fn say_on<C: ShellCalls>(calls: &mut C, bytes: &[u8]) -> Result<bool,
 }
 
 // Shows a line of the text, and its line feed.
-fn show_line<C: ShellCalls>(calls: &mut C, line: &[u8]) -> Result<bool, SessionEnd>
+fn show_line<C: ShellCalls>(calls: &mut C, line: &[u8]) -> OrEnd<bool>
     requires ready { C.ready calls.old }
     ensures exact { (s : Shell) → At C.at calls.old s → C.tells calls.new → SaysOn C.at C.stands result (line.now ++ 10 ∷ []) s calls.new }
     ensures left { IsLeft C.ready C.failed result calls.new }
@@ -38,11 +33,7 @@ fn show_line<C: ShellCalls>(calls: &mut C, line: &[u8]) -> Result<bool, SessionE
 }
 
 /// `l N`: shows line `n`, or that there is none.
-pub(crate) fn look_at_line<C: ShellCalls>(
-    calls: &mut C,
-    text: &Text,
-    n: u32,
-) -> Result<bool, SessionEnd>
+pub(crate) fn look_at_line<C: ShellCalls>(calls: &mut C, text: &Text, n: u32) -> OrEnd<bool>
     requires ready { C.ready calls.old }
     ensures exact { (s : Shell) (title : List ℕ) → At C.at calls.old s → C.tells calls.new →
         Edits C.at C.stands result (EditsBy (edit.Look n) title text.now s) s s.taken title text.now calls.new }
@@ -56,7 +47,7 @@ pub(crate) fn look_at_line<C: ShellCalls>(
 }
 
 /// Shows that a line is none of an editing.
-pub(crate) fn refuse_line<C: ShellCalls>(calls: &mut C) -> Result<bool, SessionEnd>
+pub(crate) fn refuse_line<C: ShellCalls>(calls: &mut C) -> OrEnd<bool>
     requires ready { C.ready calls.old }
     ensures exact { (s : Shell) (title : List ℕ) (e : Editing) → At C.at calls.old s → C.tells calls.new →
         Edits C.at C.stands result (EditsBy edit.Bad title e s) s s.taken title e calls.new }

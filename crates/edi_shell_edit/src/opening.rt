@@ -1,35 +1,26 @@
 //! The command `edit f`.
 
 ghost use Rattle.std.specs.Prelude.{◌≡◌, ◌≤◌, ℕ, IfOk, IfSome, length};
-ghost use Rattle.edi_calls.specs.Choice.{Choices};
+ghost use Rattle.edi_shell_edit.specs.Prelude.{Choices, Shell, IsLeftSo, At, IsLeft, LinesCome, OpensText};
 ghost use Rattle.edi_calls.specs.State.{most_bytes};
 ghost use Rattle.edi_edit.specs.Lines.{lines_of};
 ghost use Rattle.edi_session.specs.Files.{file_in};
 ghost use Rattle.edi_session.specs.Session.{BeginsEditing, EditsFile};
-ghost use Rattle.edi_session.specs.Shell.{Shell, commanding};
-ghost use Rattle.edi_shell.specs.Taking.{IsLeftSo};
-ghost use Rattle.edi_shell_calls.specs.Standing.{At, IsLeft};
-ghost use Rattle.edi_shell_edit.specs.Chain.{LinesCome};
-ghost use Rattle.edi_shell_edit.specs.Rows.{OpensText};
+ghost use Rattle.edi_session.specs.Shell.{commanding};
 
 use crate::editing::edit_lines;
 use crate::taking::MOST_KEPT;
 use edi_calls::FileKind;
 use edi_edit::Text;
 use edi_image::Title;
-use edi_session::SessionEnd;
 use edi_shell::LIMIT;
-use edi_shell_calls::ShellCalls;
+use edi_shell_calls::{OrEnd, ShellCalls};
 use edi_shell_lines::about;
 use std::alloc::Global;
 
 // Reads the text of the file `f` into `room`, and gives the number of its bytes, 0 where there is no such file; where the file is
 // not a text, shows that.
-fn open_text<C: ShellCalls>(
-    calls: &mut C,
-    f: &Title,
-    room: &mut [u8],
-) -> Result<Option<usize>, SessionEnd>
+fn open_text<C: ShellCalls>(calls: &mut C, f: &Title, room: &mut [u8]) -> OrEnd<Option<usize>>
     requires ready { C.ready calls.old }
     requires room { most_bytes ≤ length room.old }
     ensures exact { (s : Shell) → At C.at calls.old s → C.tells calls.new →
@@ -57,7 +48,7 @@ fn edit_bytes<C: ShellCalls>(
     taken: &mut u32,
     f: &Title,
     bytes: &[u8],
-) -> Result<(), SessionEnd>
+) -> OrEnd<()>
     requires ready { C.ready calls.old }
     requires limit { taken.old ≤ LIMIT }
     requires short { length bytes.now ≤ most_bytes }
@@ -89,7 +80,7 @@ pub fn edit_file<C: ShellCalls>(
     taken: &mut u32,
     f: &Title,
     room: &mut [u8],
-) -> Result<(), SessionEnd>
+) -> OrEnd<()>
     requires ready { C.ready calls.old }
     requires limit { taken.old ≤ LIMIT }
     requires room { most_bytes ≤ length room.old }

@@ -1,19 +1,16 @@
 //! Taking the lines of an editing.
 
 ghost use Rattle.std.specs.Prelude.{◌≡◌, ◌≤◌, ◌<◌, ◌++◌, ◌∷◌, [], IfOk, false, length, take, vec_capacity};
+ghost use Rattle.edi_shell_edit.specs.Prelude.{Shell, IsLeftSo, At};
 ghost use Rattle.edi_edit.specs.Lines.{has_feed};
-ghost use Rattle.edi_session.specs.Shell.{Shell, next_line};
-ghost use Rattle.edi_shell.specs.Taking.{GivesLine, IsLeftSo};
-ghost use Rattle.edi_shell_calls.specs.Standing.{At};
+ghost use Rattle.edi_session.specs.Shell.{next_line};
+ghost use Rattle.edi_shell.specs.Taking.{GivesLine};
 
-use edi_session::SessionEnd;
-use edi_shell::{LIMIT, next_byte};
-use edi_shell_calls::ShellCalls;
+use edi_shell::{LIMIT, next_of_line};
+use edi_shell_calls::{OrEnd, ShellCalls};
 
 /// So many bytes of a line of an editing are kept, one more than a text may have.
 pub(crate) const MOST_KEPT: usize = 261_121;
-
-const LINE_FEED: u8 = 10;
 
 // Keeps a byte of a line, of a longer line the first 261,121 alone.
 fn keep_byte(line: &mut Vec<u8>, byte: u8)
@@ -33,7 +30,7 @@ pub(crate) fn take_line<C: ShellCalls>(
     calls: &mut C,
     taken: &mut u32,
     line: &mut Vec<u8>,
-) -> Result<(), SessionEnd>
+) -> OrEnd<()>
     requires ready { C.ready calls.old }
     requires limit { taken.old ≤ LIMIT }
     requires room { MOST_KEPT ≤ vec_capacity line.old }
@@ -50,15 +47,9 @@ pub(crate) fn take_line<C: ShellCalls>(
 {
     line.clear();
     'bytes: loop {
-        let Some(byte) = next_byte(calls, taken)? else {
-            if line.is_empty() {
-                return Err(SessionEnd::InputEnd);
-            }
+        let Some(byte) = next_of_line(calls, taken, false, line.is_empty())? else {
             return Ok(());
         };
-        if byte == LINE_FEED {
-            return Ok(());
-        }
         keep_byte(line, byte);
     }
 }

@@ -1,11 +1,8 @@
 //! Storing the text.
 
 ghost use Rattle.std.specs.Prelude.{◌≡◌};
-ghost use Rattle.edi_session.specs.Session.{EditsBy};
-ghost use Rattle.edi_session.specs.Shell.{Shell};
+ghost use Rattle.edi_shell_edit.specs.Prelude.{EditsBy, Shell, At, IsLeft, Edits};
 ghost use Rattle.edi_session.specs.declared.line.EditLine.TheVariants as edit;
-ghost use Rattle.edi_shell_calls.specs.Standing.{At, IsLeft};
-ghost use Rattle.edi_shell_edit.specs.Rows.{Edits};
 
 use crate::looking::say_on;
 use edi_calls::FileKind;
@@ -13,7 +10,7 @@ use edi_catalog::CatEnd;
 use edi_edit::Text;
 use edi_image::Title;
 use edi_session::SessionEnd;
-use edi_shell_calls::ShellCalls;
+use edi_shell_calls::{OrEnd, ShellCalls};
 use edi_shell_lines::change_refusal;
 use std::alloc::Global;
 
@@ -23,7 +20,7 @@ pub(crate) fn write_text<C: ShellCalls>(
     calls: &mut C,
     f: &Title,
     text: &Text,
-) -> Result<bool, SessionEnd>
+) -> OrEnd<bool>
     requires ready { C.ready calls.old }
     ensures exact { (s : Shell) → At C.at calls.old s → C.tells calls.new →
         Edits C.at C.stands result (EditsBy edit.Write f.now text.now s) s s.taken f.now text.now calls.new }

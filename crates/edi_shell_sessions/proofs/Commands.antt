@@ -1,38 +1,27 @@
 -- What a command comes to.
-use Rattle.std.proofs.Common.{◌≡◌, ℕ, Option, refl, ◌∙◌}
+use Rattle.std.proofs.Common.{◌≡◌, ℕ, List, Option, refl, ◌∙◌}
 use Rattle.std.specs.Prelude.{Result, Ok, Err}
 use Rattle.edi_calls.specs.declared.ends.Outside.{Outside}
 use Rattle.edi_calls.specs.Choice.{Choices}
 use Rattle.edi_calls.specs.State.{State}
 use Rattle.edi_session.specs.declared.end.SessionEnd.{SessionEnd}
 use Rattle.edi_session.specs.declared.end.SessionEnd.TheVariants as end
-use Rattle.edi_session.specs.Session.{AfterLine, goes, closes}
+use Rattle.edi_session.specs.declared.line.Line.{Line}
+use Rattle.edi_session.specs.declared.line.Line.TheVariants as line
+use Rattle.edi_session.specs.Session.{ActsBy, AfterLine, goes, closes}
 use Rattle.edi_session.specs.Shell.{Shell}
 use Rattle.edi_shell_calls.specs.Standing.{IsLeft, Leads}
 use Rattle.edi_shell.specs.Rows.{LineDoes, LineDoesOrEnds}
 use Rattle.edi_shell_edit.specs.Chain.{LinesCome}
 use Rattle.edi_shell_sessions.specs.Ends.{Awaits}
-use Rattle.edi_shell_sessions.proofs.Kept.{IsAlike}
+use Rattle.edi_shell_sessions.specs.Done.{done_by}
+use Rattle.edi_shell_sessions.proofs.Kept.{IsAlike, alike_done}
 use Rattle.edi_shell_sessions.proofs.Onward.{breaks_by}
 
 module _ (bound : ℕ) (choices : Choices) {C : Type 0} (ready : C → Type 0) (failed : C → Option Outside) (at : C → State → ℕ → Type 0)
     (stands : C → State → Type 0) where
-  -- nothing is done
-  pub stays : (s : Shell) (taken drawn : ℕ) (c : C) → Awaits at s taken drawn c
-      → LinesCome bound choices at stands (λ next. next ≡ goes s) (Ok tt) s taken drawn c
-  stays s taken drawn c w = record {
-    after = s;
-    lines_ = 0;
-    comes = refl;
-    mode_is = w.mode_is;
-    before_is = refl;
-    taken_is = w.taken_is;
-    drawn_is = w.drawn_is;
-    at_ = w.at_;
-  }
-
   -- the object was led to the shell that the row has
-  pub leads_comes : (Row : AfterLine → Type 0) (result : Result (Unit {0}) SessionEnd) (s t : Shell) (taken drawn : ℕ) (c c' : C) → Row (goes t) → IsAlike s t
+  leads_comes : (Row : AfterLine → Type 0) (result : Result (Unit {0}) SessionEnd) (s t : Shell) (taken drawn : ℕ) (c c' : C) → Row (goes t) → IsAlike s t
       → Awaits at s taken drawn c → IsLeft ready failed result c' → Leads at stands result t c'
       → LinesCome bound choices at stands Row result s taken drawn c'
   leads_comes Row (Ok x) s t taken drawn c c' row like w left l = record {
@@ -47,6 +36,31 @@ module _ (bound : ℕ) (choices : Choices) {C : Type 0} (ready : C → Type 0) (
   }
   leads_comes Row (Err e) s t taken drawn c c' row like w left l =
       breaks_by bound choices at stands Row e s taken drawn c' left.0 (record { next = goes t; lines_ = 0; comes = row; in_ = l })
+
+  -- a command that takes no further line, makes no code and runs none
+  pub done_comes : (l : Line) (result : Result (Unit {0}) SessionEnd) (s : Shell) (taken drawn : ℕ) (c c' : C) → ((f : List ℕ) → l ≡ line.Enter f → ⊥)
+      → ((f g : List ℕ) → l ≡ line.Compile f g → ⊥) → ((f : List ℕ) → l ≡ line.Edit f → ⊥) → (l ≡ line.Halt → ⊥) → ((f : List ℕ) → l ≡ line.Execute f → ⊥)
+      → Awaits at s taken drawn c → IsLeft ready failed result c' → Leads at stands result (done_by l s) c'
+      → LinesCome bound choices at stands (ActsBy bound choices l s) result s taken drawn c'
+  done_comes l result s taken drawn c c' enter compile edit halt execute w left h =
+      leads_comes (ActsBy bound choices l s) result s (done_by l s) taken drawn c c' (acts l enter compile edit halt execute) (alike_done l s) w left h where
+        acts : (l : Line) → ((f : List ℕ) → l ≡ line.Enter f → ⊥) → ((f g : List ℕ) → l ≡ line.Compile f g → ⊥) → ((f : List ℕ) → l ≡ line.Edit f → ⊥)
+            → (l ≡ line.Halt → ⊥) → ((f : List ℕ) → l ≡ line.Execute f → ⊥) → ActsBy bound choices l s (goes (done_by l s))
+        acts line.Blank enter compile edit halt execute = refl
+        acts line.Bad enter compile edit halt execute = refl
+        acts line.Catalogue enter compile edit halt execute = refl
+        acts (line.Show f) enter compile edit halt execute = refl
+        acts (line.Print f) enter compile edit halt execute = refl
+        acts (line.Copy f g) enter compile edit halt execute = refl
+        acts (line.Rename f g) enter compile edit halt execute = refl
+        acts (line.Delete f) enter compile edit halt execute = refl
+        acts (line.Protect f) enter compile edit halt execute = refl
+        acts (line.Release f) enter compile edit halt execute = refl
+        acts (line.Enter f) enter compile edit halt execute = absurd (enter f refl)
+        acts (line.Compile f g) enter compile edit halt execute = absurd (compile f g refl)
+        acts (line.Edit f) enter compile edit halt execute = absurd (edit f refl)
+        acts line.Halt enter compile edit halt execute = absurd (halt refl)
+        acts (line.Execute f) enter compile edit halt execute = absurd (execute f refl)
 
   -- the object was led to something that the row has
   pub does_comes : (Row : Shell → AfterLine → Type 0) (result : Result (Unit {0}) SessionEnd) (s : Shell) (taken drawn drawn' : ℕ) (c c' : C)

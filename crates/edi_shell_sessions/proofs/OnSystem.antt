@@ -1,5 +1,5 @@
 -- A session on a system.
-use Rattle.std.proofs.Common.{◌≡◌, ℕ, true, false, List, [], ◌∷◌, Option, Some, None, refl, sym, subst, ◌∙◌, inl, inr}
+use Rattle.std.proofs.Common.{◌≡◌, ℕ, true, false, List, Option, Some, None, refl, sym, subst, ◌∙◌, inl, inr}
 use Rattle.std.specs.Prelude.{IsSome}
 use Rattle.edi_told.specs.Faults.{CountRose}
 use Rattle.edi_told.specs.Told.{WhereTold}
@@ -10,6 +10,7 @@ use Rattle.edi_calls.specs.State.{State}
 use Rattle.edi_session.specs.declared.end.SessionEnd.{SessionEnd}
 use Rattle.edi_session.specs.declared.end.SessionEnd.TheVariants as end
 use Rattle.edi_session.specs.Shell.{Shell}
+use Rattle.edi_execute.proofs.Executing.{run_keeps}
 use Rattle.edi_system.specs.Ends.{Blames, Keeps}
 use Rattle.edi_system.specs.State.{failed_in, faults_of}
 use Rattle.edi_system.specs.declared.system.System.{System}
@@ -58,11 +59,6 @@ module _ (bound : ℕ) (choices : Choices) {C E : Type 0} (at : C → State → 
 
 -- ---- what the calls of a session keep
 
--- the references one by one
-six_same : (a b c d e f a' b' c' d' e' f' : ℕ) → a' ∷ b' ∷ c' ∷ d' ∷ e' ∷ f' ∷ [] ≡ a ∷ b ∷ c ∷ d ∷ e ∷ f ∷ []
-    → (a' ≡ a) × (b' ≡ b) × (c' ≡ c) × (d' ≡ d) × (e' ≡ e) × (f' ≡ f)
-six_same a b c d e f a' b' c' d' e' f' same = (cc, cc, cc, cc, cc, cc)
-
 module _ {D S T P : Type 0} (contents : D → Option (List (List ℕ))) (count : D → ℕ) (left : S → Option (List ℕ)) (shown : T → Option (List ℕ))
     (printed : P → Option (List ℕ)) (drive : D → ℕ) (input : S → ℕ) (terminal : T → ℕ) (printer : P → ℕ) (before after : System D S T P)
     (none : failed_in before ≡ None) (lasts : SystemLasts contents count left shown printed drive input terminal printer before after) where
@@ -86,15 +82,6 @@ module _ {D S T P : Type 0} (contents : D → Option (List (List ℕ))) (count :
 
   pub keeps_all : (e : SessionEnd) → failed_in after ≡ failed_by e → Keeps drive input terminal printer (ends_by_fault e) before after
   keeps_all e is =
-      let each = six_same _ _ _ _ _ _ _ _ _ _ _ _ lasts.references in
-      record {
-        same_drive = each.0;
-        same_room = each.1;
-        same_input = each.2;
-        same_terminal = each.3;
-        same_printer = each.4;
-        same_buffer = each.5;
-        later = lasts.later;
-        blame = subst (λ o. Blames (ends_by_fault e) o (faults_of drive input terminal printer before) (faults_of drive input terminal printer after)) (sym is)
-            (blamed e is);
-      }
+      run_keeps drive input terminal printer (ends_by_fault e) before after lasts.references lasts.later
+      (subst (λ o. Blames (ends_by_fault e) o (faults_of drive input terminal printer before) (faults_of drive input terminal printer after)) (sym is)
+      (blamed e is))

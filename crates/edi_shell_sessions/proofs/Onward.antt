@@ -8,6 +8,7 @@ use Rattle.edi_session.specs.declared.end.SessionEnd.TheVariants as end
 use Rattle.edi_session.specs.Session.{AfterLine, goes, closes, ComesTo, Goes}
 use Rattle.edi_session.specs.Shell.{Shell}
 use Rattle.edi_shell_calls.specs.Standing.{IsFault}
+use Rattle.edi_shell_calls.proofs.Faulted.{of_fault}
 use Rattle.edi_shell_edit.specs.Chain.{LinesBreakOff, LinesClose, LinesCome}
 use Rattle.edi_shell_edit.proofs.Chains.{chain_by}
 
@@ -26,13 +27,8 @@ module _ (bound : ℕ) (choices : Choices) where
   module _ {C : Type 0} (at : C → State → ℕ → Type 0) (stands : C → State → Type 0) where
     pub breaks_by : (Row : AfterLine → Type 0) (e : SessionEnd) (s : Shell) (taken drawn : ℕ) (c : C) → IsFault e
         → LinesBreakOff bound choices at stands Row c → LinesCome bound choices at stands Row (Err e) s taken drawn c
-    breaks_by Row end.Halted s taken drawn c f h = absurd f
-    breaks_by Row end.InputEnd s taken drawn c f h = absurd f
-    breaks_by Row end.Limit s taken drawn c f h = absurd f
-    breaks_by Row end.DriveFault s taken drawn c f h = h
-    breaks_by Row end.InputFault s taken drawn c f h = h
-    breaks_by Row end.TerminalFault s taken drawn c f h = h
-    breaks_by Row end.PrinterFault s taken drawn c f h = h
+    breaks_by Row e s taken drawn c fault h =
+        of_fault (λ x. LinesCome bound choices at stands Row (Err x) s taken drawn c) h h h h e fault
 
     closes_by : (Row Other : AfterLine → Type 0) (e : SessionEnd) (drawn : ℕ) (c : C) → ((next : AfterLine) → Row next → Other next)
         → LinesClose bound choices at stands Row e drawn c → LinesClose bound choices at stands Other e drawn c

@@ -9,6 +9,7 @@ use Rattle.edi_session.specs.declared.end.SessionEnd.TheVariants as end
 use Rattle.edi_session.specs.Session.{goes, closes, ComesTo, Goes}
 use Rattle.edi_session.specs.Shell.{Shell, on_fresh_line}
 use Rattle.edi_shell_calls.specs.Standing.{At, IsFault, StandsIn}
+use Rattle.edi_shell_calls.proofs.Faulted.{of_fault}
 use Rattle.edi_shell_edit.specs.Chain.{LinesBreakOff, LinesClose, LinesCome}
 use Rattle.edi_shell_sessions.specs.Ends.{Awaits, ends_by_fault, SessionEnds, SessionHasEnded, SessionHasFailed, SessionIsToEnd, SessionStops}
 use Rattle.edi_shell_sessions.proofs.Failing.{by_end, by_fault, ended_so, failed_so}
@@ -145,18 +146,9 @@ module _ (bound : ℕ) (choices : Choices) {C : Type 0} (at : C → State → �
       → ((t : Shell) → At at c t → StandsIn stands (on_fresh_line t) c') → SessionHasFailed bound choices at stands start c'
   unclosed_by start e drawn c c' f h broke = unclosed start e drawn c c' broke (to_end start e drawn c f h)
 
-  of_fault : (start : Shell) (fault : SessionEnd) (drawn : ℕ) (c : C) → IsFault fault → SessionHasFailed bound choices at stands start c
-      → SessionEnds bound choices at stands start fault drawn c
-  of_fault start end.Halted drawn c f h = absurd f
-  of_fault start end.InputEnd drawn c f h = absurd f
-  of_fault start end.Limit drawn c f h = absurd f
-  of_fault start end.DriveFault drawn c f h = h
-  of_fault start end.InputFault drawn c f h = h
-  of_fault start end.TerminalFault drawn c f h = h
-  of_fault start end.PrinterFault drawn c f h = h
-
   -- and the terminal failed in it
   pub ends_unclosed : (start : Shell) (e fault : SessionEnd) (drawn : ℕ) (c c' : C) → ends_by_fault e ≡ false → IsFault fault
       → SessionStops bound choices at stands start e drawn c → ((t : Shell) → At at c t → StandsIn stands (on_fresh_line t) c')
       → SessionEnds bound choices at stands start fault drawn c'
-  ends_unclosed start e fault drawn c c' f is h broke = of_fault start fault drawn c' is (unclosed_by start e drawn c c' f h broke)
+  ends_unclosed start e fault drawn c c' f is h broke =
+      let u = unclosed_by start e drawn c c' f h broke in of_fault (λ x. SessionEnds bound choices at stands start x drawn c') u u u u fault is

@@ -20,10 +20,7 @@ abbrev pub ends_by_fault : SessionEnd → Bool
 ends_by_fault end.Halted = false
 ends_by_fault end.InputEnd = false
 ends_by_fault end.Limit = false
-ends_by_fault end.DriveFault = true
-ends_by_fault end.InputFault = true
-ends_by_fault end.TerminalFault = true
-ends_by_fault end.PrinterFault = true
+ends_by_fault _ = true
 
 -- it has failed so, or else it has ended
 abbrev pub ByFault : (fault : Bool) → (Ended Failed : Type 0) → Type 0

@@ -1,24 +1,47 @@
 //! What a command does.
 
 ghost use Rattle.std.specs.Prelude.{◌≡◌, ◌≤◌, ◌<◌, ◌+◌, ◌^◌, length};
-ghost use Rattle.edi_calls.specs.State.{most_bytes};
+ghost use Rattle.edi_shell_sessions.specs.Prelude.{most_bytes, Shell, IsLeftSo, LinesCome, Awaits};
 ghost use Rattle.edi_session.specs.Session.{ActsBy};
-ghost use Rattle.edi_session.specs.Shell.{Shell};
-ghost use Rattle.edi_shell.specs.Taking.{IsLeftSo};
-ghost use Rattle.edi_shell_edit.specs.Chain.{LinesCome};
-ghost use Rattle.edi_shell_sessions.specs.Ends.{Awaits};
+ghost use Rattle.edi_shell_calls.specs.Standing.{At, IsLeft, Leads};
+ghost use Rattle.edi_shell_sessions.specs.Done.{done_by};
 
 use edi_kernel::Kernel;
 use edi_session::{Line, SessionEnd};
 use edi_shell::{
     LIMIT, copy_file, delete_file, enter_file, execute_file, list_files, print_file, protect_file,
-    release_file, rename_file, show_file,
+    rename_file, show_file,
 };
-use edi_shell_calls::ShellCalls;
+use edi_shell_calls::{OrEnd, ShellCalls};
 use edi_shell_compile::compile_file;
 use edi_shell_edit::edit_file;
 use edi_trace::Choices;
 use std::alloc::Global;
+
+// What a command does that takes no further line, makes no code and runs none; nothing for the others.
+fn act_at_once<C: ShellCalls>(calls: &mut C, line: Line, room: &mut [u8]) -> OrEnd<()>
+    requires ready { C.ready calls.old }
+    requires room { most_bytes ≤ length room.old }
+    ensures exact { (s : Shell) → At C.at calls.old s → C.tells calls.new → Leads C.at C.stands result (done_by line s) calls.new }
+    ensures left { IsLeft C.ready C.failed result calls.new }
+    ensures lasts { C.lasts calls.old calls.new }
+{
+    match line {
+        Line::Bad => calls.show(b"bad command\n"),
+        Line::Catalogue => list_files(calls),
+        Line::Show(f) => show_file(calls, &f, room),
+        Line::Print(f) => print_file(calls, &f, room),
+        Line::Copy(f, g) => copy_file(calls, &f, &g, room),
+        Line::Rename(f, g) => rename_file(calls, &f, &g),
+        Line::Delete(f) => delete_file(calls, &f),
+        Line::Protect(f) => protect_file(calls, &f, true),
+        Line::Release(f) => protect_file(calls, &f, false),
+        Line::Blank => Ok(()),
+        Line::Enter(_) | Line::Compile(_, _) | Line::Edit(_) | Line::Halt | Line::Execute(_) => Ok(
+            (),
+        ),
+    }
+}
 
 /// What a command does, with the further lines that it takes.
 pub(crate) fn act<C: ShellCalls>(
@@ -30,7 +53,7 @@ pub(crate) fn act<C: ShellCalls>(
     room: &mut [u8],
     bound: u64,
     choices: &mut Choices,
-) -> Result<(), SessionEnd>
+) -> OrEnd<()>
     requires ready { C.ready calls.old }
     requires limit { taken.old ≤ LIMIT }
     requires room { most_bytes ≤ length room.old }
@@ -44,20 +67,11 @@ pub(crate) fn act<C: ShellCalls>(
     ensures lasts { C.lasts calls.old calls.new }
 {
     match line {
-        Line::Blank => Ok(()),
-        Line::Bad => calls.show(b"bad command\n"),
-        Line::Catalogue => list_files(calls),
-        Line::Show(f) => show_file(calls, &f, room),
-        Line::Print(f) => print_file(calls, &f, room),
         Line::Enter(f) => enter_file(calls, taken, &f, room),
-        Line::Copy(f, g) => copy_file(calls, &f, &g, room),
-        Line::Rename(f, g) => rename_file(calls, &f, &g),
-        Line::Delete(f) => delete_file(calls, &f),
-        Line::Protect(f) => protect_file(calls, &f),
-        Line::Release(f) => release_file(calls, &f),
         Line::Compile(f, g) => compile_file(alloc, calls, &f, &g),
         Line::Edit(f) => edit_file(alloc, calls, taken, &f, room),
         Line::Halt => Err(SessionEnd::Halted),
         Line::Execute(f) => execute_file(alloc, calls, &f, kernel, room, bound, choices),
+        _ => act_at_once(calls, line, room),
     }
 }

@@ -1,19 +1,15 @@
 //! A command line, from its prompt on, and the end of a session.
 
 ghost use Rattle.std.specs.Prelude.{◌≡◌, ◌≤◌, ◌<◌, ◌+◌, ◌-◌, ◌*◌, ◌^◌, ℕ, IfOk, length};
+ghost use Rattle.edi_shell_sessions.specs.Prelude.{most_bytes, Shell, IsLeftSo, Stays, LinesCome, Awaits, ends_by_fault, SessionEnds, SessionStops};
 ghost use Rattle.edi_calls.specs.Choice as choice;
-ghost use Rattle.edi_calls.specs.State.{most_bytes};
 ghost use Rattle.edi_session.specs.Session.{Goes};
-ghost use Rattle.edi_session.specs.Shell.{Shell};
-ghost use Rattle.edi_shell.specs.Taking.{IsLeftSo, Stays};
-ghost use Rattle.edi_shell_edit.specs.Chain.{LinesCome};
-ghost use Rattle.edi_shell_sessions.specs.Ends.{Awaits, ends_by_fault, SessionEnds, SessionStops};
 
 use crate::acting::act;
 use edi_kernel::Kernel;
 use edi_session::SessionEnd;
 use edi_shell::{LIMIT, LineBytes, take_command};
-use edi_shell_calls::ShellCalls;
+use edi_shell_calls::{OrEnd, ShellCalls};
 use edi_shell_words::command_line;
 use edi_trace::Choices;
 use std::alloc::Global;
@@ -27,7 +23,7 @@ pub(crate) fn command<C: ShellCalls>(
     room: &mut [u8],
     bound: u64,
     choices: &mut Choices,
-) -> Result<(), SessionEnd>
+) -> OrEnd<()>
     requires ready { C.ready calls.old }
     requires limit { taken.old ≤ LIMIT }
     requires room { most_bytes ≤ length room.old }

@@ -1,10 +1,7 @@
 //! A session.
 
 ghost use Rattle.std.specs.Prelude.{◌≡◌, ◌≤◌, ◌<◌, ◌+◌, ◌*◌, ◌^◌, length};
-ghost use Rattle.edi_calls.specs.State.{most_bytes};
-ghost use Rattle.edi_session.specs.Shell.{Shell};
-ghost use Rattle.edi_shell.specs.Taking.{Stays};
-ghost use Rattle.edi_shell_sessions.specs.Ends.{Awaits, SessionEnds};
+ghost use Rattle.edi_shell_sessions.specs.Prelude.{most_bytes, Shell, Stays, Awaits, SessionEnds};
 
 use crate::commanding::{close, command};
 use edi_kernel::Kernel;

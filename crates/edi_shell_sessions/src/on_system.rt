@@ -1,11 +1,7 @@
 //! A session on a system.
 
 ghost use Rattle.std.specs.Prelude.{◌≡◌, ◌≤◌, ◌<◌, ◌+◌, ◌*◌, ◌^◌, ℕ, length};
-ghost use Rattle.edi_told.specs.Told.{WhereTold};
-ghost use Rattle.edi_calls.specs.State.{most_bytes};
-ghost use Rattle.edi_session.specs.Shell.{session_on};
-ghost use Rattle.edi_shell_calls.specs.Standing.{failed_by};
-ghost use Rattle.edi_shell_sessions.specs.Ends.{ends_by_fault, SessionLeaves};
+ghost use Rattle.edi_shell_sessions.specs.Prelude.{WhereTold, most_bytes, session_on, failed_by, ends_by_fault, SessionLeaves};
 ghost use Rattle.edi_system.specs.AsCalls.{IsDueSince, KeepsDue};
 ghost use Rattle.edi_system.specs.Ends.{Keeps};
 ghost use Rattle.edi_system.specs.Parts.{KeepsTold};

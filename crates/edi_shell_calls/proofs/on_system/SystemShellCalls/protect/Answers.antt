@@ -1,14 +1,15 @@
-use Rattle.std.proofs.Common.{refl, true}
-use Rattle.edi_calls.specs.State.{State, find_file}
-use Rattle.edi_catalog.specs.Changes.{file_protected, slots_changed}
-use Rattle.edi_catalog.specs.InSlots.{no_such}
-use Rattle.edi_system.specs.InState.{left_open}
-use Rattle.edi_shell_calls.proofs.Told.{answers}
+use Rattle.std.proofs.Common.{false, true}
+use Rattle.edi_shell_calls.proofs.Told.{protects}
 use Rattle.edi_shell_calls.proofs.on_system.SystemShellCalls.protect.Goals as goal
+
+pub returns-then-protected-clause-exact : goal.returns-then-protected-clause-exact
+returns-then-protected-clause-exact g c = λ s at tells.
+    rw c.if-protected.true
+    (protects g.D.Drive.contents g.S.Source.left g.T.Sink.taken g.P.Sink.taken c.args.self.now c.protect.new.self s at tells c.protect.ensures.due
+    true c.args.title.now c.protect.result c.protect.ensures.exact)
 
 pub returns-clause-exact : goal.returns-clause-exact
 returns-clause-exact g c = λ s at tells.
-    answers g.D.Drive.contents g.S.Source.left g.T.Sink.taken g.P.Sink.taken c.args.self.now c.protect.new.self s at tells c.protect.ensures.due
-    (λ (x : State). no_such (find_file x.slots c.args.title.now)) (λ (x : State). slots_changed (file_protected true) c.args.title.now x.slots) left_open
-    (λ x. refl) (λ x. refl) (λ x slots. refl)
-    c.protect.result c.protect.ensures.exact
+    rw c.if-protected.false
+    (protects g.D.Drive.contents g.S.Source.left g.T.Sink.taken g.P.Sink.taken c.args.self.now c.release.new.self s at tells c.release.ensures.due
+    false c.args.title.now c.release.result c.release.ensures.exact)

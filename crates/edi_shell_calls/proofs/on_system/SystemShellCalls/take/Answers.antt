@@ -1,7 +1,8 @@
-use Rattle.edi_shell_calls.proofs.Told.{takes_as}
+use Rattle.edi_shell_calls.proofs.Told.{takes}
 use Rattle.edi_shell_calls.proofs.on_system.SystemShellCalls.take.Goals as goal
 
 pub returns-clause-exact : goal.returns-clause-exact
 returns-clause-exact g c = λ s at tells.
-    takes_as g.D.Drive.contents g.S.Source.left g.T.Sink.taken g.P.Sink.taken c.args.self.now c.take.new.self s at tells c.take.ensures.due
-    c.take.result _ c.taken_by.ensures c.take.ensures.exact
+    rw c.taken_by.ensures
+    (takes g.D.Drive.contents g.S.Source.left g.T.Sink.taken g.P.Sink.taken c.args.self.now c.take.new.self s at tells c.take.ensures.due
+    c.take.result c.take.ensures.exact)
