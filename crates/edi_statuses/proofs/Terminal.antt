@@ -230,25 +230,11 @@ module _ (b m : Outside) (y : Option (List ℕ)) (still : StillTold m.shown y) w
   begun_later shown kernel h = drive_later (λ old new. new ≡ old) shown kernel h
 
   pub keeps_later : (kept : List Kept) (shown : List ℕ) (kernel : Lent) → OnlyKeeps kept seen_then m shown kernel → OnlyKeeps kept seen_now now shown kernel
-  keeps_later kept shown kernel h = record {
-    shown_ = h.shown_;
-    keeps = h.keeps;
-    blocks = h.blocks;
-    input = h.input;
-    printed = h.printed;
-    kernel_same = h.kernel_same;
-  }
+  keeps_later kept shown kernel h = search h
 
   pub blocks_later : (P : List (List ℕ) → List (List ℕ) → Type 0) (shown : List ℕ) (kernel : Lent) → OnlyBlocks P seen_then m shown kernel
       → OnlyBlocks P seen_now now shown kernel
-  blocks_later P shown kernel h = record {
-    shown_ = h.shown_;
-    blocks = h.blocks;
-    files = h.files;
-    input = h.input;
-    printed = h.printed;
-    kernel_same = h.kernel_same;
-  }
+  blocks_later P shown kernel h = search h
 
   pub code_later : (out bytes shown : List ℕ) (kernel : Lent) → KeepsCode out bytes seen_then m shown kernel → KeepsCode out bytes seen_now now shown kernel
   code_later out bytes shown kernel h = record { parts = h.parts; code_is = h.code_is; keeps = keeps_later _ shown kernel h.keeps }
@@ -288,16 +274,10 @@ module _ (b m : Outside) (y : Option (List ℕ)) (still : StillTold m.shown y) w
 
   pub runs_later : (program : Runnable) (bound : ℕ) (choices : Choices) (record_file : Option (List ℕ)) (s : Status) (shown : List ℕ) (kernel : Lent)
       → Runs program bound choices record_file s seen_then m shown kernel → Runs program bound choices record_file s seen_now now shown kernel
-  runs_later program bound choices record_file s shown kernel r = record {
-    ending = r.ending;
-    drawn = r.drawn;
-    within = r.within;
-    used = r.used;
-    status_is = r.status_is;
-    ran = told_later (λ d e. HasRun program bound choices r.ending r.drawn d e shown kernel.after)
-        (has_run_silent program bound choices r.ending r.drawn shown kernel.after) r.ran;
-    keeps = r.keeps;
-  }
+  runs_later program bound choices record_file s shown kernel r =
+      let ran = told_later (λ d e. HasRun program bound choices r.ending r.drawn d e shown kernel.after)
+      (has_run_silent program bound choices r.ending r.drawn shown kernel.after) r.ran in
+      search (r, ran)
 
   pub whole_later : (program : Runnable) (bound : ℕ) (choices : Choices) (shown : List ℕ) (kernel : Lent)
       → RanWhole program bound choices seen_then m shown kernel → RanWhole program bound choices seen_now now shown kernel
@@ -333,14 +313,9 @@ module _ (b m : Outside) (y : Option (List ℕ)) (still : StillTold m.shown y) w
 
   pub holds_later : (bound : ℕ) (choices : Choices) (name : Option (List ℕ)) (s : Status) (shown : List ℕ)
       → HoldsSession bound choices name s seen_then m shown → HoldsSession bound choices name s seen_now now shown
-  holds_later bound choices name s shown h = record {
-    how = h.how;
-    drawn = h.drawn;
-    within = h.within;
-    status_is = h.status_is;
-    ended = told_later (λ d e. HasEnded bound choices h.how h.drawn d e shown) (session_ended_silent bound choices h.how h.drawn shown) h.ended;
-    keeps = h.keeps;
-  }
+  holds_later bound choices name s shown h =
+      let ended = told_later (λ d e. HasEnded bound choices h.how h.drawn d e shown) (session_ended_silent bound choices h.how h.drawn shown) h.ended in
+      search (h, ended)
 
   pub ended_later : (bound : ℕ) (choices : Choices) (shown : List ℕ) → EndedWhole bound choices seen_then m shown → EndedWhole bound choices seen_now now shown
   ended_later bound choices shown h = record {
