@@ -19,8 +19,8 @@ use crate::layers::{
     make_multiplier, make_not, make_numeral, make_parenthesized, make_simple, make_string,
     make_term, make_variable,
 };
-use edi_lex::{Mark, Symbol, Text};
-use edi_phrases::{Parsed, Stop, at, at_name, eat, eat_numeral, expect, open, parse_name};
+use edi_lex::{Mark, Symbol};
+use edi_phrases::{Parsed, at, at_name, eat, eat_numeral, expect, open, parse_name, text_here};
 use edi_tree::{
     Addends, Addition, Args, Chars, Comparison, Expr, Exprs, Factor, Multiplication, Multipliers,
     Relation, Root, Selector, Selectors, Sequence, Sign, Simple, Term,
@@ -284,15 +284,7 @@ fn parse_chars<'a>(alloc: Global, marks: &'a [Mark]) -> Parsed<'a, Chars>
     ensures shorter { IfOk result (λ r. length r.1.now < length marks.now) }
     ensures none { IfErr result (λ e. NoString marks.now e) }
 {
-    let Some((first, rest)) = marks.split_first() else {
-        return Err(Stop::Fault(marks));
-    };
-    let Symbol::Chars(text) = &first.symbol else {
-        return Err(Stop::Fault(marks));
-    };
-    let text = Text::from_slice(alloc, text.as_slice())?;
-    let line = first.line;
-    Ok((Chars { text, line }, rest))
+    text_here!(alloc, marks, Chars)
 }
 
 /// A string, where one is in front, and the marks behind it.
