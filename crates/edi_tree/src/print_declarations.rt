@@ -1,7 +1,7 @@
 //! Printing of headings, procedures and modules.
 
 ghost use Rattle.std.specs.Prelude.{◌≡◌, OnOk};
-ghost use Rattle.edi_tree.specs.View.{declaration_of, heading_of, item_of, member_of, module_of, param_of, params_of, procedure_of};
+ghost use Rattle.edi_tree.specs.View.{heading_of, item_of, module_of, param_of, params_of, procedure_of};
 ghost use Rattle.edi_tree.specs.Printing as spec;
 
 use crate::declarations::{Declaration, Item, Member, Module, Procedure};
@@ -74,21 +74,14 @@ impl Printer {
     {
         self.heading(alloc, &procedure.heading)?;
         for declaration in procedure.declarations.items() {
-            self.declaration(alloc, declaration)?;
+            match declaration {
+                Declaration::Item(item) => self.item(alloc, item)?,
+                Declaration::Module(module) => self.module(alloc, module)?,
+            }
         }
         self.word(alloc, b"begin")?;
         self.list(alloc, &procedure.list)?;
         self.symbol(alloc, b"end", Some(procedure.end))
-    }
-
-    #[cycle(print_procedure)]
-    fn declaration(&mut self, alloc: Global, declaration: &Declaration) -> Result<(), AllocError>
-        ensures exact { OnOk result (self.new ≡ spec.print_declaration (declaration_of declaration.now) self.old) }
-    {
-        match declaration {
-            Declaration::Item(item) => self.item(alloc, item),
-            Declaration::Module(module) => self.module(alloc, module),
-        }
     }
 
     #[cycle(print_procedure)]
@@ -117,24 +110,17 @@ impl Printer {
     {
         self.word(alloc, b"module")?;
         for member in module.members.items() {
-            self.member(alloc, member)?;
+            match member {
+                Member::Item(item) => self.item(alloc, item)?,
+                Member::Exported(item) => {
+                    self.word(alloc, b"*")?;
+                    self.item(alloc, item)?;
+                }
+                Member::Module(module) => self.module(alloc, module)?,
+            }
         }
         self.word(alloc, b"begin")?;
         self.list(alloc, &module.list)?;
         self.word(alloc, b"end")
-    }
-
-    #[cycle(print_procedure)]
-    fn member(&mut self, alloc: Global, member: &Member) -> Result<(), AllocError>
-        ensures exact { OnOk result (self.new ≡ spec.print_member (member_of member.now) self.old) }
-    {
-        match member {
-            Member::Item(item) => self.item(alloc, item),
-            Member::Exported(item) => {
-                self.word(alloc, b"*")?;
-                self.item(alloc, item)
-            }
-            Member::Module(module) => self.module(alloc, module),
-        }
     }
 }

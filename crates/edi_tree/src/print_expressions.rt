@@ -1,7 +1,7 @@
 //! Printing of expressions.
 
 ghost use Rattle.std.specs.Prelude.{◌≡◌, OnOk};
-ghost use Rattle.edi_tree.specs.View.{args_of, comparison_of, expr_of, exprs_of, factor_of, selector_of, simple_of, term_of, variable_of};
+ghost use Rattle.edi_tree.specs.View.{args_of, comparison_of, expr_of, exprs_of, factor_of, simple_of, term_of, variable_of};
 ghost use Rattle.edi_tree.specs.Printing as spec;
 
 use crate::expressions::{
@@ -137,25 +137,18 @@ impl Printer {
     {
         self.root(alloc, &variable.root)?;
         for selector in variable.selectors.items() {
-            self.selector(alloc, selector)?;
+            match selector {
+                Selector::Field(line, name) => {
+                    self.symbol(alloc, b".", Some(*line))?;
+                    self.name(alloc, name)?;
+                }
+                Selector::Index(line, expr) => {
+                    self.symbol(alloc, b"[", Some(*line))?;
+                    self.expr(alloc, expr)?;
+                    self.word(alloc, b"]")?;
+                }
+            }
         }
         Ok(())
-    }
-
-    #[cycle(print_expr)]
-    fn selector(&mut self, alloc: Global, selector: &Selector) -> Result<(), AllocError>
-        ensures exact { OnOk result (self.new ≡ spec.print_selector (selector_of selector.now) self.old) }
-    {
-        match selector {
-            Selector::Field(line, name) => {
-                self.symbol(alloc, b".", Some(*line))?;
-                self.name(alloc, name)
-            }
-            Selector::Index(line, expr) => {
-                self.symbol(alloc, b"[", Some(*line))?;
-                self.expr(alloc, expr)?;
-                self.word(alloc, b"]")
-            }
-        }
     }
 }
