@@ -1,7 +1,7 @@
 //! Whether conditions call functions.
 
 ghost use Rattle.std.specs.Prelude.{◌≡◌};
-ghost use Rattle.edi_unit.specs.View.{clauses_of, expression_of, expressions_of, links_of, part_of, parts_of};
+ghost use Rattle.edi_unit.specs.View.{clauses_of, expression_of, expressions_of, links_of, parts_of};
 ghost use Rattle.edi_meaning.specs.Step.{calls};
 ghost use Rattle.edi_meaning.specs.Step as step;
 
@@ -49,22 +49,14 @@ fn links_call(links: &Links) -> bool
 }
 
 #[cycle(calls)]
-fn part_calls(part: &Part) -> bool
-    ensures exact { result ≡ step.part_calls (part_of part.now) }
-{
-    match part {
-        Part::Field(_) => false,
-        Part::Index(index, _) => value_calls(index),
-    }
-}
-
-#[cycle(calls)]
 fn parts_call(parts: &Parts) -> bool
     ensures exact { result ≡ step.parts_call (parts_of parts.now) }
 {
     for part in parts.items() {
-        if part_calls(part) {
-            return true;
+        if let Part::Index(index, _) = part {
+            if value_calls(index) {
+                return true;
+            }
         }
     }
     false

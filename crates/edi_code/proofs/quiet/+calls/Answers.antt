@@ -1,6 +1,6 @@
 use Rattle.std.proofs.Common.{refl, sym, ◌∙◌}
 use Rattle.std.specs.Prelude.{map}
-use Rattle.edi_unit.specs.View.{expressions, expression_of, parts, part_of}
+use Rattle.edi_unit.specs.View.{expressions, expression_of}
 use Rattle.edi_unit.proofs.Limits.{drop_item}
 use Rattle.edi_meaning.specs.Step as step
 use Rattle.edi_code.proofs.Calling.{none_here}
@@ -10,8 +10,3 @@ pub any_calls-loop-value-preserved : goal.any_calls-loop-value-preserved
 any_calls-loop-value-preserved t c =
     none_here (λ l. step.any_calls (expressions (map expression_of l))) _ _ _ _ (drop_item _ _ _ c.loop-value-test.true c.value-item.is)
     c.loop-value.invariant refl (sym c.value_calls.ensures.exact ∙ c.if-value_calls.false)
-
-pub parts_call-loop-part-preserved : goal.parts_call-loop-part-preserved
-parts_call-loop-part-preserved t c =
-    none_here (λ l. step.parts_call (parts (map part_of l))) _ _ _ _ (drop_item _ _ _ c.loop-part-test.true c.part-item.is) c.loop-part.invariant refl
-    (sym c.part_calls.ensures.exact ∙ c.if-part_calls.false)
