@@ -1,5 +1,5 @@
 -- Loops that append the code of a list, or count its words, one item behind another.
-use Rattle.std.proofs.Common.{◌≡◌, ℕ, ◌+◌, List, [], ◌∷◌, ◌++◌, drop, refl, sym, ap, subst, ◌∙◌, arith, append_assoc}
+use Rattle.std.proofs.Common.{◌≡◌, ℕ, ◌+◌, List, [], ◌∷◌, ◌++◌, drop, refl, sym, ap, subst, ◌∙◌, arith, append_assoc, append-nil}
 use Rattle.std.specs.Prelude.{map}
 use Rattle.edi_unit.specs.declared.expressions.Argument as code_argument
 use Rattle.edi_unit.specs.declared.expressions.Part as code_part
@@ -56,6 +56,13 @@ module _ {X : Type 0} (k : Listing X) where
         words = rest_behind out after _ (k.part here of x) (λ a n. k.code a n rest) here (k.took of x) behind (k.next x of) later place typed emits
             (ap (λ c. out ++ words_of_code c) (sym (k.coded x rest here of)) ∙ words);
       }
+
+  -- all items were appended
+  pub all_behind : (old out : List ℕ) (at here first of : ℕ) (items : List X) (i : ℕ) → drop i items ≡ [] → k.code here of [] ≡ []
+      → Left k old out at here first of items i → Emits old out (k.code at first items)
+  all_behind old out at here first of items i none empty left = record {
+    appended = sym (append-nil out) ∙ sym (ap (λ c. out ++ words_of_code c) (ap (k.code here of) none ∙ empty)) ∙ left.words;
+  }
 
   -- the words of one item more were counted
   pub item_longer : (first of later : ℕ) (items : List X) (i : ℕ) (x : X) (words took : ℕ) → drop i items ≡ x ∷ drop (i + 1) items

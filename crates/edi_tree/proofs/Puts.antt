@@ -32,8 +32,8 @@ use Rattle.edi_tree.specs.Spelled.{member_then, members_then, declaration_then, 
 use Rattle.edi_tree.specs.Printed.{text_of, gap, line_at, printed_from, printed}
 use Rattle.edi_tree.specs.Printing.{put, put_text, print_names, print_constant, print_const_decl, print_const_decls, print_const_list, print_group}
 use Rattle.edi_tree.specs.Printing.{print_groups, print_type_decl, print_var_list, print_result, print_heading, print_params, print_more_params, print_param}
-use Rattle.edi_tree.specs.Printing.{print_sign, print_root, print_expr, print_comparison, print_exprs, print_simple, print_addend, print_addends, print_term}
-use Rattle.edi_tree.specs.Printing.{print_multiplier, print_multipliers, print_factor, print_args, print_variable, print_selector, print_selectors}
+use Rattle.edi_tree.specs.Printing.{print_sign, print_root, print_expr, print_comparison, print_exprs, print_simple, print_addends, print_term}
+use Rattle.edi_tree.specs.Printing.{print_multipliers, print_factor, print_args, print_variable, print_selector, print_selectors}
 use Rattle.edi_tree.specs.Printing.{print_optional_args, print_list, print_statements, print_statement, print_conditions, print_condition, print_else}
 use Rattle.edi_tree.specs.Printing.{print_branch, print_branches, print_procedure, print_item, print_module, print_member, print_members, print_declaration}
 use Rattle.edi_tree.specs.Printing.{print_declarations, print_global, print_globals, print_program}
@@ -145,23 +145,19 @@ mutual
   simple_printed (simple s t ts) out more = addends_printed ts (print_term t (print_sign s out)) more ∙ term_printed t (print_sign s out)
       (addends_then ts more) ∙ sign_printed s out (term_then t (addends_then ts more))
 
-  addend_printed : (x : Addend) (out : Printer) (more : List Spelled) → put_all (print_addend x out) more ≡ put_all out (addend_then x more)
-  addend_printed (addend o line t) out more = term_printed t (put (on (addition_symbol o) line) out) more
-
   addends_printed : (x : Addends) (out : Printer) (more : List Spelled) → put_all (print_addends x out) more ≡ put_all out (addends_then x more)
   addends_printed no_addend out more = refl
-  addends_printed (next_addend t ts) out more = addends_printed ts (print_addend t out) more ∙ addend_printed t out (addends_then ts more)
+  addends_printed (next_addend (addend o line t) ts) out more = addends_printed ts (print_term t (put (on (addition_symbol o) line) out)) more
+      ∙ term_printed t (put (on (addition_symbol o) line) out) (addends_then ts more)
 
   term_printed : (x : Term) (out : Printer) (more : List Spelled) → put_all (print_term x out) more ≡ put_all out (term_then x more)
   term_printed (term f fs) out more = multipliers_printed fs (print_factor f out) more ∙ factor_printed f out (multipliers_then fs more)
 
-  multiplier_printed : (x : Multiplier) (out : Printer) (more : List Spelled) → put_all (print_multiplier x out) more ≡ put_all out (multiplier_then x more)
-  multiplier_printed (multiplier o line f) out more = factor_printed f (put (on (multiplication_symbol o) line) out) more
-
   multipliers_printed : (x : Multipliers) (out : Printer) (more : List Spelled) → put_all (print_multipliers x out) more ≡ put_all out (multipliers_then x more)
   multipliers_printed no_multiplier out more = refl
-  multipliers_printed (next_multiplier f fs) out more = multipliers_printed fs (print_multiplier f out) more
-      ∙ multiplier_printed f out (multipliers_then fs more)
+  multipliers_printed (next_multiplier (multiplier o line f) fs) out more =
+      multipliers_printed fs (print_factor f (put (on (multiplication_symbol o) line) out)) more
+      ∙ factor_printed f (put (on (multiplication_symbol o) line) out) (multipliers_then fs more)
 
   factor_printed : (x : Factor) (out : Printer) (more : List Spelled) → put_all (print_factor x out) more ≡ put_all out (factor_then x more)
   factor_printed (numeral v) out more = refl

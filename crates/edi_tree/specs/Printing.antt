@@ -144,23 +144,17 @@ abbrev mutual
   pub print_simple : Simple → Printer → Printer
   print_simple (simple s t ts) out = print_addends ts (print_term t (print_sign s out))
 
-  pub print_addend : Addend → Printer → Printer
-  print_addend (addend o line t) out = print_term t (put (on (addition_symbol o) line) out)
-
   pub print_addends : Addends → Printer → Printer
   print_addends no_addend out = out
-  print_addends (next_addend t ts) out = print_addends ts (print_addend t out)
+  print_addends (next_addend (addend o line t) ts) out = print_addends ts (print_term t (put (on (addition_symbol o) line) out))
 
   -- Term = Factor { ( "*" | "div" | "mod" | "and" ) Factor }
   pub print_term : Term → Printer → Printer
   print_term (term f fs) out = print_multipliers fs (print_factor f out)
 
-  pub print_multiplier : Multiplier → Printer → Printer
-  print_multiplier (multiplier o line f) out = print_factor f (put (on (multiplication_symbol o) line) out)
-
   pub print_multipliers : Multipliers → Printer → Printer
   print_multipliers no_multiplier out = out
-  print_multipliers (next_multiplier f fs) out = print_multipliers fs (print_multiplier f out)
+  print_multipliers (next_multiplier (multiplier o line f) fs) out = print_multipliers fs (print_factor f (put (on (multiplication_symbol o) line) out))
 
   -- Factor = Numeral | String | "not" Factor | "(" Expr ")" | Name Args | Variable
   pub print_factor : Factor → Printer → Printer

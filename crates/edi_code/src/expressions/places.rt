@@ -105,9 +105,12 @@ pub(crate) fn emit_call(
         (in_scope.arguments_code scope.now at (arguments_of arguments.now) ++ in_scope.call_code scope.now callee line)) }
     ensures behind { IfOk result (λ behind. behind ≡ at + (in_scope.arguments_length scope.now (arguments_of arguments.now) + scheme.call_length callee)) }
 {
-    let behind = emit_arguments(arguments, scope, at, out)?;
+    let mut here = at;
+    for argument in arguments.items() {
+        here = emit_argument(argument, scope, here, out)?;
+    }
     put(scope.alloc, &call(scope, callee, line), out)?;
-    Ok(behind + call_length(callee))
+    Ok(here + call_length(callee))
 }
 
 // The code of an argument.
@@ -126,19 +129,4 @@ fn emit_argument(argument: &Argument, scope: &Scope<'_>, at: u32, out: &mut Vec<
             Ok(at + procedure_length(*callee))
         }
     }
-}
-
-// The code of the arguments of a call.
-#[cycle(emitted)]
-fn emit_arguments(arguments: &Arguments, scope: &Scope<'_>, at: u32, out: &mut Vec<u16>) -> Behind
-    requires may { MayBeWritten scope.now at (in_scope.arguments_length scope.now (arguments_of arguments.now))
-        (ArgumentsAreWritable scope.now (arguments_of arguments.now)) }
-    ensures emits { OnOk result (Emits out.old.items out.new.items (in_scope.arguments_code scope.now at (arguments_of arguments.now))) }
-    ensures behind { IfOk result (λ behind. behind ≡ at + in_scope.arguments_length scope.now (arguments_of arguments.now)) }
-{
-    let mut here = at;
-    for argument in arguments.items() {
-        here = emit_argument(argument, scope, here, out)?;
-    }
-    Ok(here)
 }

@@ -1,19 +1,20 @@
 use Rattle.std.proofs.Common.{rules, ◌≡◌, ◌+◌, ◌++◌, refl, sym, ap, subst, ◌∙◌, arith}
-use Rattle.std.specs.Prelude.{IfOk, OnOk}
+use Rattle.std.specs.Prelude.{IfOk, OnOk, map}
+use Rattle.std.proofs.lemmas.List.{drop_all}
 use Rattle.edi_unit.specs.Tree.{chain}
-use Rattle.edi_unit.specs.View.{expression_of, links_of}
+use Rattle.edi_unit.specs.View.{expression_of, links_of, arguments, argument_of}
 use Rattle.edi_unit.specs.Need.{operator_type, expression_type}
 use Rattle.edi_unit.proofs.Limits.{drop_item}
 use Rattle.edi_scheme.specs.Pieces.{code_length, decision}
 use Rattle.edi_code.specs.Emits.{Emits}
 use Rattle.edi_code.specs.Scope.{types_in, blocks_in}
-use Rattle.edi_code.specs.InScope.{expression_length, links_length, expression_code, links_code}
+use Rattle.edi_code.specs.InScope.{expression_length, links_length, expression_code, links_code, arguments_code}
 use Rattle.edi_code.specs.Aimed.{decided}
 use Rattle.edi_code.proofs.Aiming.{grown, decides}
 use Rattle.edi_code.proofs.Emitting.{two, both, told, emits_then}
 use Rattle.edi_code.proofs.Layers.{chain_seen}
 use Rattle.edi_code.proofs.Links.{link_is}
-use Rattle.edi_code.proofs.Listed.{item_behind, of_values, of_members, of_links, of_parts, of_arguments}
+use Rattle.edi_code.proofs.Listed.{item_behind, all_behind, of_values, of_members, of_links, of_parts, of_arguments}
 use Rattle.edi_code.proofs.expressions.+emitted.Goals as goal
 
 pub emit_values-loop-value-preserved : goal.emit_values-loop-value-preserved
@@ -36,8 +37,8 @@ emit_links-loop-link-preserved t c =
     item_behind (of_links c.args.scope.now) _ _ _ _ _ _ _ _ _ _ _ _ (drop_item _ _ _ c.loop-link-test.true c.link-item.is) c.loop-link.invariant
     (c.operator_type-of.ensures.exact ∙ ap (λ o. operator_type o c.loop-link.of) c.operator_of.ensures.exact) c.in_ok-here.ensures.behind c.in_ok-here.ensures.emits
 
-pub places::emit_arguments-loop-argument-preserved : goal.places::emit_arguments-loop-argument-preserved
-places::emit_arguments-loop-argument-preserved t c =
+pub places::emit_call-loop-argument-preserved : goal.places::emit_call-loop-argument-preserved
+places::emit_call-loop-argument-preserved t c =
     item_behind (of_arguments c.args.scope.now) _ _ _ _ _ _ _ _ _ _ _ _ (drop_item _ _ _ c.loop-argument-test.true c.argument-item.is)
     c.loop-argument.invariant refl c.in_ok-here.ensures.behind c.in_ok-here.ensures.emits
 
@@ -71,7 +72,12 @@ pub emit_operand-returns-clause-emits : goal.emit_operand-returns-clause-emits
 emit_operand-returns-clause-emits t c = emits_then _ _ _ _ _ c.in_ok-behind.ensures.emits c.in_ok-put_any.ensures.emits
 
 pub places::emit_call-returns-clause-emits : goal.places::emit_call-returns-clause-emits
-places::emit_call-returns-clause-emits t c = both _ _ _ _ _ _ _ c.in_ok-behind.ensures.emits c.in_ok-put.ensures.emits c.call.ensures.exact refl
+places::emit_call-returns-clause-emits t c =
+    let items = c.items-argument-items.result.now in
+    let none = drop_all c.loop-argument.argument-index items (omega (arith, c.loop-argument-test.false)) in
+    let emits = subst (λ l. Emits c.args.out.now.items c.loop-argument.out.items (arguments_code c.args.scope.now c.args.at (arguments (map argument_of l))))
+    c.items-argument-items.ensures.exact (all_behind (of_arguments c.args.scope.now) _ _ _ _ 0 0 items _ none refl c.loop-argument.invariant) in
+    both _ _ _ _ _ _ _ emits c.in_ok-put.ensures.emits c.call.ensures.exact refl
 
 pub emit_value-returns-in_ok-behind-in-Chain : goal.emit_value-returns-in_ok-behind-in-Chain
 emit_value-returns-in_ok-behind-in-Chain t c =

@@ -13,5 +13,5 @@ invariant-emit_links-loop-link l = Left (of_links l.scope) l.fn.out.items l.out.
 abbrev pub invariant-places::emit_parts-loop-part : goal.invariant-places::emit_parts-loop-part
 invariant-places::emit_parts-loop-part l = Left (of_parts l.scope) l.fn.out.items l.out.items l.at l.here l.root l.of l.part-items l.part-index
 
-abbrev pub invariant-places::emit_arguments-loop-argument : goal.invariant-places::emit_arguments-loop-argument
-invariant-places::emit_arguments-loop-argument l = Left (of_arguments l.scope) l.fn.out.items l.out.items l.at l.here 0 0 l.argument-items l.argument-index
+abbrev pub invariant-places::emit_call-loop-argument : goal.invariant-places::emit_call-loop-argument
+invariant-places::emit_call-loop-argument l = Left (of_arguments l.scope) l.fn.out.items l.out.items l.at l.here 0 0 l.argument-items l.argument-index
