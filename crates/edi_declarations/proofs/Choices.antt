@@ -2,8 +2,10 @@
 use Rattle.std.proofs.Common.{◌≡◌, ℕ, List, [], ◌∷◌, ◌++◌, Bool, true, false, Some, refl, sym, ap, subst, if◌then◌else◌}
 use Rattle.std.proofs.lemmas.Bool.{eqb-true}
 use Rattle.std.specs.Prelude.{nat_eq}
+use Rattle.edi_lex.specs.declared.symbol.Mark.{Mark}
 use Rattle.edi_grammar.specs.Grammar.{part, rule_no}
 use Rattle.edi_grammar.specs.Parser.{has, rule_at}
+use Rattle.edi_grammar.specs.Kind.{front}
 use Rattle.edi_grammar.specs.Kinds as kind
 use Rattle.edi_grammar.specs.Rules as g
 use Rattle.edi_grammar.specs.Edison.{edison, first}
@@ -25,6 +27,14 @@ among P a (x ∷ xs) all h = by (among P a xs all.1) (nat_eq a x) refl h where
 pub without : (a b : ℕ) (xs : List ℕ) → nat_eq a b ≡ false → has a xs ≡ has a (xs ++ b ∷ [])
 without a b [] e = sym (ap (λ t. if t then true else false) e)
 without a b (x ∷ xs) e = ap (λ r. if nat_eq a x then true else r) (without a b xs e)
+
+-- the rule of an item is that of the symbol in front
+pub item_at : {a : ℕ} (p : List Mark) → front p ≡ a → rule_at edison g.Item (front p) ≡ rule_at edison g.Item a
+item_at p chosen = ap (λ a. rule_at edison g.Item a) chosen
+
+-- a kind that is not `const` begins a global where it begins the declaration of a type
+pub no_const : (a : ℕ) → nat_eq a kind.Const ≡ false → has a (first g.TypeDecl) ≡ has a (first g.Global)
+no_const a e = ap (λ b. if nat_eq a kind.Array then true else if b then true else has a (kind.Enum ∷ kind.Record ∷ kind.Set ∷ [])) (sym e)
 
 pub item_type : (a : ℕ) → has a (first g.TypeDecl) ≡ true → rule_at edison g.Item a ≡ Some (part g.TypeDecl ∷ [])
 item_type a h = among (λ a. rule_at edison g.Item a ≡ Some (part g.TypeDecl ∷ [])) a (first g.TypeDecl) (refl, (refl, (refl, (refl, tt)))) h

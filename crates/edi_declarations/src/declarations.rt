@@ -18,7 +18,7 @@ use crate::layers::{
 };
 use edi_headings::parse_head;
 use edi_lex::{Mark, Symbol};
-use edi_phrases::{Parsed, at, at_type_decl, eat, expect, open};
+use edi_phrases::{Parsed, at, at_type_decl, by_front, eat, expect, open};
 use edi_statements::parse_list;
 use edi_tree::{Declaration, Declarations, Item, Member, Members, Module, Procedure, Sequence};
 use std::alloc::Global;
@@ -72,22 +72,11 @@ fn parse_item<'a>(alloc: Global, marks: &'a [Mark], level: u16) -> Parsed<'a, It
     ensures halts { IfErr result (λ e. HaltsAt g.Item level marks.now e) }
     ensures shorter { IfOk result (λ r. length r.1.now < length marks.now) }
 {
-    if at(marks, &Symbol::Const) {
-        return parse_const_item(alloc, marks, level);
-    }
-    if at_type_decl(marks) {
-        return parse_type_item(alloc, marks, level);
-    }
-    if at(marks, &Symbol::Var) {
-        return parse_var_item(alloc, marks, level);
-    }
-    if at(marks, &Symbol::Pre) {
-        return parse_pre(alloc, marks, level);
-    }
-    if at(marks, &Symbol::Post) {
-        return parse_post(alloc, marks, level);
-    }
-    parse_procedure_item(alloc, marks, level)
+    by_front!(
+        alloc, marks, level,
+        Const => parse_const_item, Var => parse_var_item, Pre => parse_pre, Post => parse_post,
+        | at_type_decl => parse_type_item, _ => parse_procedure_item
+    )
 }
 
 /// `"module" { [ "*" ] Item | Module } "begin" List "end"`, and the marks behind it.

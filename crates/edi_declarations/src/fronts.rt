@@ -6,7 +6,17 @@ ghost use Rattle.edi_grammar.specs.Rules as g;
 ghost use Rattle.edi_grammar.specs.Edison as sets;
 
 use edi_lex::{Mark, Symbol};
-use edi_phrases::at;
+use edi_phrases::{at, at_type_decl};
+
+/// Whether a list of constants or the declaration of a type is in front.
+pub fn at_global(marks: &[Mark]) -> bool
+    ensures exact { result ≡ has (front marks.now) (sets.first g.Global) }
+{
+    if at(marks, &Symbol::Const) {
+        return true;
+    }
+    at_type_decl(marks)
+}
 
 /// Whether an item or a module is in front.
 pub fn at_declaration(marks: &[Mark]) -> bool
@@ -38,17 +48,4 @@ pub fn at_member(marks: &[Mark]) -> bool
         return true;
     }
     at_declaration(marks)
-}
-
-/// Whether a list of constants or the declaration of a type is in front.
-pub fn at_global(marks: &[Mark]) -> bool
-    ensures exact { result ≡ has (front marks.now) (sets.first g.Global) }
-{
-    match marks.first() {
-        Some(mark) => matches!(
-            mark.symbol,
-            Symbol::Array | Symbol::Const | Symbol::Enum | Symbol::Record | Symbol::Set
-        ),
-        None => false,
-    }
 }

@@ -23,8 +23,8 @@ pub fn parse_const_item<'a>(alloc: Global, marks: &'a [Mark], level: u16) -> Par
     ensures halts { IfErr result (λ e. HaltsAt g.Item level marks.now e) }
     ensures shorter { IfOk result (λ r. length r.1.now < length marks.now) }
 {
-    let (const_list, rest) = parse_const_list(alloc, marks, level)?;
-    Ok((make_const_item(const_list), rest))
+    let (consts, rest) = parse_const_list(alloc, marks, level)?;
+    Ok((make_const_item(consts), rest))
 }
 
 /// `TypeDecl`, where one is in front, and the marks behind it.
@@ -45,8 +45,8 @@ pub fn parse_var_item<'a>(alloc: Global, marks: &'a [Mark], level: u16) -> Parse
     ensures halts { IfErr result (λ e. HaltsAt g.Item level marks.now e) }
     ensures shorter { IfOk result (λ r. length r.1.now < length marks.now) }
 {
-    let (var_list, rest) = parse_var_list(alloc, marks, level)?;
-    Ok((make_var_item(var_list), rest))
+    let (vars, rest) = parse_var_list(alloc, marks, level)?;
+    Ok((make_var_item(vars), rest))
 }
 
 /// `"pre" Heading`, where `pre` is in front, and the marks behind it. The level of the heading ends with it.

@@ -36,13 +36,16 @@ module_module = refl
 member_star : rule_at edison g.Member kind.Star ≡ Some (token kind.Star ∷ part g.Item ∷ [])
 member_star = refl
 
+-- over the `proc` of a procedure
+procedure_opened : {n line : ℕ} {p q : List Mark} → p ≡ at_line is.Proc line ∷ q → n < 64 → Goes g.Procedure n (λ es. elements.word is.Proc ∷ es)
+    (part g.Head ∷ part g.Declarations ∷ token kind.Begin ∷ part g.StatementList ∷ token kind.End ∷ item.level_end ∷ []) p q
+procedure_opened found room = open_front g.Procedure is.Proc (just is.Proc) procedure_proc (omega (arith, room)) (refl, tt) (waits g.Procedure _ _) found
+
 -- up to the `begin` of a procedure
 procedure_declared : {n line : ℕ} {head inner : List Element → List Element} {p q r t : List Mark} → p ≡ at_line is.Proc line ∷ q → n < 64
     → Passes g.Head (n + 1) head q r → Passes g.Declarations (n + 1) inner r t → Goes g.Procedure n (λ es. elements.word is.Proc ∷ head (inner es))
     (token kind.Begin ∷ part g.StatementList ∷ token kind.End ∷ item.level_end ∷ []) p t
-procedure_declared found room headed declared = over_part
-    (over_part (open_front g.Procedure is.Proc (just is.Proc) procedure_proc (omega (arith, room)) (refl, tt)
-    (waits g.Procedure _ _) found) headed (omega arith)) declared (omega arith)
+procedure_declared found room headed declared = over_part (over_part (procedure_opened found room) headed (omega arith)) declared (omega arith)
 
 -- over it
 procedure_begun : {n line : ℕ} {f : List Element → List Element} {p q r : List Mark}
@@ -52,14 +55,18 @@ procedure_begun : {n line : ℕ} {f : List Element → List Element} {p q r : Li
     ∷ item.level_end ∷ []) p r
 procedure_begun {line = line} go found = over_mark (just is.Begin) (at_line is.Begin line) go found refl refl (refl, tt)
 
+-- over the `module` of a module
+module_opened : {n line : ℕ} {p q : List Mark} → p ≡ at_line is.Module line ∷ q → n < 64 → Goes g.Module n (λ es. elements.word is.Module ∷ es)
+    (part g.Members ∷ token kind.Begin ∷ part g.StatementList ∷ token kind.End ∷ item.level_end ∷ []) p q
+module_opened found room = open_front g.Module is.Module (just is.Module) module_module (omega (arith, room)) (refl, tt) (waits g.Module _ _) found
+
 -- over the `begin` of a module
 module_begun : {n line place : ℕ} {members : List Element → List Element} {p q r t : List Mark} → p ≡ at_line is.Module line ∷ q → n < 64
     → Passes g.Members (n + 1) members q r → r ≡ at_line is.Begin place ∷ t
     → Goes g.Module n (λ es. elements.word is.Module ∷ members (elements.word is.Begin ∷ es))
     (part g.StatementList ∷ token kind.End ∷ item.level_end ∷ []) p t
 module_begun {place = place} found room inner begin = over_mark (just is.Begin) (at_line is.Begin place)
-    (over_part (open_front g.Module is.Module (just is.Module)
-    module_module (omega (arith, room)) (refl, tt) (waits g.Module _ _) found) inner (omega arith)) begin refl refl (refl, tt)
+    (over_part (module_opened found room) inner (omega arith)) begin refl refl (refl, tt)
 
 pub parse_procedure-returns-in_err-behind_proc-clause-halts : goal.parse_procedure-returns-in_err-behind_proc-clause-halts
 parse_procedure-returns-in_err-behind_proc-clause-halts t c = at_exit _ c.from_residual.ensures.1 (refused
@@ -68,14 +75,12 @@ parse_procedure-returns-in_err-behind_proc-clause-halts t c = at_exit _ c.from_r
 
 pub parse_procedure-returns-in_err-heading-clause-halts : goal.parse_procedure-returns-in_err-heading-clause-halts
 parse_procedure-returns-in_err-heading-clause-halts t c = at_exit _ c.from_residual-in_err-heading.ensures.1
-    (halts (open_front g.Procedure is.Proc (just is.Proc) procedure_proc (omega (arith, c.in_ok-behind_proc.ensures.room)) (refl, tt) (waits g.Procedure _ _)
-    c.in_ok-behind_proc.ensures.found) (omega arith) c.in_err-heading.ensures.halts)
+    (halts (procedure_opened c.in_ok-behind_proc.ensures.found c.in_ok-behind_proc.ensures.room) (omega arith) c.in_err-heading.ensures.halts)
 
 pub parse_procedure-returns-in_err-declarations-clause-halts : goal.parse_procedure-returns-in_err-declarations-clause-halts
 parse_procedure-returns-in_err-declarations-clause-halts t c = at_exit _ c.from_residual-in_err-declarations.ensures.1
-    (halts (over_part (open_front g.Procedure is.Proc (just is.Proc) procedure_proc (omega (arith, c.in_ok-behind_proc.ensures.room)) (refl, tt)
-    (waits g.Procedure _ _) c.in_ok-behind_proc.ensures.found) c.in_ok-heading.ensures.passes (omega arith)) (omega arith)
-    c.in_err-declarations.ensures.halts)
+    (halts (over_part (procedure_opened c.in_ok-behind_proc.ensures.found c.in_ok-behind_proc.ensures.room) c.in_ok-heading.ensures.passes (omega arith))
+    (omega arith) c.in_err-declarations.ensures.halts)
 
 pub parse_procedure-returns-in_err-behind_begin-clause-halts : goal.parse_procedure-returns-in_err-behind_begin-clause-halts
 parse_procedure-returns-in_err-behind_begin-clause-halts t c = at_exit _ c.from_residual-in_err-behind_begin.ensures.1
@@ -132,13 +137,12 @@ parse_module-returns-in_err-behind_module-clause-halts t c = at_exit _ c.from_re
 
 pub parse_module-returns-in_err-members-clause-halts : goal.parse_module-returns-in_err-members-clause-halts
 parse_module-returns-in_err-members-clause-halts t c = at_exit _ c.from_residual-in_err-members.ensures.1
-    (halts (open_front g.Module is.Module (just is.Module) module_module (omega (arith, c.in_ok-behind_module.ensures.room)) (refl, tt) (waits g.Module _ _)
-    c.in_ok-behind_module.ensures.found) (omega arith) c.in_err-members.ensures.halts)
+    (halts (module_opened c.in_ok-behind_module.ensures.found c.in_ok-behind_module.ensures.room) (omega arith) c.in_err-members.ensures.halts)
 
 pub parse_module-returns-in_err-behind_begin-clause-halts : goal.parse_module-returns-in_err-behind_begin-clause-halts
 parse_module-returns-in_err-behind_begin-clause-halts t c = at_exit _ c.from_residual-in_err-behind_begin.ensures.1
-    (lacks (over_part (open_front g.Module is.Module (just is.Module) module_module (omega (arith, c.in_ok-behind_module.ensures.room)) (refl, tt)
-    (waits g.Module _ _) c.in_ok-behind_module.ensures.found) c.in_ok-members.ensures.passes (omega arith)) c.in_err-behind_begin.ensures.none)
+    (lacks (over_part (module_opened c.in_ok-behind_module.ensures.found c.in_ok-behind_module.ensures.room) c.in_ok-members.ensures.passes (omega arith))
+    c.in_err-behind_begin.ensures.none)
 
 pub parse_module-returns-in_err-list-clause-halts : goal.parse_module-returns-in_err-list-clause-halts
 parse_module-returns-in_err-list-clause-halts t c = at_exit _ c.from_residual-in_err-list.ensures.1
