@@ -8,7 +8,7 @@ use Rattle.edi_tree.specs.declared.constants.Constant.TheVariants as constant
 use Rattle.edi_tree.specs.declared.expressions.Root.{Root}
 use Rattle.edi_tree.specs.declared.expressions.Root.TheVariants as root
 use Rattle.edi_tree.specs.Tree.{StatementList}
-use Rattle.edi_static.specs.Leaves.{Leaves, ListHolds}
+use Rattle.edi_static.specs.Leaves.{LeafFacts, ListHolds}
 
 -- the name is one of these
 abbrev pub is_among : List (List ℕ) → List ℕ → Bool
@@ -27,7 +27,7 @@ abbrev pub RootKnown : List (List ℕ) → Root → Type 0
 RootKnown names (root.Name name) = NameKnown names name
 RootKnown names (root.Val name) = NameKnown names name
 
-abbrev pub known_by : List (List ℕ) → Leaves
+abbrev pub known_by : List (List ℕ) → LeafFacts
 known_by names = record {
   OfNumeral = λ n. Unit {0};
   OfChars = λ s. Unit {0};

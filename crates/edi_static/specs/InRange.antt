@@ -9,7 +9,7 @@ use Rattle.edi_tree.specs.Tree.{post_item, Module, module_with, Member, item_mem
 use Rattle.edi_tree.specs.Tree.{Declaration, item_declaration, module_declaration, Declarations, no_declaration, next_declaration, Global, const_global}
 use Rattle.edi_tree.specs.Tree.{type_global, Globals, no_global, next_global, Program, program}
 use Rattle.edi_unit.specs.Types.{int, char, is_ordinal_of}
-use Rattle.edi_static.specs.Leaves.{Leaves, ListHolds}
+use Rattle.edi_static.specs.Leaves.{LeafFacts, ListHolds}
 
 -- ---- constants and types
 
@@ -43,7 +43,7 @@ abbrev pub branches_count : Branches → ℕ
 branches_count (no_branch end) = 0
 branches_count (next_branch also b bs) = suc (branches_count bs)
 
-abbrev pub in_range : Leaves
+abbrev pub in_range : LeafFacts
 in_range = record {
   OfNumeral = λ n. IsTrue (is_ordinal_of int n);
   OfChars = λ s. AreCharacters s.text;

@@ -12,7 +12,7 @@ use Rattle.edi_tree.specs.Tree.{next_selector, StatementList, list, Statements, 
 use Rattle.edi_tree.specs.Tree.{while_statement, when_statement, cobegin, Conditions, conditions, Condition, condition, Else, no_else, next_else, Branch}
 use Rattle.edi_tree.specs.Tree.{branch, Branches, no_branch, next_branch}
 
-pub record Leaves : Type 1 where
+pub record LeafFacts : Type 1 where
   pub OfNumeral : ℤ → Type 0
   pub OfChars : Chars → Type 0
   pub OfConstant : Constant → Type 0
@@ -20,7 +20,7 @@ pub record Leaves : Type 1 where
   pub Rooted : Root → Type 0 → Type 0
   pub Forked : Branches → Type 0 → Type 0
 
-module _ (l : Leaves) where
+module _ (l : LeafFacts) where
   -- ---- expressions
 
   abbrev mutual
