@@ -30,12 +30,7 @@ use Rattle.edi_shell_calls.proofs.Told.{at, pair, stands, stands_at, stands_in, 
 pub no_fault : (failed : Option Outside) (e : Ending) → IsSome failed ↔ (e ≡ ending.Fault) → failed ≡ None → is_fault_ending e ≡ false
 no_fault failed ending.Fault same none = absurd (let some : IsSome failed = same.1 refl in let wrong : IsSome {T = Outside} None = subst IsSome none some in
     let so : false ≡ true = wrong in cc)
-no_fault failed ending.Done same none = refl
-no_fault failed (ending.Halted line) same none = refl
-no_fault failed (ending.Failed cause line) same none = refl
-no_fault failed ending.Turns same none = refl
-no_fault failed ending.Standstill same none = refl
-no_fault failed (ending.Bad address) same none = refl
+no_fault failed _ same none = refl
 
 some_is : (failed : Option Outside) (o : Outside) → failed ≡ Some o → IsSome failed
 some_is failed o e = subst IsSome (sym e) refl
@@ -46,12 +41,7 @@ a_fault failed o e same is = same.0 (some_is failed o is)
 as_run : (code : CodeParts) (system : State) (bound : ℕ) (old : Drawn) (e : Ending) (words : List ℕ) (used : ℕ) (now : State) (new : Drawn) → is_fault_ending e ≡ false
     → kernel.RunsTo code system bound old e words used now new → RunsAs code system bound old e words used now new
 as_run code system bound old ending.Fault words used now new fine r = absurd (cc)
-as_run code system bound old ending.Done words used now new fine r = r
-as_run code system bound old (ending.Halted line) words used now new fine r = r
-as_run code system bound old (ending.Failed cause line) words used now new fine r = r
-as_run code system bound old ending.Turns words used now new fine r = r
-as_run code system bound old ending.Standstill words used now new fine r = r
-as_run code system bound old (ending.Bad address) words used now new fine r = r
+as_run code system bound old _ words used now new fine r = r
 
 same_outside : (moment now : State) → IsSameOutside moment now → fresh now ≡ fresh moment
 same_outside moment now same = go moment.input now.input moment.shown now.shown moment.printed now.printed same.input same.shown same.printed where

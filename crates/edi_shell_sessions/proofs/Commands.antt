@@ -46,21 +46,12 @@ module _ (bound : ℕ) (choices : Choices) {C : Type 0} (ready : C → Type 0) (
       leads_comes (ActsBy bound choices l s) result s (done_by l s) taken drawn c c' (acts l enter compile edit halt execute) (alike_done l s) w left h where
         acts : (l : Line) → ((f : List ℕ) → l ≡ line.Enter f → ⊥) → ((f g : List ℕ) → l ≡ line.Compile f g → ⊥) → ((f : List ℕ) → l ≡ line.Edit f → ⊥)
             → (l ≡ line.Halt → ⊥) → ((f : List ℕ) → l ≡ line.Execute f → ⊥) → ActsBy bound choices l s (goes (done_by l s))
-        acts line.Blank enter compile edit halt execute = refl
-        acts line.Bad enter compile edit halt execute = refl
-        acts line.Catalogue enter compile edit halt execute = refl
-        acts (line.Show f) enter compile edit halt execute = refl
-        acts (line.Print f) enter compile edit halt execute = refl
-        acts (line.Copy f g) enter compile edit halt execute = refl
-        acts (line.Rename f g) enter compile edit halt execute = refl
-        acts (line.Delete f) enter compile edit halt execute = refl
-        acts (line.Protect f) enter compile edit halt execute = refl
-        acts (line.Release f) enter compile edit halt execute = refl
         acts (line.Enter f) enter compile edit halt execute = absurd (enter f refl)
         acts (line.Compile f g) enter compile edit halt execute = absurd (compile f g refl)
         acts (line.Edit f) enter compile edit halt execute = absurd (edit f refl)
         acts line.Halt enter compile edit halt execute = absurd (halt refl)
         acts (line.Execute f) enter compile edit halt execute = absurd (execute f refl)
+        acts _ enter compile edit halt execute = refl
 
   -- the object was led to something that the row has
   pub does_comes : (Row : Shell → AfterLine → Type 0) (result : Result (Unit {0}) SessionEnd) (s : Shell) (taken drawn drawn' : ℕ) (c c' : C)
