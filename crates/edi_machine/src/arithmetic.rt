@@ -12,7 +12,7 @@ ghost use Rattle.edi_machine.specs.Steps.{Gives};
 
 use crate::activity::Activity;
 use crate::ends::StepEnd;
-use crate::frame::{push_at, top_two_words, top_word};
+use crate::frame::{push_below, top_two_words, top_word};
 use edi_calls::Cause;
 use edi_store::Store;
 
@@ -77,7 +77,7 @@ fn put_result(
 {
     match value {
         None => StepEnd::Fail(Cause::Range, line),
-        Some(z) => push_at(
+        Some(z) => push_below(
             store,
             activity,
             activity.top - 1 - 1,
@@ -119,7 +119,7 @@ pub fn negation(store: &mut Store, activity: &mut Activity, line: u16, next: u32
     };
     match edi_word::sub(0, x.cast_signed()) {
         None => StepEnd::Fail(Cause::Range, line),
-        Some(z) => push_at(store, activity, activity.top - 1, z.cast_unsigned(), next),
+        Some(z) => push_below(store, activity, activity.top - 1, z.cast_unsigned(), next),
     }
 }
 
@@ -131,7 +131,7 @@ pub fn other_truth(store: &mut Store, activity: &mut Activity, next: u32) -> Ste
     ensures ordered { IsOrdered activity.new }
 {
     match top_word(store, activity) {
-        Some(x) => push_at(store, activity, activity.top - 1, truth_word(x == 0), next),
+        Some(x) => push_below(store, activity, activity.top - 1, truth_word(x == 0), next),
         None => StepEnd::Bad(activity.pc),
     }
 }

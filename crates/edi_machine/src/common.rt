@@ -14,7 +14,7 @@ use crate::ends::StepEnd;
 use crate::instruction::code_address;
 use crate::procedures::{call, leave_block};
 use crate::rare::execute_rare_on_copy;
-use crate::variables::{keep, load};
+use crate::variables::{keep, keep_word, load, load_word};
 use crate::{jumps, processes};
 use edi_calls::Calls;
 use edi_store::Store;
@@ -77,6 +77,7 @@ fn execute_by<C: Calls>(
             _ => StepEnd::Bad(at)
         },
         7 => match *operands {
+            [1, ..] => load_word(store, activity, at + 2),
             [count, ..] => if count >= 1 {
                 load(store, activity, count, at + 2)
             } else {
@@ -85,6 +86,7 @@ fn execute_by<C: Calls>(
             _ => StepEnd::Bad(at)
         },
         8 => match *operands {
+            [1, ..] => keep_word(store, activity, at + 2),
             [count, ..] => if count >= 1 {
                 keep(store, activity, count, at + 2)
             } else {

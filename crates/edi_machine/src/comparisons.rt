@@ -12,7 +12,7 @@ ghost use Rattle.edi_machine.specs.Steps.{Gives};
 use crate::activity::Activity;
 use crate::arithmetic::{top_two_integers, truth_word};
 use crate::ends::StepEnd;
-use crate::frame::push_at;
+use crate::frame::{push_at, push_below};
 use edi_store::Store;
 
 /// An order in which two integers may stand.
@@ -46,7 +46,7 @@ pub fn compare(store: &mut Store, activity: &mut Activity, order: Order, next: u
     ensures ordered { IsOrdered activity.new }
 {
     match top_two_integers(store, activity) {
-        Some((x, y)) => push_at(
+        Some((x, y)) => push_below(
             store,
             activity,
             activity.top - 1 - 1,

@@ -39,6 +39,28 @@ pub fn top_two_words(store: &Store, activity: &Activity) -> Option<(u16, u16)>
     Some((below, store.get((activity.top - 1) as u16)))
 }
 
+/// Pushes a word where one was popped, at `top`: the frame has room for it. Goes on at `next`.
+#[inline(always)]
+pub fn push_below(
+    store: &mut Store,
+    activity: &mut Activity,
+    top: u32,
+    word: u16,
+    next: u32,
+) -> StepEnd
+    requires ordered { IsOrdered activity.old }
+    requires from { activity.old.base + 5 ≤ top }
+    requires room { top < activity.old.end }
+    ensures exact { let l = local_of store.old activity.old in
+        Gives (push (word ∷ []) (record l { top = top }) (to next)) result l (local_of store.new activity.new) }
+    ensures ordered { IsOrdered activity.new }
+{
+    store.put(top as u16, word);
+    activity.top = top + 1;
+    activity.pc = next;
+    StepEnd::On
+}
+
 /// Pushes a word onto the frame whose words from `top` on were popped, and goes on at `next`.
 #[inline(always)]
 pub fn push_at(
@@ -58,10 +80,7 @@ pub fn push_at(
     if top >= activity.end {
         return StepEnd::Bad(activity.pc);
     }
-    store.put(top as u16, word);
-    activity.top = top + 1;
-    activity.pc = next;
-    StepEnd::On
+    push_below(store, activity, top, word, next)
 }
 
 /// Pushes an address onto the frame whose words from `top` on were popped, and goes on at `next`.
@@ -125,9 +144,20 @@ pub fn push_words_at(
     StepEnd::On
 }
 
-/// The base of the frame to which so many static links lead from the frame at `base`.
+/// The base of the frame to which so many static links lead from the frame at `base`. Most often there is one.
 #[inline(always)]
 pub fn level_base(store: &Store, count: u16, base: u16) -> u16
+    ensures { result ≡ level store.now count base }
+{
+    match count {
+        1 => store.get(base),
+        _ => far_level_base(store, count, base),
+    }
+}
+
+// The same, link by link.
+#[inline(always)]
+fn far_level_base(store: &Store, count: u16, base: u16) -> u16
     ensures { result ≡ level store.now count base }
 {
     let mut at = base;

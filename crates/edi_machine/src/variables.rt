@@ -8,11 +8,11 @@ ghost use Rattle.edi_machine.specs.Steps.{Gives};
 
 use crate::activity::Activity;
 use crate::ends::StepEnd;
-use crate::frame::{push_at, top_two_words, top_word};
+use crate::frame::{push_below, top_two_words, top_word};
 use edi_store::{MEMORY_WORDS, Store};
 
-// LOAD of one word.
-fn load_word(store: &mut Store, activity: &mut Activity, next: u32) -> StepEnd
+/// LOAD of one word.
+pub fn load_word(store: &mut Store, activity: &mut Activity, next: u32) -> StepEnd
     requires ordered { IsOrdered activity.old }
     ensures exact { let l = local_of store.old activity.old in
         Gives (pop_word l (λ x l. within x 1 (push (words_at l.memory x 1) l (to next)))) result l (local_of store.new activity.new) }
@@ -22,7 +22,7 @@ fn load_word(store: &mut Store, activity: &mut Activity, next: u32) -> StepEnd
         return StepEnd::Bad(activity.pc);
     };
     let word = store.get(x);
-    push_at(store, activity, activity.top - 1, word, next)
+    push_below(store, activity, activity.top - 1, word, next)
 }
 
 /// LOAD.
@@ -33,9 +33,6 @@ pub fn load(store: &mut Store, activity: &mut Activity, count: u16, next: u32) -
         Gives (pop_word l (λ x l. within x count (push (words_at l.memory x count) l (to next)))) result l (local_of store.new activity.new) }
     ensures ordered { IsOrdered activity.new }
 {
-    if count == 1 {
-        return load_word(store, activity, next);
-    }
     let Some(x) = top_word(store, activity) else {
         return StepEnd::Bad(activity.pc);
     };
@@ -52,8 +49,8 @@ pub fn load(store: &mut Store, activity: &mut Activity, count: u16, next: u32) -
     StepEnd::On
 }
 
-// STORE of one word.
-fn keep_word(store: &mut Store, activity: &mut Activity, next: u32) -> StepEnd
+/// STORE of one word.
+pub fn keep_word(store: &mut Store, activity: &mut Activity, next: u32) -> StepEnd
     requires ordered { IsOrdered activity.old }
     ensures exact { let l = local_of store.old activity.old in
         Gives (pop 1 l (λ words l. pop_word l (λ x l. within x 1 (goes (record l { memory = written l.memory x words; pc = next }))))) result l
@@ -77,9 +74,6 @@ pub fn keep(store: &mut Store, activity: &mut Activity, count: u16, next: u32) -
         (local_of store.new activity.new) }
     ensures ordered { IsOrdered activity.new }
 {
-    if count == 1 {
-        return keep_word(store, activity, next);
-    }
     let count = u32::from(count);
     if activity.top - activity.base < count + 6 {
         return StepEnd::Bad(activity.pc);

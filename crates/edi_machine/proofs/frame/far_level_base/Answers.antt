@@ -1,6 +1,6 @@
 use Rattle.std.proofs.Common.{◌≡◌, suc, ◌+◌, ◌-◌, sym, ap, ◌∙◌, arith}
 use Rattle.edi_target.specs.Memory.{level}
-use Rattle.edi_machine.proofs.frame.level_base.Goals as goal
+use Rattle.edi_machine.proofs.frame.far_level_base.Goals as goal
 
 pub loop-preserved : goal.loop-preserved
 loop-preserved c =

@@ -1,7 +1,7 @@
 use Rattle.std.proofs.Common.{◌∷◌, [], ◌∙◌, arith}
 use Rattle.edi_machine.specs.Activities.{local_of}
 use Rattle.edi_machine.proofs.Frames.{put_one, pushed}
-use Rattle.edi_machine.proofs.frame.push_at.Goals as goal
+use Rattle.edi_machine.proofs.frame.push_below.Goals as goal
 
 pub returns-clause-exact : goal.returns-clause-exact
 returns-clause-exact c =

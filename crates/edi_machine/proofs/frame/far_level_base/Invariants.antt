@@ -1,6 +1,6 @@
 use Rattle.std.proofs.Common.{◌≡◌, ◌-◌}
 use Rattle.edi_target.specs.Memory.{level}
-use Rattle.edi_machine.proofs.frame.level_base.Given as goal
+use Rattle.edi_machine.proofs.frame.far_level_base.Given as goal
 
 -- the links that are left lead from here where all lead from the base
 abbrev pub invariant-loop : goal.invariant-loop
