@@ -8,7 +8,6 @@ ghost use Rattle.edi_unit.specs.View.{
   expressions_of,
   links_of,
   part_of,
-  parts_of,
   place_of,
 };
 ghost use Rattle.edi_code.specs.InScope as long;
@@ -20,7 +19,7 @@ use crate::pieces::{
 };
 use crate::scope::Scope;
 use edi_unit::{
-    Argument, Arguments, Links, Part, Parts, Place, Value, Values, expression_type, operator_type,
+    Argument, Arguments, Links, Part, Place, Value, Values, expression_type, operator_type,
     part_type, slot,
 };
 
@@ -59,17 +58,8 @@ fn make_length(parts: &Values, scope: &Scope<'_>, of: u32) -> u32
     if are_constants(parts) {
         return 2 + parts.len() as u32;
     }
-    values_length(parts, scope)
-}
-
-// The words of one expression after another.
-#[cycle(lengths)]
-fn values_length(values: &Values, scope: &Scope<'_>) -> u32
-    requires small { long.expressions_length scope.now (expressions_of values.now) < 2 ^ 32 }
-    ensures exact { result ≡ long.expressions_length scope.now (expressions_of values.now) }
-{
     let mut words: u32 = 0;
-    for value in values.items() {
+    for value in parts.items() {
         words += value_length(value, scope);
     }
     words
@@ -113,22 +103,13 @@ pub(crate) fn place_length(place: &Place, scope: &Scope<'_>) -> u32
     ensures exact { result ≡ long.place_length scope.now (place_of place.now) }
 {
     let variable = slot(scope.blocks, scope.block, place.levels, place.variable);
-    variable_length(variable) + parts_length(&place.parts, scope, slot_type(variable))
-}
-
-// The words of the steps to a part of a variable of type `root`.
-#[cycle(lengths)]
-fn parts_length(parts: &Parts, scope: &Scope<'_>, root: u32) -> u32
-    requires small { long.parts_length scope.now root (parts_of parts.now) < 2 ^ 32 }
-    ensures exact { result ≡ long.parts_length scope.now root (parts_of parts.now) }
-{
-    let mut of = root;
+    let mut of = slot_type(variable);
     let mut words: u32 = 0;
-    for part in parts.items() {
+    for part in place.parts.items() {
         words += part_length(part, scope, of);
         of = part_type(scope.types, of, part);
     }
-    words
+    variable_length(variable) + words
 }
 
 // The words of one step, from a variable of type `of`.

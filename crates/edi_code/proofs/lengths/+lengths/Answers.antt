@@ -23,8 +23,8 @@ make_length-returns-then-are_constants t c =
     c.are_constants.ensures.exact in
     omega (arith, long, c.len.ensures.exact)
 
-pub values_length-loop-value-preserved : goal.values_length-loop-value-preserved
-values_length-loop-value-preserved t c =
+pub make_length-loop-value-preserved : goal.make_length-loop-value-preserved
+make_length-loop-value-preserved t c =
     item_longer (of_values c.args.scope.now) 0 0 0 _ _ _ _ _ (drop_item _ _ _ c.loop-value-test.true c.value-item.is) c.loop-value.invariant
     refl c.value_length-words.ensures.exact
 
@@ -33,9 +33,9 @@ members_length-loop-member-preserved t c =
     item_longer (of_members c.args.scope.now 0) 0 0 0 _ _ _ _ _ (drop_item _ _ _ c.loop-member-test.true c.member-item.is) c.loop-member.invariant
     refl (ap (λ n. n + 2) c.value_length.ensures.exact)
 
-pub parts_length-loop-part-preserved : goal.parts_length-loop-part-preserved
-parts_length-loop-part-preserved t c =
-    item_longer (of_parts c.args.scope.now) c.args.root c.loop-part.of _ _ _ _ _ _ (drop_item _ _ _ c.loop-part-test.true c.part-item.is) c.loop-part.invariant
+pub place_length-loop-part-preserved : goal.place_length-loop-part-preserved
+place_length-loop-part-preserved t c =
+    item_longer (of_parts c.args.scope.now) c.slot_type-of.result c.loop-part.of _ _ _ _ _ _ (drop_item _ _ _ c.loop-part-test.true c.part-item.is) c.loop-part.invariant
     c.part_type-of.ensures.exact c.part_length-words.ensures.exact
 
 pub arguments_length-loop-argument-preserved : goal.arguments_length-loop-argument-preserved
