@@ -8,7 +8,7 @@ ghost use Rattle.edi_unit.specs.Tree.{link as plain_link};
 ghost use Rattle.edi_scheme.specs.Pieces.{code_length};
 ghost use Rattle.edi_code.specs.Emits.{Emits, IsWhole, code_of_option};
 ghost use Rattle.edi_code.specs.InScope as in_scope;
-ghost use Rattle.edi_code.specs.InScope.{ExpressionIsWritable, ExpressionsAreWritable, LinkIsWritable, LinksAreWritable};
+ghost use Rattle.edi_code.specs.InScope.{ExpressionIsWritable, LinkIsWritable, LinksAreWritable};
 ghost use Rattle.edi_code.specs.Scope.{MayBeWritten};
 
 pub(crate) mod places;
@@ -98,49 +98,21 @@ fn emit_make(
 {
     if is_set(scope.types, of) {
         put(scope.alloc, &Op::Zeros { count: 8 }, out)?;
-        return emit_members(parts, scope, at + 2, line, out);
+        let mut here = at + 2;
+        for member in parts.items() {
+            let behind = emit_value(member, scope, here, out)?;
+            put(scope.alloc, &Op::Member { line }, out)?;
+            here = behind + 2;
+        }
+        return Ok(here);
     }
     if let Some(words) = constant_row(scope.alloc, parts)? {
         put(scope.alloc, &Op::Text { words: &words }, out)?;
         return Ok(at + 2 + words.len() as u32);
     }
-    emit_values(parts, scope, at, out)
-}
-
-// The code of one expression after another.
-#[cycle(emitted)]
-fn emit_values(values: &Values, scope: &Scope<'_>, at: u32, out: &mut Vec<u16>) -> Behind
-    requires may { MayBeWritten scope.now at (in_scope.expressions_length scope.now (expressions_of values.now))
-        (ExpressionsAreWritable scope.now (expressions_of values.now)) }
-    ensures emits { OnOk result (Emits out.old.items out.new.items (in_scope.expressions_code scope.now at (expressions_of values.now))) }
-    ensures behind { IfOk result (λ behind. behind ≡ at + in_scope.expressions_length scope.now (expressions_of values.now)) }
-{
     let mut here = at;
-    for value in values.items() {
+    for value in parts.items() {
         here = emit_value(value, scope, here, out)?;
-    }
-    Ok(here)
-}
-
-// The code of the members of a set, each joined to it.
-#[cycle(emitted)]
-fn emit_members(
-    members: &Values,
-    scope: &Scope<'_>,
-    at: u32,
-    line: u16,
-    out: &mut Vec<u16>,
-) -> Behind
-    requires may { MayBeWritten scope.now at (in_scope.members_length scope.now (expressions_of members.now))
-        (ExpressionsAreWritable scope.now (expressions_of members.now)) }
-    ensures emits { OnOk result (Emits out.old.items out.new.items (in_scope.members_code scope.now at line (expressions_of members.now))) }
-    ensures behind { IfOk result (λ behind. behind ≡ at + in_scope.members_length scope.now (expressions_of members.now)) }
-{
-    let mut here = at;
-    for member in members.items() {
-        let behind = emit_value(member, scope, here, out)?;
-        put(scope.alloc, &Op::Member { line }, out)?;
-        here = behind + 2;
     }
     Ok(here)
 }

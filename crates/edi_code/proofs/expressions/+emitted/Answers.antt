@@ -17,15 +17,15 @@ use Rattle.edi_code.proofs.Links.{link_is}
 use Rattle.edi_code.proofs.Listed.{item_behind, all_behind, of_values, of_members, of_links, of_parts, of_arguments}
 use Rattle.edi_code.proofs.expressions.+emitted.Goals as goal
 
-pub emit_values-loop-value-preserved : goal.emit_values-loop-value-preserved
-emit_values-loop-value-preserved t c =
+pub emit_make-loop-value-preserved : goal.emit_make-loop-value-preserved
+emit_make-loop-value-preserved t c =
     item_behind (of_values c.args.scope.now) _ _ _ _ _ _ _ _ _ _ _ _ (drop_item _ _ _ c.loop-value-test.true c.value-item.is) c.loop-value.invariant
     refl c.in_ok-here.ensures.behind c.in_ok-here.ensures.emits
 
-pub emit_members-loop-member-preserved : goal.emit_members-loop-member-preserved
-emit_members-loop-member-preserved t c =
+pub emit_make-loop-member-preserved : goal.emit_make-loop-member-preserved
+emit_make-loop-member-preserved t c =
     item_behind (of_members c.args.scope.now c.args.line) _ _ _ _ _ _ _ _ _ _ _ _ (drop_item _ _ _ c.loop-member-test.true c.member-item.is)
-    c.loop-member.invariant refl (omega (arith, c.in_ok-behind.ensures.behind)) (emits_then _ _ _ _ _ c.in_ok-behind.ensures.emits c.in_ok-put.ensures.emits)
+    c.loop-member.invariant refl (omega (arith, c.in_ok-behind.ensures.behind)) (emits_then _ _ _ _ _ c.in_ok-behind.ensures.emits c.in_ok-put-2.ensures.emits)
 
 pub places::emit_parts-loop-part-preserved : goal.places::emit_parts-loop-part-preserved
 places::emit_parts-loop-part-preserved t c =
