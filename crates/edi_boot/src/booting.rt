@@ -28,13 +28,11 @@ fn session_status(end: SessionEnd) -> Status
     ensures exact { result ≡ session_status end }
 {
     match end {
-        SessionEnd::Halted => Status::Ok,
-        SessionEnd::InputEnd => Status::Ok,
+        SessionEnd::Halted | SessionEnd::InputEnd => Status::Ok,
         SessionEnd::Limit => Status::SessionLimit,
         SessionEnd::DriveFault => Status::DriveFault,
         SessionEnd::InputFault => Status::InputFault,
-        SessionEnd::TerminalFault => Status::OutputFault,
-        SessionEnd::PrinterFault => Status::OutputFault,
+        SessionEnd::TerminalFault | SessionEnd::PrinterFault => Status::OutputFault,
     }
 }
 

@@ -1,10 +1,7 @@
 //! From a file with a code to its listing.
 
-ghost use Rattle.std.specs.Prelude.{◌≡◌, ◌≤◌, IfErr};
-ghost use Rattle.edi_told.specs.Faults.{CountRose};
-ghost use Rattle.edi_told.specs.Told.{WhereTold};
 ghost use Rattle.edi_statuses.specs.Outside.{still_told};
-ghost use Rattle.edi_steps.specs.OnFiles.{files_only};
+ghost use Rattle.edi_steps.specs.OnFiles.{OnlyReadsFiles, files_only};
 ghost use Rattle.edi_code_commands.specs.CodeCommands.{ListsBytes, ListsFile};
 
 use edi_host::Files;
@@ -35,9 +32,7 @@ pub(crate) fn listing_of_file<F: Files>(
     file: &str,
 ) -> Result<Vec<u8>, Status>
     ensures lists { ListsFile (λ text. text.items) (files_only (still_told (F.contents files.old) (F.contents files.new))) file.now result }
-    ensures unchanged { WhereTold (F.contents files.old) (F.contents files.new) (λ old new. new ≡ old) }
-    ensures later { F.faults files.old ≤ F.faults files.new }
-    ensures cause { IfErr result (λ s. s ≡ Status.FileFault → CountRose (F.faults files.old) (F.faults files.new)) }
+    ensures only { OnlyReadsFiles F.contents F.faults result files.old files.new }
 {
     match fetch(alloc, files, file, LIMIT) {
         Ok(bytes) => listing_of_bytes(alloc, &bytes),

@@ -1,7 +1,8 @@
 -- From the steps of `get` to what its status means.
-use Rattle.std.proofs.Common.{◌≡◌, ◌∙◌, inl, inr, sym, ℕ, List, [], ◌∷◌, take, Option, Some, None, Ok, Err, refl, ap}
+use Rattle.std.proofs.Common.{◌≡◌, ◌≤◌, ◌∙◌, inl, inr, sym, subst, ℕ, List, [], ◌∷◌, take, Option, Some, None, Ok, Err, refl, ap}
 use Rattle.std.specs.Option.{option_map}
 use Rattle.std.specs.FinMap as map
+use Rattle.edi_told.specs.Faults.{CountRose}
 use Rattle.edi_told.specs.Told.{WhereTold}
 use Rattle.edi_host.specs.Files.{Contents, KeepLeaves}
 use Rattle.edi_host.specs.declared.files.KeepEnd.{KeepEnd}
@@ -15,7 +16,7 @@ use Rattle.edi_statuses.specs.Outside.{Lent, Outside, seen}
 use Rattle.edi_statuses.specs.Steps.{goes}
 use Rattle.edi_statuses.specs.Commands.{GetSteps}
 use Rattle.edi_statuses.specs.Means.{Means}
-use Rattle.edi_disk_commands.specs.OnDisk.{IsOfDisk, MeansOnDisk, RestStays}
+use Rattle.edi_disk_commands.specs.OnDisk.{HasCauseOnDisk, IsOfDisk, MeansOnDisk, RestStays}
 use Rattle.edi_disk_commands.specs.OnDrive.{IsOfRead, ReadsOn, status_kept}
 use Rattle.edi_statuses.proofs.Told.{first_told, still, told_so}
 use Rattle.edi_disk_commands.proofs.Meant.{Same, meant, not_begun, nothing, only_keeps}
@@ -139,6 +140,16 @@ read_of_disk (status.BadImage broken) of_ = tt
 read_of_disk status.NoMemory of_ = tt
 read_of_disk status.DriveFault of_ = tt
 read_of_disk s of_ = absurd of_
+
+pub read_cause : (s : Status) (files files' drive drive' : ℕ) → IsOfRead s → files ≤ files' → drive ≤ drive' → (s ≡ status.DriveFault → CountRose drive drive')
+    → HasCauseOnDisk s files files' drive drive'
+read_cause s files files' drive drive' h later_files later_drive cause = record {
+  kind = read_of_disk s h;
+  later_files = later_files;
+  later_drive = later_drive;
+  cause_files = λ e. absurd (subst IsOfRead e h);
+  cause_drive = cause;
+}
 
 pub kept_of_disk : (end : KeepEnd) → IsOfDisk (status_kept end)
 kept_of_disk keep.Ok = tt

@@ -1,5 +1,6 @@
 -- Words of contracts. What a command answers that touches the drive alone, or the files and the drive.
-use Rattle.std.specs.Prelude.{◌≡◌, ℕ, List, [], Option, Some, ⊤}
+use Rattle.std.specs.Prelude.{◌≡◌, ◌≤◌, ℕ, List, [], Option, Some, ⊤}
+use Rattle.edi_told.specs.Faults.{CountRose}
 use Rattle.edi_host.specs.Files.{Contents}
 use Rattle.edi_words.specs.Words.{Command}
 use Rattle.edi_statuses.specs.declared.status.Status.{Status}
@@ -29,3 +30,11 @@ abbrev pub IsOfDisk : Status → Type 0
 IsOfDisk status.InputFault = ⊥
 IsOfDisk status.OutputFault = ⊥
 IsOfDisk _ = ⊤
+
+-- A status that tells a fault comes only where the count of its object rose, which is that of the files or of the drive; no count falls.
+pub record HasCauseOnDisk (s : Status) (files files' drive drive' : ℕ) : Type 0 where
+  pub kind : IsOfDisk s
+  pub later_files : files ≤ files'
+  pub later_drive : drive ≤ drive'
+  pub cause_files : s ≡ status.FileFault → CountRose files files'
+  pub cause_drive : s ≡ status.DriveFault → CountRose drive drive'

@@ -1,9 +1,13 @@
 -- Words of contracts. What the functions below the commands do on a drive that tells its blocks.
-use Rattle.std.specs.Prelude.{◌≡◌, ◌⊎◌, ℕ, Bool, true, false, List, length, take, Some, None, option_map, Result, Ok, Err, ⊤}
+use Rattle.std.specs.Prelude.{◌≡◌, ◌≤◌, ◌⊎◌, ℕ, Bool, true, false, List, length, take, Some, None, option_map, Result, Ok, Err, ⊤}
+use Rattle.edi_told.specs.Faults.{CountRose}
 use Rattle.edi_calls.specs.State.{File, find_file}
 use Rattle.edi_host.specs.declared.files.KeepEnd.{KeepEnd}
 use Rattle.edi_host.specs.declared.files.KeepEnd.TheVariants as keep
+use Rattle.edi_disk.specs.Shown.{drive_of, reference_of}
 use Rattle.edi_image.specs.Image.{mount_fault_of, slots_of}
+use Rattle.edi_catalog.specs.Mounted.{disk_of, room_reference}
+use Rattle.edi_catalog.specs.declared.catalog.Catalog.{Catalog}
 use Rattle.edi_catalog.specs.declared.ends.CatEnd.{CatEnd}
 use Rattle.edi_catalog.specs.declared.ends.CatEnd.TheVariants as cat
 use Rattle.edi_statuses.specs.declared.status.Status.{Status}
@@ -11,6 +15,18 @@ use Rattle.edi_statuses.specs.declared.status.Status.TheVariants as status
 use Rattle.edi_statuses.specs.Steps.{IsBrokenRule}
 use Rattle.edi_statuses.specs.Commands.{ArePut, is_full}
 use Rattle.edi_statuses.specs.Means.{ArePutInPart}
+
+-- Whatever the drive tells, it has as many blocks as before, and its count of faults has not fallen, and rose where it has failed.
+pub record KeepsCounts {D : Type 0} (count faults : D → ℕ) (failed : Type 0) (before after : D) : Type 0 where
+  pub size : count after ≡ count before
+  pub later : faults before ≤ faults after
+  pub cause : failed → CountRose (faults before) (faults after)
+
+-- so of the drive of a catalogue, which keeps its drive and its room
+pub record KeepsCatalog {D : Type 0} (count faults : D → ℕ) (failed : Type 0) (before after : Catalog D) : Type 0 where
+  pub same_reference : reference_of (disk_of after) ≡ reference_of (disk_of before)
+  pub same_room : room_reference after ≡ room_reference before
+  pub counts : KeepsCounts count faults failed (drive_of (disk_of before)) (drive_of (disk_of after))
 
 -- ---- put
 

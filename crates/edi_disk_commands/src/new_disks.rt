@@ -3,7 +3,7 @@
 ghost use Rattle.std.specs.Prelude.{◌≡◌, ◌≤◌, None, Some, true};
 ghost use Rattle.edi_told.specs.Faults.{CountRose};
 ghost use Rattle.edi_words.specs.Words.{newdisk};
-ghost use Rattle.edi_disk_commands.specs.OnDisk.{IsOfDisk, MeansOnDisk, MeansOnDrive};
+ghost use Rattle.edi_disk_commands.specs.OnDisk.{HasCauseOnDisk, IsOfDisk, MeansOnDisk, MeansOnDrive};
 ghost use Rattle.edi_statuses.specs.EachObject.{CountsNew, is_before_format};
 
 use edi_catalog::{FormatEnd, format};
@@ -52,11 +52,7 @@ pub fn new_disk_from<F: Files, D: Drive>(
     ensures size { CountsNew result blocks (D.count drive.old) (D.count drive.new) (D.faults drive.old) (D.faults drive.new) }
     // Where it is refused, the drive is left alone, whatever that tells.
     ensures early { is_before_format result ≡ true → drive.new ≡ drive.old }
-    ensures kind { IsOfDisk result }
-    ensures later_files { F.faults files.old ≤ F.faults files.new }
-    ensures later_drive { D.faults drive.old ≤ D.faults drive.new }
-    ensures cause_files { result ≡ Status.FileFault → CountRose (F.faults files.old) (F.faults files.new) }
-    ensures cause_drive { result ≡ Status.DriveFault → CountRose (D.faults drive.old) (D.faults drive.new) }
+    ensures cause { HasCauseOnDisk result (F.faults files.old) (F.faults files.new) (D.faults drive.old) (D.faults drive.new) }
 {
     let old = match fetch(alloc, files, file, LIMIT) {
         Ok(old) => old,

@@ -1,13 +1,12 @@
 //! `put FILE TITLE`.
 
 ghost use Rattle.std.specs.Prelude.{◌≡◌, ◌≤◌, true, length};
-ghost use Rattle.edi_told.specs.Faults.{CountRose};
 ghost use Rattle.edi_told.specs.Told.{WhereTold};
 ghost use Rattle.edi_calls.specs.State.{is_title, most_bytes};
 ghost use Rattle.edi_words.specs.Words.{put};
 ghost use Rattle.edi_statuses.specs.EachObject.{FitsCount, KeepsImage, is_before_drive};
-ghost use Rattle.edi_disk_commands.specs.OnDisk.{IsOfDisk, MeansOnDisk};
-ghost use Rattle.edi_disk_commands.specs.OnDrive.{IsOfPut, PutsOn};
+ghost use Rattle.edi_disk_commands.specs.OnDisk.{HasCauseOnDisk, MeansOnDisk};
+ghost use Rattle.edi_disk_commands.specs.OnDrive.{IsOfPut, KeepsCounts, PutsOn};
 
 use crate::storing::store_over;
 use crate::titles::title_of;
@@ -29,9 +28,7 @@ fn put_on<D: Drive>(alloc: Global, drive: &mut D, title: &Title, bytes: &[u8]) -
     requires most { length bytes.now ≤ most_bytes }
     ensures puts { WhereTold (D.contents drive.old) (D.contents drive.new) (PutsOn result title.now bytes.now) }
     ensures kind { IsOfPut result }
-    ensures later { D.faults drive.old ≤ D.faults drive.new }
-    ensures cause { result ≡ Status.DriveFault → CountRose (D.faults drive.old) (D.faults drive.new) }
-    ensures size { D.count drive.new ≡ D.count drive.old }
+    ensures counts { KeepsCounts D.count D.faults (result ≡ Status.DriveFault) drive.old drive.new }
     ensures fits { FitsCount result (D.count drive.old) }
 {
     let mut disk = Disk::attach(drive);
@@ -58,11 +55,7 @@ pub fn put<F: Files, D: Drive>(
 ) -> Status
     requires title { is_title title.now ≡ true }
     ensures means { MeansOnDisk (put file.now title.now) result (F.contents files.old) (F.contents files.new) (D.contents drive.old) (D.contents drive.new) }
-    ensures kind { IsOfDisk result }
-    ensures later_files { F.faults files.old ≤ F.faults files.new }
-    ensures later_drive { D.faults drive.old ≤ D.faults drive.new }
-    ensures cause_files { result ≡ Status.FileFault → CountRose (F.faults files.old) (F.faults files.new) }
-    ensures cause_drive { result ≡ Status.DriveFault → CountRose (D.faults drive.old) (D.faults drive.new) }
+    ensures cause { HasCauseOnDisk result (F.faults files.old) (F.faults files.new) (D.faults drive.old) (D.faults drive.new) }
     // The status fits the number of blocks, which stays, whatever the drive tells; and where the drive is not asked, it is left alone.
     ensures size { D.count drive.new ≡ D.count drive.old }
     ensures fits { FitsCount result (D.count drive.old) }

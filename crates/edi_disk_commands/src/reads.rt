@@ -1,13 +1,12 @@
 //! `get TITLE FILE`.
 
-ghost use Rattle.std.specs.Prelude.{◌≡◌, ◌≤◌, true, length, IfErr, IfOk};
-ghost use Rattle.edi_told.specs.Faults.{CountRose};
+ghost use Rattle.std.specs.Prelude.{◌≡◌, ◌≤◌, true, length, Err, IfErr, IfOk};
 ghost use Rattle.edi_told.specs.Told.{WhereTold};
 ghost use Rattle.edi_calls.specs.State.{is_title};
 ghost use Rattle.edi_words.specs.Words.{get};
 ghost use Rattle.edi_statuses.specs.EachObject.{FitsGet, MayBeImage};
-ghost use Rattle.edi_disk_commands.specs.OnDisk.{IsOfDisk, MeansOnDisk};
-ghost use Rattle.edi_disk_commands.specs.OnDrive.{IsOfRead, ReadsOn, status_kept};
+ghost use Rattle.edi_disk_commands.specs.OnDisk.{HasCauseOnDisk, MeansOnDisk};
+ghost use Rattle.edi_disk_commands.specs.OnDrive.{IsOfRead, KeepsCounts, ReadsOn, status_kept};
 
 use crate::titles::title_of;
 use edi_catalog::{Title, check, mount};
@@ -31,9 +30,7 @@ fn read_on<D: Drive>(
     ensures reads { WhereTold (D.contents drive.old) (D.contents drive.new) (λ old new. (new ≡ old) × ReadsOn result title.now into.new old) }
     ensures within { IfOk result (λ n. n ≤ length into.new) }
     ensures kind { IfErr result IsOfRead }
-    ensures later { D.faults drive.old ≤ D.faults drive.new }
-    ensures cause { IfErr result (λ s. s ≡ Status.DriveFault → CountRose (D.faults drive.old) (D.faults drive.new)) }
-    ensures size { D.count drive.new ≡ D.count drive.old }
+    ensures counts { KeepsCounts D.count D.faults (result ≡ Err Status.DriveFault) drive.old drive.new }
     ensures mounted { IfOk result (λ n. MayBeImage (D.count drive.old)) }
     ensures fits { IfErr result (λ s. FitsGet s (D.count drive.old)) }
 {
@@ -74,11 +71,7 @@ pub fn get<F: Files, D: Drive>(
 ) -> Status
     requires title { is_title title.now ≡ true }
     ensures means { MeansOnDisk (get title.now file.now) result (F.contents files.old) (F.contents files.new) (D.contents drive.old) (D.contents drive.new) }
-    ensures kind { IsOfDisk result }
-    ensures later_files { F.faults files.old ≤ F.faults files.new }
-    ensures later_drive { D.faults drive.old ≤ D.faults drive.new }
-    ensures cause_files { result ≡ Status.FileFault → CountRose (F.faults files.old) (F.faults files.new) }
-    ensures cause_drive { result ≡ Status.DriveFault → CountRose (D.faults drive.old) (D.faults drive.new) }
+    ensures cause { HasCauseOnDisk result (F.faults files.old) (F.faults files.new) (D.faults drive.old) (D.faults drive.new) }
     // The status fits the number of blocks, which stays, whatever the drive tells.
     ensures size { D.count drive.new ≡ D.count drive.old }
     ensures fits { FitsGet result (D.count drive.old) }

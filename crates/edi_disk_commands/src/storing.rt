@@ -1,13 +1,12 @@
 //! Storing a file in place of any file of its title, protected or not.
 
-ghost use Rattle.std.specs.Prelude.{◌≡◌, ◌≤◌, ◌⊎◌, length, Err};
-ghost use Rattle.edi_told.specs.Faults.{CountRose};
+ghost use Rattle.std.specs.Prelude.{◌≡◌, ◌≤◌, length, Err};
 ghost use Rattle.edi_told.specs.Told.{WhereTold};
 ghost use Rattle.edi_calls.specs.State.{most_bytes};
-ghost use Rattle.edi_disk.specs.Shown.{drive_of, reference_of};
-ghost use Rattle.edi_catalog.specs.Mounted.{IsMounted, disk_of, room_reference};
+ghost use Rattle.edi_disk.specs.Shown.{drive_of};
+ghost use Rattle.edi_catalog.specs.Mounted.{IsMounted, disk_of};
 ghost use Rattle.edi_statuses.specs.Commands.{kind_of_bytes};
-ghost use Rattle.edi_disk_commands.specs.OnDrive.{StoresOver, stands};
+ghost use Rattle.edi_disk_commands.specs.OnDrive.{KeepsCatalog, StoresOver, stands};
 
 use edi_calls::blocks_of;
 use edi_catalog::{CatEnd, Catalog, FileKind, Title};
@@ -41,11 +40,7 @@ pub(crate) fn store_over<D: Drive>(
     requires most { length bytes.now ≤ most_bytes }
     ensures leaves { WhereTold (D.contents (drive_of (disk_of catalog.old))) (D.contents (drive_of (disk_of catalog.new)))
         (StoresOver result title.now bytes.now) }
-    ensures same_reference { reference_of (disk_of catalog.new) ≡ reference_of (disk_of catalog.old) }
-    ensures same_room { room_reference catalog.new ≡ room_reference catalog.old }
-    ensures size { D.count (drive_of (disk_of catalog.new)) ≡ D.count (drive_of (disk_of catalog.old)) }
-    ensures later { D.faults (drive_of (disk_of catalog.old)) ≤ D.faults (drive_of (disk_of catalog.new)) }
-    ensures cause { result ≡ Err CatEnd.Fault → CountRose (D.faults (drive_of (disk_of catalog.old))) (D.faults (drive_of (disk_of catalog.new))) }
+    ensures keeps { KeepsCatalog D.count D.faults (result ≡ Err CatEnd.Fault) catalog.old catalog.new }
 {
     let kind = kind_of_bytes(bytes);
     let answer = catalog.store(title, kind, bytes);

@@ -153,11 +153,7 @@ module _ (parts : CodeParts) (bound : ℕ) (old : Drawn) (none : old.drawn ≡ 0
 -- a run that has come to its ending is by no fault
 pub ended_cause : (e : outcome.Ending) (had has : Counts) → HasCause (status_of e) had has
 ended_cause outcome.done had has = tt
-ended_cause (outcome.halted line) had has = tt
-ended_cause (outcome.failed why line) had has = tt
-ended_cause outcome.turns had has = tt
-ended_cause outcome.standstill had has = tt
-ended_cause (outcome.bad address) had has = tt
+ended_cause other had has = tt
 
 -- another number that is the same
 pub with_bound : (n m : ℕ) → n ≡ m → (parts : CodeParts) (choices : Choices) (name : Option (List ℕ)) (s : Status) (due : Bool) (before after : Outside)

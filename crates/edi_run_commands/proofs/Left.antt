@@ -100,13 +100,8 @@ IsNoFault e = e ≡ ending.Fault → ⊥
 
 runs_as : (parts : CodeParts) (system : State) (bound : ℕ) (old : Drawn) (e : Ending) (words : List ℕ) (used : ℕ) (now : State) (new : Drawn) → IsNoFault e
     → RunsTo parts system bound old e words used now new → RunsAs parts system bound old e words used now new
-runs_as parts system bound old ending.Done words used now new unfailed h = h
-runs_as parts system bound old (ending.Halted line) words used now new unfailed h = h
-runs_as parts system bound old (ending.Failed why line) words used now new unfailed h = h
-runs_as parts system bound old ending.Turns words used now new unfailed h = h
-runs_as parts system bound old ending.Standstill words used now new unfailed h = h
-runs_as parts system bound old (ending.Bad address) words used now new unfailed h = h
 runs_as parts system bound old ending.Fault words used now new unfailed h = absurd (unfailed refl)
+runs_as parts system bound old other words used now new unfailed h = h
 
 -- ---- programs with this code
 

@@ -5,16 +5,18 @@ use Rattle.edi_calls.specs.Choice.{Choices}
 use Rattle.edi_calls.specs.Outcome as outcome
 use Rattle.edi_calls.specs.Outcome.{Ending}
 use Rattle.edi_words.specs.Words as words
-use Rattle.edi_words.specs.Words.{Options}
+use Rattle.edi_words.specs.Words.{Command}
 use Rattle.edi_statuses.specs.declared.status.Status.{Status}
 use Rattle.edi_statuses.specs.declared.status.Status.TheVariants as status
-use Rattle.edi_statuses.specs.Outside.{Outside, IsSomeFile, Lent}
+use Rattle.edi_statuses.specs.Outside.{Outside, seen, Shows, Lent}
+use Rattle.edi_statuses.specs.Lines.{is_due}
+use Rattle.edi_statuses.specs.EachObject.{LeavesEach, Uses}
 use Rattle.edi_statuses.specs.Steps.{AfterStep, goes, stops, Mounts}
-use Rattle.edi_statuses.specs.Executions.{Runnable, text, code, status_of}
-use Rattle.edi_statuses.specs.Commands.{RunSteps, ExecSteps}
-use Rattle.edi_statuses.specs.Means.{AtRecord, Came, ExecAsks, MeansOf, RunAsks}
+use Rattle.edi_statuses.specs.Executions.{Runnable, status_of}
+use Rattle.edi_statuses.specs.Commands.{Comes, Does, Runs}
+use Rattle.edi_statuses.specs.Means.{AtRecord, Came, Far, MeansOf, Wants}
 use Rattle.edi_run_commands.specs.CodeRan.{CodeRan}
-use Rattle.edi_run_commands.specs.RunMeans.{RunMeans, TextCame, CodeFileCame, replaying}
+use Rattle.edi_run_commands.specs.RunMeans.{RunMeans, replaying}
 
 pub at_record : {A : Type 0} (name : Option (List ℕ)) (steps : AfterStep A → Type 0) (P : A → Type 0) (a : A) → IsSome name → steps (goes a) → P a
     → AtRecord name steps P
@@ -56,17 +58,29 @@ module _ {A : Type 0} (there asks : Type 0) (steps : AfterStep A → Type 0) (pr
 
 -- ---- the commands
 
-run_means : (file : List ℕ) (o : Options) (s : Status) (before after : Outside) (shown : List ℕ) (kernel : Lent)
-    → RunMeans (IsSomeFile before file) (RunAsks before file o.choices) (RunSteps before file o.choices) (λ a. text a.0) (λ a. a.1) o.turns o.record_file s
-    before after shown kernel
-    → MeansOf s (words.run file o) before after shown kernel
-run_means file o status.Words before after shown kernel h = h
-run_means file o status.NoMemory before after shown kernel h = h
-run_means file o status.FileFault before after shown kernel h = record { uses = refl; far = h }
-run_means file o status.DriveFault before after shown kernel h = record { uses = refl; far = h }
-run_means file o status.InputFault before after shown kernel h = record { uses = tt; far = h }
-run_means file o status.OutputFault before after shown kernel h = record { uses = tt; far = h }
-run_means file o s before after shown kernel h = h
+-- A command uses all objects, and each status means of it what it means of one that runs a program, whatever its steps are.
+pub means_by : {A : Type 0} (c : Command) (there asks : Type 0) (steps : AfterStep A → Type 0) (program : A → Runnable) (choices : A → Choices) (bound : ℕ)
+    (name : Option (List ℕ)) (before after : Outside) (shown : List ℕ) (kernel : Lent)
+    → Uses status.FileFault c → Uses status.DriveFault c
+    → (RunMeans there asks steps program choices bound name status.NoMemory before after shown kernel → Wants c before after shown kernel)
+    → (RunMeans there asks steps program choices bound name status.FileFault before after shown kernel → Far status.FileFault c before after shown kernel)
+    → (RunMeans there asks steps program choices bound name status.DriveFault before after shown kernel → Far status.DriveFault c before after shown kernel)
+    → (RunMeans there asks steps program choices bound name status.InputFault before after shown kernel → Far status.InputFault c before after shown kernel)
+    → (RunMeans there asks steps program choices bound name status.OutputFault before after shown kernel
+    → Far status.OutputFault c before after shown kernel)
+    → ((s : Status) → Does steps (λ a. Runs (program a) bound (choices a) name) s before after shown kernel → Comes c s before after shown kernel)
+    → (s : Status) → RunMeans there asks steps program choices bound name s before after shown kernel → MeansOf s c before after shown kernel
+means_by c there asks steps program choices bound name before after shown kernel files drive wants f d i o comes status.Words h = h
+means_by c there asks steps program choices bound name before after shown kernel files drive wants f d i o comes status.NoMemory h = wants h
+means_by c there asks steps program choices bound name before after shown kernel files drive wants f d i o comes status.FileFault h =
+    record { uses = files; far = f h }
+means_by c there asks steps program choices bound name before after shown kernel files drive wants f d i o comes status.DriveFault h =
+    record { uses = drive; far = d h }
+means_by c there asks steps program choices bound name before after shown kernel files drive wants f d i o comes status.InputFault h =
+    record { uses = tt; far = i h }
+means_by c there asks steps program choices bound name before after shown kernel files drive wants f d i o comes status.OutputFault h =
+    record { uses = tt; far = o h }
+means_by c there asks steps program choices bound name before after shown kernel files drive wants f d i o comes s h = comes s h
 
 no_record : {B : Type 0} → B ⊎ ⊥ → B
 no_record (inl b) = b
@@ -82,28 +96,17 @@ replay_means file name turns status.InputFault before after shown kernel h = rec
 replay_means file name turns status.OutputFault before after shown kernel h = record { uses = tt; far = h.far }
 replay_means file name turns s before after shown kernel h = h
 
-exec_means : (file : List ℕ) (o : Options) (s : Status) (before after : Outside) (shown : List ℕ) (kernel : Lent)
-    → RunMeans (IsSomeFile before file) (ExecAsks before file o.choices) (ExecSteps before file o.choices) (λ a. code a.0) (λ a. a.1) o.turns o.record_file s
-    before after shown kernel
-    → MeansOf s (words.exec file o) before after shown kernel
-exec_means file o status.Words before after shown kernel h = h
-exec_means file o status.NoMemory before after shown kernel h = h
-exec_means file o status.FileFault before after shown kernel h = record { uses = refl; far = h }
-exec_means file o status.DriveFault before after shown kernel h = record { uses = refl; far = h }
-exec_means file o status.InputFault before after shown kernel h = record { uses = tt; far = h }
-exec_means file o status.OutputFault before after shown kernel h = record { uses = tt; far = h }
-exec_means file o s before after shown kernel h = h
-
-pub run_came : (file : List ℕ) (o : Options) (s : Status) (due : Bool) (before after : Outside) (kernel : Lent)
-    → TextCame file o.choices o.turns o.record_file s due before after kernel → Came s due (Some (words.run file o)) before after kernel
-run_came file o s due before after kernel h =
-    record {
-      shown = h.shown;
-      means = run_means file o s _ after h.shown kernel h.means;
-      shows = h.shows;
-      due_is = h.due_is;
-      each = record { drive = λ stays. h.each.drive refl; input = h.each.input; printer = h.each.printer };
-    }
+-- it has come to its status
+pub came_of : (c : Command) (s : Status) (due : Bool) (before after : Outside) (kernel : Lent) (shown : List ℕ)
+    → MeansOf s c (seen before after) after shown kernel → Shows before after shown → due ≡ is_due shown → LeavesEach None before after
+    → Came s due (Some c) before after kernel
+came_of c s due before after kernel shown means shows due_is each = record {
+  shown = shown;
+  means = means;
+  shows = shows;
+  due_is = due_is;
+  each = record { drive = λ stays. each.drive refl; input = each.input; printer = each.printer };
+}
 
 pub replayed : (file name : List ℕ) (turns : ℕ) (s : Status) (due : Bool) (before after : Outside) (kernel : Lent)
     → Came s due (Some (words.run file (replaying name turns))) before after kernel → Came s due (Some (words.replay file name turns)) before after kernel
@@ -111,17 +114,6 @@ replayed file name turns s due before after kernel h =
     record {
       shown = h.shown;
       means = replay_means file name turns s _ after h.shown kernel h.means;
-      shows = h.shows;
-      due_is = h.due_is;
-      each = record { drive = λ stays. h.each.drive refl; input = h.each.input; printer = h.each.printer };
-    }
-
-pub exec_came : (file : List ℕ) (o : Options) (s : Status) (due : Bool) (before after : Outside) (kernel : Lent)
-    → CodeFileCame file o.choices o.turns o.record_file s due before after kernel → Came s due (Some (words.exec file o)) before after kernel
-exec_came file o s due before after kernel h =
-    record {
-      shown = h.shown;
-      means = exec_means file o s _ after h.shown kernel h.means;
       shows = h.shows;
       due_is = h.due_is;
       each = record { drive = λ stays. h.each.drive refl; input = h.each.input; printer = h.each.printer };

@@ -4,6 +4,7 @@ use Rattle.std.specs.Prelude.{⊤, take}
 use Rattle.edi_told.specs.Told.{WhereTold}
 use Rattle.edi_host.specs.Files.{Contents}
 use Rattle.edi_calls.specs.Choice.{Choices}
+use Rattle.edi_words.specs.Words as words
 use Rattle.edi_words.specs.Words.{ChoicesFrom, Options}
 use Rattle.edi_target.specs.Check.{CodeParts}
 use Rattle.edi_target.specs.declared.code_fault.CodeFault.{CodeFault}
@@ -17,10 +18,11 @@ use Rattle.edi_statuses.specs.declared.status.Status.{Status}
 use Rattle.edi_statuses.specs.declared.status.Status.TheVariants as status
 use Rattle.edi_statuses.specs.Counts.{Counts, HasCause}
 use Rattle.edi_statuses.specs.EachObject.{FitsCount}
-use Rattle.edi_statuses.specs.Outside.{Outside, still_told, Lent}
+use Rattle.edi_statuses.specs.Outside.{Outside, IsSomeFile, seen, still_told, Lent}
 use Rattle.edi_statuses.specs.Steps.{AfterStep, goes, stops, Fetches, ReadsChoices, Accepts, Loads}
 use Rattle.edi_statuses.specs.Executions.{Runnable, text, code}
-use Rattle.edi_statuses.specs.Means.{Came}
+use Rattle.edi_statuses.specs.Commands.{RunSteps, ExecSteps}
+use Rattle.edi_statuses.specs.Means.{Came, ExecAsks, RunAsks}
 use Rattle.edi_steps.specs.OnFiles.{files_only}
 use Rattle.edi_steps.proofs.LoadedFiles.{loads_all, stops_all}
 use Rattle.edi_steps.proofs.Units.{unit_there}
@@ -28,7 +30,7 @@ use Rattle.edi_run_commands.specs.CodeRan.{RanCode}
 use Rattle.edi_run_commands.specs.FileSteps.{CodeStep, command_with, limit_of}
 use Rattle.edi_run_commands.specs.declared.files.Form.{Form}
 use Rattle.edi_run_commands.specs.declared.files.Form.TheVariants as form
-use Rattle.edi_run_commands.proofs.Meaning.{exec_came, run_came}
+use Rattle.edi_run_commands.proofs.Meaning.{came_of, means_by}
 use Rattle.edi_run_commands.proofs.Exits.{CameTo, came, IsRefusal, with_files, code_ran, third_stops, third_wants}
 
 -- ---- the third step of each form, behind the file and the choices
@@ -81,8 +83,16 @@ module _ (f : Form) (name : List ℕ) (o : Options) (before : Outside) (kernel :
     where
       go : (f : Form) → CameTo (third f) (make f) (program f) name o.choices o.turns o.record_file before kernel s due after
           → Came s due (Some (command_with f name o)) before after kernel
-      go form.Text h = run_came name o s due before after kernel h
-      go form.Code h = exec_came name o s due before after kernel h
+      go form.Text h =
+          came_of (words.run name o) s due before after kernel h.shown
+          (means_by (words.run name o) (IsSomeFile (seen before after) name) (RunAsks (seen before after) name o.choices)
+          (RunSteps (seen before after) name o.choices) (λ a. text a.0) (λ a. a.1) o.turns o.record_file (seen before after) after h.shown kernel
+          refl refl (λ x. x) (λ x. x) (λ x. x) (λ x. x) (λ x. x) (λ t x. x) s h.means) h.shows h.due_is h.each
+      go form.Code h =
+          came_of (words.exec name o) s due before after kernel h.shown
+          (means_by (words.exec name o) (IsSomeFile (seen before after) name) (ExecAsks (seen before after) name o.choices)
+          (ExecSteps (seen before after) name o.choices) (λ a. code a.0) (λ a. a.1) o.turns o.record_file (seen before after) after h.shown kernel
+          refl refl (λ x. x) (λ x. x) (λ x. x) (λ x. x) (λ x. x) (λ t x. x) s h.means) h.shows h.due_is h.each
 
   -- it has stopped at a status that is the same
   pub stopped_by : (s t : Status) (due : Bool) (after : Outside) → t ≡ s → due ≡ false → CameBy s false after

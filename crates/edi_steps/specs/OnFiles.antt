@@ -1,5 +1,6 @@
 -- Words of contracts. What the steps on files of the host answer, by the steps of commands.
-use Rattle.std.specs.Prelude.{◌≡◌, ◌⊎◌, ℕ, List, take, Option, None, Result, Ok, Err, IsSome, ⊤}
+use Rattle.std.specs.Prelude.{◌≡◌, ◌≤◌, ◌⊎◌, ℕ, List, take, Option, None, Result, Ok, Err, IfErr, IsSome, ⊤}
+use Rattle.edi_told.specs.Faults.{CountRose}
 use Rattle.edi_told.specs.Told.{WhereTold}
 use Rattle.edi_host.specs.Files.{Contents}
 use Rattle.edi_trace.specs.Drawn.{Drawn}
@@ -15,6 +16,12 @@ use Rattle.edi_statuses.specs.Means.{names_in}
 -- the outside of which only the files are looked at
 abbrev pub files_only : Option Contents → Outside
 files_only files = record { files = files; blocks = None; input = None; shown = None; printed = None }
+
+-- The files were only read: they have what they had, their count of faults has not fallen, and it rose where a status tells their fault.
+pub record OnlyReadsFiles {V F : Type 0} (contents : F → Option Contents) (faults : F → ℕ) (result : Result V Status) (before after : F) : Type 0 where
+  pub unchanged : WhereTold (contents before) (contents after) (λ old new. new ≡ old)
+  pub later : faults before ≤ faults after
+  pub cause : IfErr result (λ s. s ≡ status.FileFault → CountRose (faults before) (faults after))
 
 -- The first bytes of a file are fetched, or the step stops; want of memory may come at any file, and a fault at one that is there.
 abbrev pub FetchStep : {V : Type 0} → (V → List ℕ) → Outside → (name : List ℕ) → (limit : ℕ) → Result V Status → Type 0

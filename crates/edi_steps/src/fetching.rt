@@ -1,10 +1,8 @@
 //! Fetching a file.
 
-ghost use Rattle.std.specs.Prelude.{◌≡◌, ◌≤◌, IfOk, IfErr, vec_len};
-ghost use Rattle.edi_told.specs.Faults.{CountRose};
-ghost use Rattle.edi_told.specs.Told.{WhereTold};
+ghost use Rattle.std.specs.Prelude.{◌≤◌, IfOk, vec_len};
 ghost use Rattle.edi_statuses.specs.Outside.{still_told};
-ghost use Rattle.edi_steps.specs.OnFiles.{FetchStep, files_only};
+ghost use Rattle.edi_steps.specs.OnFiles.{FetchStep, OnlyReadsFiles, files_only};
 
 use edi_host::{FetchEnd, Files};
 use edi_statuses::Status;
@@ -20,9 +18,7 @@ pub fn fetch<F: Files>(
     ensures fetched { FetchStep (λ bytes. bytes.items) (files_only (still_told (F.contents files.old) (F.contents files.new)))
         name.now limit result }
     ensures bounded { IfOk result (λ bytes. vec_len bytes ≤ limit) }
-    ensures unchanged { WhereTold (F.contents files.old) (F.contents files.new) (λ old new. new ≡ old) }
-    ensures later { F.faults files.old ≤ F.faults files.new }
-    ensures cause { IfErr result (λ s. s ≡ Status.FileFault → CountRose (F.faults files.old) (F.faults files.new)) }
+    ensures only { OnlyReadsFiles F.contents F.faults result files.old files.new }
 {
     let mut bytes = Vec::new(alloc);
     match files.fetch(alloc, name, limit, &mut bytes) {

@@ -1,12 +1,10 @@
 //! Reading the choices of a run.
 
-ghost use Rattle.std.specs.Prelude.{◌≡◌, ◌≤◌, false, IfErr};
-ghost use Rattle.edi_told.specs.Faults.{CountRose};
-ghost use Rattle.edi_told.specs.Told.{WhereTold};
+ghost use Rattle.std.specs.Prelude.{◌≡◌, false};
 ghost use Rattle.edi_words.specs.View.{choices_from};
 ghost use Rattle.edi_statuses.specs.EachObject.{is_in_file};
 ghost use Rattle.edi_statuses.specs.Outside.{still_told};
-ghost use Rattle.edi_steps.specs.OnFiles.{ChoicesStep, FileChoices, files_only};
+ghost use Rattle.edi_steps.specs.OnFiles.{ChoicesStep, FileChoices, OnlyReadsFiles, files_only};
 
 use crate::fetching::fetch;
 use edi_host::Files;
@@ -38,11 +36,9 @@ pub fn read_from<F: Files>(
     from: ChoicesFrom<'_>,
 ) -> Result<Choices, Status>
     ensures reads { ChoicesStep (files_only (still_told (F.contents files.old) (F.contents files.new))) (choices_from from.entry) result }
-    ensures unchanged { WhereTold (F.contents files.old) (F.contents files.new) (λ old new. new ≡ old) }
+    ensures only { OnlyReadsFiles F.contents F.faults result files.old files.new }
     // Where no file has the choices, the files are left alone.
     ensures untouched { is_in_file (choices_from from.entry) ≡ false → files.new ≡ files.old }
-    ensures later { F.faults files.old ≤ F.faults files.new }
-    ensures cause { IfErr result (λ s. s ≡ Status.FileFault → CountRose (F.faults files.old) (F.faults files.new)) }
 {
     let made = match from {
         ChoicesFrom::File(name) => {

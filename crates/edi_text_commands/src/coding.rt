@@ -1,10 +1,7 @@
 //! From a file with a text to the bytes of its code.
 
-ghost use Rattle.std.specs.Prelude.{◌≡◌, ◌≤◌, IfErr};
-ghost use Rattle.edi_told.specs.Faults.{CountRose};
-ghost use Rattle.edi_told.specs.Told.{WhereTold};
 ghost use Rattle.edi_statuses.specs.Outside.{still_told};
-ghost use Rattle.edi_steps.specs.OnFiles.{files_only};
+ghost use Rattle.edi_steps.specs.OnFiles.{OnlyReadsFiles, files_only};
 ghost use Rattle.edi_text_commands.specs.TextCommands.{CodesFile, CodesText};
 
 use edi_codefile::pack;
@@ -33,9 +30,7 @@ fn code_text(alloc: Global, text: &[u8]) -> Result<Vec<u8>, Status>
 /// The bytes of the code of the text in a file, or why the command stops there.
 pub fn code_file<F: Files>(alloc: Global, files: &mut F, file: &str) -> Result<Vec<u8>, Status>
     ensures codes { CodesFile (λ bytes. bytes.items) (files_only (still_told (F.contents files.old) (F.contents files.new))) file.now result }
-    ensures unchanged { WhereTold (F.contents files.old) (F.contents files.new) (λ old new. new ≡ old) }
-    ensures later { F.faults files.old ≤ F.faults files.new }
-    ensures cause { IfErr result (λ s. s ≡ Status.FileFault → CountRose (F.faults files.old) (F.faults files.new)) }
+    ensures only { OnlyReadsFiles F.contents F.faults result files.old files.new }
 {
     match fetch(alloc, files, file, LIMIT) {
         Ok(text) => code_text(alloc, &text),

@@ -6,7 +6,7 @@ ghost use Rattle.edi_told.specs.Faults.{CountRose};
 ghost use Rattle.edi_words.specs.Words.{command_of, newdisk};
 ghost use Rattle.edi_words.specs.View.{options_of, view, IsInRange};
 ghost use Rattle.edi_run_commands.specs.RunMeans.{replaying};
-ghost use Rattle.edi_disk_commands.specs.OnDisk.{IsOfDisk, MeansOnDisk};
+ghost use Rattle.edi_disk_commands.specs.OnDisk.{HasCauseOnDisk, MeansOnDisk};
 ghost use Rattle.edi_top.specs.Built.{built};
 ghost use Rattle.edi_statuses.specs.Outside.{lent, outside_of, Shows};
 ghost use Rattle.edi_statuses.specs.Counts.{counts_of, HasCause, NoneFalls};
@@ -49,12 +49,8 @@ fn new_by<F: Files, D: Drive>(
     ensures size { CountsNew result blocks (D.count drive.old) (D.count drive.new)
         (D.faults drive.old) (D.faults drive.new) }
     ensures early { is_before_format result ≡ true → drive.new ≡ drive.old }
-    ensures kind { IsOfDisk result }
     ensures no_files { uses_files (newdisk blocks (option_map (λ name. name.now) old.entry)) ≡ false → files.new ≡ files.old }
-    ensures later_files { F.faults files.old ≤ F.faults files.new }
-    ensures later_drive { D.faults drive.old ≤ D.faults drive.new }
-    ensures cause_files { result ≡ Status.FileFault → CountRose (F.faults files.old) (F.faults files.new) }
-    ensures cause_drive { result ≡ Status.DriveFault → CountRose (D.faults drive.old) (D.faults drive.new) }
+    ensures cause { HasCauseOnDisk result (F.faults files.old) (F.faults files.new) (D.faults drive.old) (D.faults drive.new) }
 {
     match old {
         None => new_disk(alloc, drive, u32::from(blocks)),

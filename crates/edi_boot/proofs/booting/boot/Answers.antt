@@ -14,7 +14,7 @@ returns-in-Err-clause-came g c =
     let before : Outside = outside_of g.F.Files.contents g.D.Drive.contents g.S.Source.left g.T.Sink.taken g.P.Sink.taken c.args.files.now
     c.args.drive.now c.args.input.now c.args.terminal.now c.args.printer.now in
     let kernel : Lent = lent c.args.kernel.now.store c.args.kernel.now.used c.args.kernel.now.store c.args.kernel.now.used in
-    unread (options_of c.args.options) before (g.F.Files.contents c.read_from.new.files) kernel refl c.in-Err.ensures.unchanged c.in-Err.status
+    unread (options_of c.args.options) before (g.F.Files.contents c.read_from.new.files) kernel refl c.in-Err.ensures.only.unchanged c.in-Err.status
     c.stopped.result.status c.stopped.result.due c.stopped.ensures.status_is c.stopped.ensures.due c.in-Err.ensures.reads
 
 pub returns-clause-came : goal.returns-clause-came
@@ -23,7 +23,7 @@ returns-clause-came g c =
     (outside_of g.F.Files.contents g.D.Drive.contents g.S.Source.left g.T.Sink.taken g.P.Sink.taken c.args.files.now c.args.drive.now c.args.input.now
     c.args.terminal.now c.args.printer.now) (g.F.Files.contents c.read_from.new.files)
     (lent c.args.kernel.now.store c.args.kernel.now.used c.hold_session.new.kernel.store c.hold_session.new.kernel.used) c.in-Ok.choices.source
-    c.in-Ok.ensures.reads.1 c.in-Ok.ensures.unchanged c.hold_session.result.status c.hold_session.result.due
+    c.in-Ok.ensures.reads.1 c.in-Ok.ensures.only.unchanged c.hold_session.result.status c.hold_session.result.due
     (outside_of g.F.Files.contents g.D.Drive.contents g.S.Source.left g.T.Sink.taken g.P.Sink.taken c.hold_session.new.files c.hold_session.new.drive
     c.hold_session.new.input c.hold_session.new.terminal c.hold_session.new.printer) c.hold_session.ensures.tells c.hold_session.ensures.came
 

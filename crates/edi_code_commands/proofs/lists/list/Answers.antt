@@ -9,7 +9,7 @@ use Rattle.edi_code_commands.proofs.lists.list.Goals as goal
 pub returns-in-Ok-clause-came : goal.returns-in-Ok-clause-came
 returns-in-Ok-clause-came g c =
     lists (λ (v : Vec ℕ Global). v.items) c.args.file.now (g.F.Files.contents c.args.files.now) (g.F.Files.contents c.listing_of_file.new.files)
-    (g.T.Sink.taken c.args.terminal.now) (g.T.Sink.taken c.show_bytes.new.terminal) c.in-Ok.text c.show_bytes.result c.in-Ok.ensures.unchanged
+    (g.T.Sink.taken c.args.terminal.now) (g.T.Sink.taken c.show_bytes.new.terminal) c.in-Ok.text c.show_bytes.result c.in-Ok.ensures.only.unchanged
     c.in-Ok.ensures.lists
     (subst (λ b. ShowsBytes b false c.show_bytes.result (g.T.Sink.taken c.args.terminal.now) (g.T.Sink.taken c.show_bytes.new.terminal))
     c.deref.ensures.value c.show_bytes.ensures.shows)
@@ -22,9 +22,9 @@ returns-in-Ok-clause-cause g c =
 pub returns-in-Err-clause-came : goal.returns-in-Err-clause-came
 returns-in-Err-clause-came g c =
     stopped (λ (v : Vec ℕ Global). v.items) c.args.file.now (g.F.Files.contents c.args.files.now) (g.F.Files.contents c.listing_of_file.new.files)
-    (g.T.Sink.taken c.args.terminal.now) c.in-Err.status c.in-Err.ensures.unchanged c.in-Err.ensures.lists
+    (g.T.Sink.taken c.args.terminal.now) c.in-Err.status c.in-Err.ensures.only.unchanged c.in-Err.ensures.lists
 
 pub returns-in-Err-clause-cause : goal.returns-in-Err-clause-cause
 returns-in-Err-clause-cause g c =
     let o : Outside = files_only (still_told (g.F.Files.contents c.args.files.now) (g.F.Files.contents c.listing_of_file.new.files)) in
-    stopped_cause (λ (v : Vec ℕ Global). v.items) o c.args.file.now c.in-Err.status _ _ _ c.in-Err.ensures.lists c.in-Err.ensures.cause
+    stopped_cause (λ (v : Vec ℕ Global). v.items) o c.args.file.now c.in-Err.status _ _ _ c.in-Err.ensures.lists c.in-Err.ensures.only.cause

@@ -14,7 +14,7 @@ pub returns-in-Err-clause-means : goal.returns-in-Err-clause-means
 returns-in-Err-clause-means g c =
     not_put c.in-Err.status c.args.file.now c.args.title.now _ _ _ _
     (unfetched c.in-Err.status c.args.file.now 261121 (g.F.Files.contents c.args.files.now) (g.F.Files.contents c.fetch.new.files)
-    (g.D.Drive.contents c.args.drive.now) c.in-Err.ensures.fetched c.in-Err.ensures.unchanged)
+    (g.D.Drive.contents c.args.drive.now) c.in-Err.ensures.fetched c.in-Err.ensures.only.unchanged)
 
 pub returns-then-len-gt-MOST-clause-means : goal.returns-then-len-gt-MOST-clause-means
 returns-then-len-gt-MOST-clause-means g c =
@@ -22,7 +22,7 @@ returns-then-len-gt-MOST-clause-means g c =
     not_fit c.args.file.now c.args.title.now c.in-Ok.bytes.items (g.F.Files.contents c.args.files.now) (g.F.Files.contents c.fetch.new.files)
     (g.D.Drive.contents c.args.drive.now) (g.D.Drive.contents c.args.drive.now)
     (record {
-      has = record { all = f.0; fetched = f.1; front = f.2; files = c.in-Ok.ensures.unchanged };
+      has = record { all = f.0; fetched = f.1; front = f.2; files = c.in-Ok.ensures.only.unchanged };
       long = search rules;
       blocks = itself (g.D.Drive.contents c.args.drive.now);
     })
@@ -35,7 +35,7 @@ returns-clause-means g c =
     (has_put c.put_on.result c.args.file.now c.title_of.result c.deref.result.now (g.F.Files.contents c.args.files.now) (g.F.Files.contents c.fetch.new.files)
     (g.D.Drive.contents c.args.drive.now) (g.D.Drive.contents c.put_on.new.drive) c.put_on.ensures.kind
     (record {
-      has = record { all = f.0; fetched = f.1; front = c.deref.ensures.value ∙ f.2; files = c.in-Ok.ensures.unchanged };
+      has = record { all = f.0; fetched = f.1; front = c.deref.ensures.value ∙ f.2; files = c.in-Ok.ensures.only.unchanged };
       short = search rules;
       blocks = c.put_on.ensures.puts;
     }))

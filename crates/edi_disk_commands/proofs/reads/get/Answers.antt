@@ -6,7 +6,7 @@ use Rattle.edi_disk_commands.specs.OnDrive.{ReadsOn, status_kept}
 use Rattle.edi_statuses.specs.EachObject.{FitsGet}
 use Rattle.edi_statuses.proofs.Told.{itself, told_so}
 use Rattle.edi_disk_commands.proofs.Counted.{kept_fits}
-use Rattle.edi_disk_commands.proofs.GetMeans.{has_read, kept_drive, kept_failed, kept_of_disk, not_read, read_of_disk}
+use Rattle.edi_disk_commands.proofs.GetMeans.{has_read, kept_drive, kept_failed, kept_of_disk, not_read, read_cause}
 use Rattle.edi_disk_commands.proofs.reads.get.Goals as goal
 
 pub returns-in-Err-clause-means : goal.returns-in-Err-clause-means
@@ -18,8 +18,10 @@ returns-in-Err-clause-means g c =
     (not_read c.in-Err.status c.title_of-title.result c.args.file.now c.read_on.new.into files files (g.D.Drive.contents c.args.drive.now)
     (g.D.Drive.contents c.read_on.new.drive) c.in-Err.ensures.kind (record { files = itself files; blocks = c.in-Err.ensures.reads }))
 
-pub returns-in-Err-clause-kind : goal.returns-in-Err-clause-kind
-returns-in-Err-clause-kind g c = read_of_disk c.in-Err.status c.in-Err.ensures.kind
+pub returns-in-Err-clause-cause : goal.returns-in-Err-clause-cause
+returns-in-Err-clause-cause g c =
+    read_cause c.in-Err.status _ _ _ _ c.in-Err.ensures.kind (search rules) (search rules)
+    (λ e. c.in-Err.ensures.counts.cause (ap Err e))
 
 pub returns-clause-means : goal.returns-clause-means
 returns-clause-means g c =
@@ -40,14 +42,14 @@ returns-clause-means g c =
       blocks = c.in-Ok-read_on.ensures.reads;
     })))
 
-pub returns-clause-kind : goal.returns-clause-kind
-returns-clause-kind g c = subst (λ s. IsOfDisk s) (sym c.kept.ensures.exact) (kept_of_disk c.keep.result)
-
-pub returns-clause-cause_files : goal.returns-clause-cause_files
-returns-clause-cause_files g c = λ e. c.keep.ensures.cause (kept_failed c.keep.result (sym c.kept.ensures.exact ∙ e))
-
-pub returns-clause-cause_drive : goal.returns-clause-cause_drive
-returns-clause-cause_drive g c = λ e. absurd (kept_drive c.keep.result (sym c.kept.ensures.exact ∙ e))
+pub returns-clause-cause : goal.returns-clause-cause
+returns-clause-cause g c = record {
+  kind = subst (λ s. IsOfDisk s) (sym c.kept.ensures.exact) (kept_of_disk c.keep.result);
+  later_files = search rules;
+  later_drive = search rules;
+  cause_files = λ e. c.keep.ensures.cause (kept_failed c.keep.result (sym c.kept.ensures.exact ∙ e));
+  cause_drive = λ e. absurd (kept_drive c.keep.result (sym c.kept.ensures.exact ∙ e));
+}
 
 pub returns-in-Err-clause-same : goal.returns-in-Err-clause-same
 returns-in-Err-clause-same g c =

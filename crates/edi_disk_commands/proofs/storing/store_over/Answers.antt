@@ -1,4 +1,4 @@
-use Rattle.std.proofs.Common.{◌≡◌, ◌∙◌, ◌≤◌, length, Some, sym, subst, arith}
+use Rattle.std.proofs.Common.{◌≡◌, ◌∙◌, ◌≤◌, length, Some, sym, subst, arith, rules}
 use Rattle.edi_told.specs.Told.{WhereTold}
 use Rattle.edi_calls.specs.State.{blocks_of}
 use Rattle.edi_disk.specs.Shown.{drive_of}
@@ -56,6 +56,13 @@ returns-in-Ok-clause-leaves g c =
     (told_both _ _ _ _ (Stores c.store.result title c.kind_of_bytes-kind.result bytes) (λ x y a l. record { answers = a; leaves = l })
     c.store.ensures.exact c.store.ensures.changes.leaves))
 
-pub returns-in-Ok-clause-size : goal.returns-in-Ok-clause-size
-returns-in-Ok-clause-size g c =
-    c.store.ensures.changes.count_stays ∙ (c.release.ensures.changes.count_stays ∙ c.store-answer.ensures.changes.count_stays)
+pub returns-in-Ok-clause-keeps : goal.returns-in-Ok-clause-keeps
+returns-in-Ok-clause-keeps g c = record {
+  same_reference = search rules;
+  same_room = search rules;
+  counts = record {
+    size = c.store.ensures.changes.count_stays ∙ (c.release.ensures.changes.count_stays ∙ c.store-answer.ensures.changes.count_stays);
+    later = search rules;
+    cause = search rules;
+  };
+}

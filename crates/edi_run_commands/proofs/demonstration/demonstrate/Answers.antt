@@ -1,11 +1,8 @@
 -- The exits of `demo`.
-use Rattle.std.proofs.Common.{rules, ◌≡◌, ◌∙◌, ℕ, true, false, List, Option, subst}
-use Rattle.edi_host.specs.Files.{Contents}
-use Rattle.edi_words.specs.Words.{Options}
+use Rattle.std.proofs.Common.{rules, ◌≡◌, ◌∙◌, true, false, subst}
 use Rattle.edi_words.specs.View.{options_of}
-use Rattle.edi_statuses.specs.Outside.{KernelLeft, idle, kernel_of, lent}
+use Rattle.edi_statuses.specs.Outside.{kernel_of, lent}
 use Rattle.edi_statuses.specs.Showing.{ShowsBytes}
-use Rattle.edi_statuses.specs.declared.status.Status.TheVariants as status
 use Rattle.edi_run_commands.specs.Demonstrated.{is_ok}
 use Rattle.edi_run_commands.proofs.Asked.{never_early, shown_behind}
 use Rattle.edi_run_commands.proofs.Alone.{lined, of_demo, ran_alone, uncoded, unread}
@@ -15,14 +12,14 @@ use Rattle.edi_run_commands.proofs.demonstration.demonstrate.Goals as goal
 pub returns-in-Err-clause-came : goal.returns-in-Err-clause-came
 returns-in-Err-clause-came g c =
     unread c.args.n (options_of c.args.options) (g.F.Files.contents c.args.files.now) (g.F.Files.contents c.read_from.new.files)
-    c.in-Err.ensures.unchanged (g.T.Sink.taken c.args.terminal.now) (g.P.Sink.taken c.args.printer.now)
+    c.in-Err.ensures.only.unchanged (g.T.Sink.taken c.args.terminal.now) (g.P.Sink.taken c.args.printer.now)
     (kernel_of c.args.kernel.now.store c.args.kernel.now.used) c.in-Err.status c.stopped.result.status c.stopped.result.due c.stopped.ensures.status_is
     c.stopped.ensures.due c.in-Err.ensures.reads
 
 pub returns-in-Err-demo_code-clause-came : goal.returns-in-Err-demo_code-clause-came
 returns-in-Err-demo_code-clause-came g c =
     uncoded c.args.n (options_of c.args.options) (g.F.Files.contents c.args.files.now) (g.F.Files.contents c.read_from.new.files)
-    c.in-Ok.ensures.unchanged (g.T.Sink.taken c.args.terminal.now) (g.P.Sink.taken c.args.printer.now)
+    c.in-Ok.ensures.only.unchanged (g.T.Sink.taken c.args.terminal.now) (g.P.Sink.taken c.args.printer.now)
     (kernel_of c.args.kernel.now.store c.args.kernel.now.used) c.stopped-in-Err-demo_code.result.status c.stopped-in-Err-demo_code.result.due
     (c.stopped-in-Err-demo_code.ensures.status_is ∙ c.in-Err-demo_code.ensures.made) c.stopped-in-Err-demo_code.ensures.due
 
@@ -31,7 +28,7 @@ returns-then-not-is_ok-clause-came g c =
     let m = c.in-Ok-demo_code.ensures.made in
     let not_ok : is_ok c.run_alone-ended.result.status ≡ false = search rules in
     ran_alone c.args.n (options_of c.args.options) (g.F.Files.contents c.args.files.now) (g.F.Files.contents c.read_from.new.files)
-    (g.F.Files.contents c.run_alone-ended.new.files) c.in-Ok.choices.source c.in-Ok.ensures.reads.1 c.in-Ok.ensures.unchanged c.run_alone-ended.ensures.tells
+    (g.F.Files.contents c.run_alone-ended.new.files) c.in-Ok.choices.source c.in-Ok.ensures.reads.1 c.in-Ok.ensures.only.unchanged c.run_alone-ended.ensures.tells
     c.in-Ok-demo_code.made.code m.0 (g.T.Sink.taken c.args.terminal.now) (g.T.Sink.taken c.run_alone-ended.new.terminal)
     (g.P.Sink.taken c.args.printer.now) (g.P.Sink.taken c.run_alone-ended.new.printer)
     (lent c.args.kernel.now.store c.args.kernel.now.used c.run_alone-ended.new.kernel.store c.run_alone-ended.new.kernel.used) c.run_alone-ended.result.status
@@ -44,7 +41,7 @@ returns-clause-came g c =
     let ok : is_ok c.run_alone-ended.result.status ≡ true = search rules in
     let turns : c.turns_used.result ≡ c.run_alone-ended.new.kernel.used = search rules in
     lined c.args.n (options_of c.args.options) (g.F.Files.contents c.args.files.now) (g.F.Files.contents c.read_from.new.files)
-    (g.F.Files.contents c.run_alone-ended.new.files) c.in-Ok.choices.source c.in-Ok.ensures.reads.1 c.in-Ok.ensures.unchanged c.run_alone-ended.ensures.tells
+    (g.F.Files.contents c.run_alone-ended.new.files) c.in-Ok.choices.source c.in-Ok.ensures.reads.1 c.in-Ok.ensures.only.unchanged c.run_alone-ended.ensures.tells
     c.in-Ok-demo_code.made.code m.0 (g.T.Sink.taken c.args.terminal.now) (g.T.Sink.taken c.run_alone-ended.new.terminal)
     (g.P.Sink.taken c.args.printer.now) (g.P.Sink.taken c.run_alone-ended.new.printer)
     (lent c.args.kernel.now.store c.args.kernel.now.used c.run_alone-ended.new.kernel.store c.run_alone-ended.new.kernel.used) c.run_alone-ended.result.status

@@ -20,7 +20,7 @@ returns-in-Err-clause-came g c =
     let o : Options = options_of c.args.options in
     stopped_by f c.args.file.now o before kernel c.in-Err.status _ _ _ c.stopped.ensures.status_is c.stopped.ensures.due
     (fetch_stops (third f) (make f) (program f) c.args.file.now o.choices o.turns o.record_file before kernel {V = Vec ℕ Global} (λ v. v.items)
-    c.limit_of.result (g.F.Files.contents c.fetch.new.files) c.in-Err.status refl c.in-Err.ensures.fetched c.in-Err.ensures.unchanged)
+    c.limit_of.result (g.F.Files.contents c.fetch.new.files) c.in-Err.status refl c.in-Err.ensures.fetched c.in-Err.ensures.only.unchanged)
 
 pub returns-in-Err-read_from-clause-came : goal.returns-in-Err-read_from-clause-came
 returns-in-Err-read_from-clause-came g c =
@@ -33,8 +33,8 @@ returns-in-Err-read_from-clause-came g c =
     stopped_by f c.args.file.now o before kernel c.in-Err-read_from.status _ _ _ c.stopped-in-Err-read_from.ensures.status_is
     c.stopped-in-Err-read_from.ensures.due
     (choices_stop (third f) (make f) (program f) c.args.file.now o.choices o.turns o.record_file before kernel fetched.0
-    (g.F.Files.contents c.fetch.new.files) (g.F.Files.contents c.read_from.new.files) fetched.1 c.in-Ok.ensures.unchanged
-    c.in-Err-read_from.ensures.unchanged c.in-Err-read_from.status refl c.in-Err-read_from.ensures.reads)
+    (g.F.Files.contents c.fetch.new.files) (g.F.Files.contents c.read_from.new.files) fetched.1 c.in-Ok.ensures.only.unchanged
+    c.in-Err-read_from.ensures.only.unchanged c.in-Err-read_from.status refl c.in-Err-read_from.ensures.reads)
 
 pub returns-in-Err-code_of-clause-came : goal.returns-in-Err-code_of-clause-came
 returns-in-Err-code_of-clause-came g c =
@@ -47,7 +47,7 @@ returns-in-Err-code_of-clause-came g c =
     c.stopped-in-Err-code_of.ensures.due
     (code_stops c.args.file.now o.choices o.turns o.record_file before kernel fetched.0 c.deref.result.now
     (g.F.Files.contents c.fetch.new.files) (g.F.Files.contents c.read_from.new.files) c.in-Ok-read_from.choices.source fetched.1
-    c.in-Ok-read_from.ensures.reads.1 c.in-Ok.ensures.unchanged c.in-Ok-read_from.ensures.unchanged c.args.form c.in-Err-code_of.status
+    c.in-Ok-read_from.ensures.reads.1 c.in-Ok.ensures.only.unchanged c.in-Ok-read_from.ensures.only.unchanged c.args.form c.in-Err-code_of.status
     (c.deref.ensures.value ∙ (fetched.2 ∙ ap (λ n. take n fetched.0) c.limit_of.ensures.exact)) refl c.in-Err-code_of.ensures.gives)
 
 pub returns-clause-came : goal.returns-clause-came
@@ -62,7 +62,7 @@ returns-clause-came g c =
     came_by c.args.form c.args.file.now o before kernel c.run_code.result.status c.run_code.result.due after
     (file_ran c.args.file.now o.choices o.turns o.record_file before kernel fetched.0 c.deref.result.now
     (g.F.Files.contents c.fetch.new.files) (g.F.Files.contents c.read_from.new.files) c.in-Ok-read_from.choices.source fetched.1
-    c.in-Ok-read_from.ensures.reads.1 c.in-Ok.ensures.unchanged c.in-Ok-read_from.ensures.unchanged c.args.form c.in-Ok-code_of.code
+    c.in-Ok-read_from.ensures.reads.1 c.in-Ok.ensures.only.unchanged c.in-Ok-read_from.ensures.only.unchanged c.args.form c.in-Ok-code_of.code
     c.run_code.result.status c.run_code.result.due after
     (c.deref.ensures.value ∙ (fetched.2 ∙ ap (λ n. take n fetched.0) c.limit_of.ensures.exact)) c.in-Ok-code_of.ensures.gives
     c.run_code.ensures.tells c.run_code.ensures.ran)

@@ -1,4 +1,4 @@
-use Rattle.std.proofs.Common.{◌∙◌, sym, subst}
+use Rattle.std.proofs.Common.{◌∙◌, rules, sym, subst}
 use Rattle.edi_words.specs.View.{choices_from}
 use Rattle.edi_statuses.specs.Outside.{Outside, still_told}
 use Rattle.edi_steps.specs.OnFiles.{ChoicesStep, files_only}
@@ -12,5 +12,7 @@ returns-in-File-clause-reads g c =
     subst (λ from. ChoicesStep o (choices_from from) c.choices_of.result) (sym c.in-File.is)
     (file_step o c.in-File.name.now c.deref.result.now f.0 c.choices_of.result f.1 (c.deref.ensures.value ∙ f.2) c.choices_of.ensures.exact)
 
-pub returns-in-File-clause-cause : goal.returns-in-File-clause-cause
-returns-in-File-clause-cause g c = no_fault c.deref.result.now c.choices_of.result _ c.choices_of.ensures.exact
+pub returns-in-File-clause-only : goal.returns-in-File-clause-only
+returns-in-File-clause-only g c =
+    let cause = no_fault c.deref.result.now c.choices_of.result _ c.choices_of.ensures.exact in
+    record { unchanged = search rules; later = search rules; cause = cause }

@@ -138,9 +138,7 @@ returns-in-Put-clause-untouched g c =
     c.put.ensures.early refl refl refl)
 
 pub returns-in-Put-clause-size : goal.returns-in-Put-clause-size
-returns-in-Put-clause-size g c =
-    counts_so c.args.command (command.Put c.in-Put.file c.in-Put.title) c.put.result c.silent-in-Put.result.status _ _ _ _ c.in-Put.is
-    c.silent-in-Put.ensures.status (c.put.ensures.size, c.put.ensures.fits)
+returns-in-Put-clause-size g c = rw (c.in-Put.is, c.silent-in-Put.ensures.status) (c.put.ensures.size, c.put.ensures.fits)
 
 pub returns-in-Get-clause-untouched : goal.returns-in-Get-clause-untouched
 returns-in-Get-clause-untouched g c =
@@ -150,9 +148,7 @@ returns-in-Get-clause-untouched g c =
     (λ never. absurd (true≢false (sym never))) refl refl refl)
 
 pub returns-in-Get-clause-size : goal.returns-in-Get-clause-size
-returns-in-Get-clause-size g c =
-    counts_so c.args.command (command.Get c.in-Get.title c.in-Get.file) c.get.result c.silent-in-Get.result.status _ _ _ _ c.in-Get.is
-    c.silent-in-Get.ensures.status (c.get.ensures.size, c.get.ensures.fits)
+returns-in-Get-clause-size g c = rw (c.in-Get.is, c.silent-in-Get.ensures.status) (c.get.ensures.size, c.get.ensures.fits)
 
 pub returns-in-List-clause-untouched : goal.returns-in-List-clause-untouched
 returns-in-List-clause-untouched g c =
