@@ -19,7 +19,7 @@ pub(crate) const MORE: u8 = 5;
 
 pub(crate) const READ: u8 = 6;
 
-const FRESH: u8 = 7;
+pub(crate) const FRESH: u8 = 7;
 
 pub(crate) const WRITE: u8 = 8;
 
@@ -51,34 +51,29 @@ pub(crate) const TITLED: u8 = 17;
 /// No call: 1 where the slot has a text.
 pub(crate) const IS_TEXT: u8 = 18;
 
-/// A call with a character (for `FILE` their number, for others the number of a slot) and a title, as far as it takes them, and
+/// No call: a new system, with this input and so many blocks, in the place of the one before.
+pub(crate) const NEW: u8 = 19;
+
+/// A call with a character (for `FILE` and `NEW` a number, for others the number of a slot) and a title, as far as it takes them, and
 /// what it answers: its word, 0 where it has none, and 1000 or more for another end than `Ok`.
 pub(crate) type Step = (u8, u32, &'static str, u16);
 
-/// Makes a call with an answer word, and gives it.
-fn ask<C: Calls>(rt: &impl Abort, calls: &mut C, number: u8, args: &[u16]) -> (CallEnd, u16)
+/// Makes a call of a system which works.
+fn call(
+    rt: &impl Abort,
+    calls: &mut MemoryCalls,
+    number: u8,
+    args: &[u16],
+    answer: &mut [u16],
+) -> CallEnd
     requires from { 1 ≤ number }
     requires to { number ≤ 10 }
-    requires working { C.failed calls.old None }
 {
     let (arguments, answers) = words_of(number);
     assert_eq!(rt; args.len(), arguments);
-    assert_eq!(rt; answers, 1);
-    let mut answer = [u16::MAX];
-    let end = calls.call(number, args, &mut answer);
-    (end, answer[0])
-}
-
-/// Makes a call without an answer word.
-fn tell<C: Calls>(rt: &impl Abort, calls: &mut C, number: u8, args: &[u16]) -> CallEnd
-    requires from { 1 ≤ number }
-    requires to { number ≤ 10 }
-    requires working { C.failed calls.old None }
-{
-    let (arguments, answers) = words_of(number);
-    assert_eq!(rt; args.len(), arguments);
-    assert_eq!(rt; answers, 0);
-    calls.call(number, args, &mut [])
+    assert_eq!(rt; answer.len(), answers);
+    assert_eq!(rt; calls.failed(), None);
+    calls.call(number, args, answer)
 }
 
 /// The word that a call of a system which works answers, or the number 1000 and more for another end.
@@ -86,22 +81,13 @@ fn answer(rt: &impl Abort, calls: &mut MemoryCalls, number: u8, args: &[u16]) ->
     requires from { 1 ≤ number }
     requires to { number ≤ 10 }
 {
-    assert_eq!(rt; calls.failed(), None);
-    match ask(rt, calls, number, args) {
-        (CallEnd::Ok, word) => word,
-        (CallEnd::NoFile, _) => 1_000,
-        (CallEnd::FileLimit, _) => 1_001,
-        (CallEnd::OutsideFault, _) => 1_002,
+    let mut word = [u16::MAX];
+    let end = call(rt, calls, number, args, &mut word);
+    if end == CallEnd::Ok {
+        word[0]
+    } else {
+        ended(end)
     }
-}
-
-/// The end of a call without answer, of a system which works.
-fn end(rt: &impl Abort, calls: &mut MemoryCalls, number: u8, args: &[u16]) -> CallEnd
-    requires from { 1 ≤ number }
-    requires to { number ≤ 10 }
-{
-    assert_eq!(rt; calls.failed(), None);
-    tell(rt, calls, number, args)
 }
 
 /// A title filled with blanks.
@@ -125,10 +111,10 @@ fn ended(end: CallEnd) -> u16 {
 
 /// Begins a file and writes so many characters.
 fn write(rt: &impl Abort, calls: &mut MemoryCalls, length: u32) -> u16 {
-    let mut last = ended(end(rt, calls, FRESH, &[]));
+    let mut last = ended(call(rt, calls, FRESH, &[], &mut []));
     for _ in 0..length {
         if last == 0 {
-            last = ended(end(rt, calls, WRITE, &[97]));
+            last = ended(call(rt, calls, WRITE, &[97], &mut []));
         }
     }
     last
@@ -200,8 +186,11 @@ fn made(rt: &impl Abort, calls: &mut MemoryCalls, number: u8, character: u32, te
     match words_of(number) {
         (0, 1) => answer(rt, calls, number, &[]),
         (12, 1) => answer(rt, calls, number, &title(text)),
-        (0, 0) => ended(end(rt, calls, number, &[])),
-        (1, 0) => ended(end(rt, calls, number, &[(character % 65_536) as u16])),
+        (0, 0) => ended(call(rt, calls, number, &[], &mut [])),
+        (1, 0) => {
+            let args = [(character % 65_536) as u16];
+            ended(call(rt, calls, number, &args, &mut []))
+        }
         _ => 1_003,
     }
 }
@@ -219,10 +208,16 @@ pub(crate) fn add(
         .ok()
 }
 
+/// Makes a call.
+pub(crate) fn take(rt: &impl Abort, calls: &mut MemoryCalls, step: &Step) {
+    let (number, character, text, word) = step;
+    let found = made(rt, calls, *number, *character, text);
+    assert!(rt; found == *word, "call {number} {text}");
+}
+
 /// Makes the calls of a table.
 pub(crate) fn walk(rt: &impl Abort, calls: &mut MemoryCalls, steps: &[Step]) {
-    for (number, character, text, word) in steps {
-        let found = made(rt, calls, *number, *character, text);
-        assert!(rt; found == *word, "call {number} {text}");
+    for step in steps {
+        take(rt, calls, step);
     }
 }

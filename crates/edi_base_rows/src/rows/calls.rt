@@ -1,22 +1,14 @@
 //! Programs' calls of a system in memory.
 
 use crate::rows::call_rows::{
-    ACCEPT, CLOSE, DISPLAY, FAULTS, FILE, FIND, FREE, IS_TEXT, KEPT, MORE, PRINT, PRINTED, READ,
-    REMOVE, SHOWN, Step, TITLED, WRITE, add, walk,
+    ACCEPT, CLOSE, DISPLAY, FAULTS, FILE, FIND, FREE, FRESH, IS_TEXT, KEPT, MORE, NEW, PRINT,
+    PRINTED, READ, REMOVE, SHOWN, Step, TITLED, WRITE, add, take, walk,
 };
 use crate::rows::outside::filled;
 use edi_calls::{FileKind, blocks_of, is_title, words_of};
 use edi_memory::MemoryCalls;
 use std::alloc::Global;
 use std::process::Abort;
-
-/// The words of a call; none where there is no such call.
-fn words_at(number: u8) -> Option<(usize, usize)> {
-    if number < 1 || number > 10 {
-        return None;
-    }
-    Some(words_of(number))
-}
 
 /// The words of the calls 1 to 10: how many each takes, and how many it answers.
 const WORDS: [(usize, usize); 10] = [
@@ -34,7 +26,8 @@ const WORDS: [(usize, usize); 10] = [
 
 fn have_words(rt: &impl Abort, table: &[(usize, usize)]) {
     for (i, words) in (1..11).zip(table) {
-        assert!(rt; words_at(i) == Some(*words), "call {i}");
+        assert!(rt; 1 <= i && i <= 10);
+        assert!(rt; words_of(i) == *words, "call {i}");
     }
 }
 
@@ -67,14 +60,6 @@ fn titles_are_names(rt: HostRuntime) {
     are_titles(&rt, &TITLES);
 }
 
-/// The blocks of a file of so many bytes; none where no file is so long.
-fn blocks_at(bytes: usize) -> Option<usize> {
-    if bytes > 261_120 {
-        return None;
-    }
-    Some(blocks_of(bytes))
-}
-
 /// Numbers of bytes, and of the blocks that they take.
 const BLOCKS: [(usize, usize); 7] = [
     (0, 1),
@@ -88,7 +73,8 @@ const BLOCKS: [(usize, usize); 7] = [
 
 fn take_blocks(rt: &impl Abort, table: &[(usize, usize)]) {
     for (bytes, blocks) in table {
-        assert!(rt; blocks_at(*bytes) == Some(*blocks), "{bytes} bytes");
+        assert!(rt; *bytes <= 261_120);
+        assert!(rt; blocks_of(*bytes) == *blocks, "{bytes} bytes");
     }
 }
 
@@ -97,35 +83,25 @@ fn files_take_blocks(rt: HostRuntime) {
     take_blocks(&rt, &BLOCKS);
 }
 
-/// Makes the calls of a table on a new system with this input and so many blocks.
-fn walk_new(rt: &impl Abort, alloc: Global, input: &[u8], blocks: u32, steps: &[Step]) {
-    let mut calls = MemoryCalls::new(alloc, input, blocks).expect(rt, "memory");
-    walk(rt, &mut calls, steps);
-}
-
-/// Characters that are taken, shown and printed.
-const CHARACTERS: [Step; 12] = [
+/// Calls, from each NEW on of a system of its own.
+const CALLS: &[Step] = &[
+    // characters are taken, shown and printed, of which the lower seven bits count
+    (NEW, 0, "x\u{f8}", 0),
     (ACCEPT, 0, "", 120),
     (DISPLAY, 120, "", 0),
-    (ACCEPT, 0, "", 120),
-    (DISPLAY, 120, "", 0),
+    (ACCEPT, 0, "", 67),
+    (DISPLAY, 67, "", 0),
+    (ACCEPT, 0, "", 56),
     (ACCEPT, 0, "", 25),
     (DISPLAY, 25, "", 0),
     (ACCEPT, 0, "", 25),
     (DISPLAY, 25, "", 0),
     (PRINT, 0xff41, "", 0),
-    (SHOWN, 0, "xx\x19\x19", 1),
+    (SHOWN, 0, "xC\x19\x19", 1),
     (PRINTED, 0, "A", 1),
     (FAULTS, 0, "", 0),
-];
-
-#[test]
-fn terminal_and_printer_take_characters(rt: HostRuntime) {
-    walk_new(&rt, rt.alloc(), b"x\xf8", 0, &CHARACTERS);
-}
-
-/// A file from its first character to its removal.
-const WRITTEN: [Step; 22] = [
+    // a file from its first character to its removal
+    (NEW, 64, "", 0),
     (FREE, 0, "", 31),
     (MORE, 0, "", 1_000),
     (READ, 0, "", 1_000),
@@ -148,16 +124,49 @@ const WRITTEN: [Step; 22] = [
     (REMOVE, 0, "t", 0),
     (MORE, 0, "", 1_000),
     (FREE, 0, "", 31),
+    // 4 blocks for files: one of 513 bytes takes 3 of them, and cannot be replaced by one as long
+    (NEW, 37, "", 0),
+    (FILE, 513, "", 0),
+    (CLOSE, 0, "t", 1),
+    (FILE, 513, "", 0),
+    (CLOSE, 0, "t", 0),
+    (FRESH, 0, "", 0),
+    (CLOSE, 0, "t", 1),
+    (FREE, 0, "", 3),
+    // a file of the greatest length takes no character more; 4096 blocks less 33 of the catalogue and 512 of the file are left
+    (NEW, 4_096, "", 0),
+    (FILE, 261_120, "", 0),
+    (WRITE, 97, "", 1_001),
+    (CLOSE, 0, "t", 1),
+    (FREE, 0, "", 3_551),
 ];
 
+/// A system with this input and so many blocks.
+fn system(rt: &impl Abort, alloc: Global, input: &str, blocks: u32) -> MemoryCalls {
+    MemoryCalls::new(alloc, input.as_bytes(), blocks).expect(rt, "memory")
+}
+
+/// Makes the calls of a table that begins with NEW.
+fn walk_new(rt: &impl Abort, alloc: Global, steps: &[Step]) {
+    let mut calls = system(rt, alloc, "", 0);
+    for step in steps {
+        let (number, blocks, input, _) = step;
+        if *number == NEW {
+            calls = system(rt, alloc, input, *blocks);
+        } else {
+            take(rt, &mut calls, step);
+        }
+    }
+}
+
 #[test]
-fn files_are_written_and_read(rt: HostRuntime) {
-    walk_new(&rt, rt.alloc(), b"", 64, &WRITTEN);
+fn new_systems_answer_calls(rt: HostRuntime) {
+    walk_new(&rt, rt.alloc(), CALLS);
 }
 
 /// A disk of 64 blocks has 31 for files; a first file of so many bytes leaves 2 or 3 of them to a second one.
 fn needs_room(rt: &impl Abort, alloc: Global, size: usize, done: u16) {
-    let mut calls = MemoryCalls::new(alloc, b"", 64).expect(rt, "memory");
+    let mut calls = system(rt, alloc, "", 64);
     let bytes = filled(alloc, 0, size).expect(rt, "memory");
     let first = add(alloc, &mut calls, ("first", FileKind::Text, false), &bytes);
     assert!(rt; first == Some(true), "{size}");
@@ -170,22 +179,6 @@ fn files_need_room(rt: HostRuntime) {
     for (size, done) in [(14_336, 0), (13_824, 1)] {
         needs_room(&rt, rt.alloc(), size, done);
     }
-}
-
-/// 4 blocks for files: one of 513 bytes takes 3 of them, and cannot be replaced by one as long.
-const REPLACED: [Step; 7] = [
-    (FILE, 513, "", 0),
-    (CLOSE, 0, "t", 1),
-    (FILE, 513, "", 0),
-    (CLOSE, 0, "t", 0),
-    (FILE, 0, "", 0),
-    (CLOSE, 0, "t", 1),
-    (FREE, 0, "", 3),
-];
-
-#[test]
-fn a_replaced_file_still_takes_its_blocks(rt: HostRuntime) {
-    walk_new(&rt, rt.alloc(), b"", 37, &REPLACED);
 }
 
 /// A file to be added, protected or not, with its bytes, and whether it is.
@@ -221,35 +214,21 @@ fn add_all(rt: &impl Abort, alloc: Global, calls: &mut MemoryCalls, table: &[Add
 
 #[test]
 fn protected_files_and_code_stay_as_they_are(rt: HostRuntime) {
-    let mut calls = MemoryCalls::new(rt.alloc(), b"", 64).expect(&rt, "memory");
+    let mut calls = system(&rt, rt.alloc(), "", 64);
     add_all(&rt, rt.alloc(), &mut calls, &ADDED);
     walk(&rt, &mut calls, &PROTECTED);
 }
 
-/// A file that takes no character more.
-const LONGEST: [Step; 4] = [
-    (FILE, 261_120, "", 0),
-    (WRITE, 97, "", 1_001),
-    (CLOSE, 0, "t", 1),
-    // 4096 blocks less 33 of the catalogue and 512 of the file
-    (FREE, 0, "", 3_551),
-];
-
-#[test]
-fn a_file_has_at_most_261120_bytes(rt: HostRuntime) {
-    walk_new(&rt, rt.alloc(), b"", 4_096, &LONGEST);
-}
-
 /// With all slots taken a file takes the slot of its title, and that of one that was removed.
 const FULL: [Step; 4] = [
-    (FILE, 0, "", 0),
+    (FRESH, 0, "", 0),
     (CLOSE, 0, "u", 0),
     (CLOSE, 0, "t7", 1),
     (REMOVE, 0, "t9", 1),
 ];
 
 /// The slot that is free again.
-const FREED: [Step; 3] = [(FILE, 0, "", 0), (CLOSE, 0, "u", 1), (TITLED, 9, "u", 1)];
+const FREED: [Step; 3] = [(FRESH, 0, "", 0), (CLOSE, 0, "u", 1), (TITLED, 9, "u", 1)];
 
 /// Adds so many files, of which the first 256 have room.
 fn fill(rt: &impl Abort, alloc: Global, calls: &mut MemoryCalls, count: u32) {
@@ -262,7 +241,7 @@ fn fill(rt: &impl Abort, alloc: Global, calls: &mut MemoryCalls, count: u32) {
 
 #[test]
 fn there_are_256_slots(rt: HostRuntime) {
-    let mut calls = MemoryCalls::new(rt.alloc(), b"", 4_096).expect(&rt, "memory");
+    let mut calls = system(&rt, rt.alloc(), "", 4_096);
     fill(&rt, rt.alloc(), &mut calls, 257);
     walk(&rt, &mut calls, &FULL);
     calls.fresh();

@@ -20,10 +20,11 @@ const FIRST: [DriveRow; 8] = [
 ];
 
 /// The blocks stay in the file; new blocks are zeros, also after a cut.
-const SECOND: [DriveRow; 6] = [
+const SECOND: [DriveRow; 7] = [
     (Blocks, Some(2)),
     (Read(1), Some(5)),
     (Resize(1), Some(0)),
+    (Blocks, Some(1)),
     (Resize(3), Some(0)),
     (Read(1), Some(0)),
     (Blocks, Some(3)),

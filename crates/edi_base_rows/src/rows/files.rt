@@ -8,18 +8,19 @@ use std::fs;
 use std::process::Abort;
 
 /// Files that are kept and fetched.
-const HOST: [FilesRow<'static>; 11] = [
-    ("text of a file", Fetch(9), FetchEnd::Absent, ""),
-    ("text of a file", Keep("hello, there"), FetchEnd::Ok, ""),
-    ("text of a file", Keep("hello"), FetchEnd::Ok, ""),
-    ("text of a file", Fetch(9), FetchEnd::Ok, "hello"),
-    ("text of a file", Fetch(5), FetchEnd::Ok, "hello"),
-    ("text of a file", Fetch(3), FetchEnd::Ok, "hel"),
-    ("text of a file", Fetch(0), FetchEnd::Ok, ""),
-    ("folder of files/text", Keep("deep"), FetchEnd::Ok, ""),
-    ("folder of files/text", Fetch(9), FetchEnd::Ok, "deep"),
-    ("nothing", Keep(""), FetchEnd::Ok, ""),
-    ("nothing", Fetch(9), FetchEnd::Ok, ""),
+const HOST: [FilesRow<'static>; 12] = [
+    ("text of a file", Fetch(9), Err(FetchEnd::Absent)),
+    ("text of a file", Keep("hello, there"), Ok("")),
+    ("text of a file", Fetch(12), Ok("hello, there")),
+    ("text of a file", Keep("hello"), Ok("")),
+    ("text of a file", Fetch(9), Ok("hello")),
+    ("text of a file", Fetch(5), Ok("hello")),
+    ("text of a file", Fetch(3), Ok("hel")),
+    ("text of a file", Fetch(0), Ok("")),
+    ("folder of files/text", Keep("deep"), Ok("")),
+    ("folder of files/text", Fetch(9), Ok("deep")),
+    ("nothing", Keep(""), Ok("")),
+    ("nothing", Fetch(9), Ok("")),
 ];
 
 #[test]
@@ -31,18 +32,18 @@ fn files_of_the_host(rt: HostRuntime) {
 
 /// A folder, a name below a file, a name with a NUL, a full device: an answer, and never a stop.
 const BAD: [FilesRow<'static>; 12] = [
-    ("", Fetch(9), FetchEnd::Absent, ""),
-    ("", Keep("x"), FetchEnd::Failed, ""),
-    ("absent/below", Fetch(9), FetchEnd::Absent, ""),
-    ("absent/below", Keep("x"), FetchEnd::Failed, ""),
-    ("folder", Fetch(9), FetchEnd::Failed, ""),
-    ("folder", Fetch(0), FetchEnd::Failed, ""),
-    ("folder", Keep("x"), FetchEnd::Failed, ""),
-    ("text/below", Fetch(9), FetchEnd::Failed, ""),
-    ("text/below", Keep("x"), FetchEnd::Failed, ""),
-    ("a\0b", Fetch(9), FetchEnd::Failed, ""),
-    ("a\0b", Keep("x"), FetchEnd::Failed, ""),
-    ("/dev/full", Keep("x"), FetchEnd::Failed, ""),
+    ("", Fetch(9), Err(FetchEnd::Absent)),
+    ("", Keep("x"), Err(FetchEnd::Failed)),
+    ("absent/below", Fetch(9), Err(FetchEnd::Absent)),
+    ("absent/below", Keep("x"), Err(FetchEnd::Failed)),
+    ("folder", Fetch(9), Err(FetchEnd::Failed)),
+    ("folder", Fetch(0), Err(FetchEnd::Failed)),
+    ("folder", Keep("x"), Err(FetchEnd::Failed)),
+    ("text/below", Fetch(9), Err(FetchEnd::Failed)),
+    ("text/below", Keep("x"), Err(FetchEnd::Failed)),
+    ("a\0b", Fetch(9), Err(FetchEnd::Failed)),
+    ("a\0b", Keep("x"), Err(FetchEnd::Failed)),
+    ("/dev/full", Keep("x"), Err(FetchEnd::Failed)),
 ];
 
 #[test]
@@ -57,8 +58,8 @@ fn bad_names(rt: HostRuntime) {
 fn long_name(rt: &impl Abort, host: &HostRuntime, count: usize) {
     let name = "n".repeat(host.alloc(), count).expect(rt, "memory");
     let calls: [FilesRow<'_>; 2] = [
-        (&name, Keep("x"), FetchEnd::Failed, ""),
-        (&name, Fetch(9), FetchEnd::Failed, ""),
+        (&name, Keep("x"), Err(FetchEnd::Failed)),
+        (&name, Fetch(9), Err(FetchEnd::Failed)),
     ];
     walk_files(rt, host.alloc(), &mut HostFiles::new(host), &calls);
 }
@@ -67,8 +68,8 @@ fn long_name(rt: &impl Abort, host: &HostRuntime, count: usize) {
 fn long_file(rt: &impl Abort, host: &HostRuntime, count: usize, limit: usize) {
     let text = "\x07".repeat(host.alloc(), count).expect(rt, "memory");
     let calls: [FilesRow<'_>; 2] = [
-        ("many", Keep(&text), FetchEnd::Ok, ""),
-        ("many", Fetch(limit), FetchEnd::Ok, &text),
+        ("many", Keep(&text), Ok("")),
+        ("many", Fetch(limit), Ok(&text)),
     ];
     walk_files(rt, host.alloc(), &mut HostFiles::new(host), &calls);
 }
@@ -90,15 +91,15 @@ fn one_file(rt: &impl Abort, alloc: Global, failing: &[u64]) -> MemoryFiles {
 
 /// Calls 2, 4 and 6 are to fail; the fourth is for a name that is not there, so that it is absent.
 const FAILING: [FilesRow<'static>; 9] = [
-    ("one", Fetch(3), FetchEnd::Ok, "hel"),
-    ("one", Fetch(3), FetchEnd::Failed, ""),
-    ("two", Keep("2"), FetchEnd::Ok, ""),
-    ("three", Fetch(3), FetchEnd::Absent, ""),
-    ("one", Keep("new"), FetchEnd::Ok, ""),
-    ("two", Keep("22"), FetchEnd::Failed, ""),
-    ("one", Fetch(0), FetchEnd::Ok, ""),
-    ("one", Fetch(9), FetchEnd::Ok, "new"),
-    ("two", Fetch(9), FetchEnd::Ok, "2"),
+    ("one", Fetch(3), Ok("hel")),
+    ("one", Fetch(3), Err(FetchEnd::Failed)),
+    ("two", Keep("2"), Ok("")),
+    ("three", Fetch(3), Err(FetchEnd::Absent)),
+    ("one", Keep("new"), Ok("")),
+    ("two", Keep("22"), Err(FetchEnd::Failed)),
+    ("one", Fetch(0), Ok("")),
+    ("one", Fetch(9), Ok("new")),
+    ("two", Fetch(9), Ok("2")),
 ];
 
 #[test]
@@ -119,9 +120,9 @@ fn one_steady_file(rt: &impl Abort, alloc: Global) -> SteadyFiles {
 
 /// What files that do not fail answer.
 const STEADY: [FilesRow<'static>; 3] = [
-    ("two", Keep("2"), FetchEnd::Ok, ""),
-    ("one", Fetch(9), FetchEnd::Ok, "hello"),
-    ("on", Fetch(9), FetchEnd::Absent, ""),
+    ("two", Keep("2"), Ok("")),
+    ("one", Fetch(9), Ok("hello")),
+    ("on", Fetch(9), Err(FetchEnd::Absent)),
 ];
 
 #[test]

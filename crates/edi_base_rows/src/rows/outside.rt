@@ -67,8 +67,9 @@ pub enum FilesCall<'a> {
     Keep(&'a str),
 }
 
-/// A name, a call, how it ends, and for a fetch what it leaves in a buffer that had bytes before.
-pub type FilesRow<'a> = (&'a str, FilesCall<'a>, FetchEnd, &'a str);
+/// A name, a call, and what a fetch leaves in a buffer that had bytes before; another end leaves none there, and a text that
+/// is kept neither.
+pub type FilesRow<'a> = (&'a str, FilesCall<'a>, Result<&'a str, FetchEnd>);
 
 // How a text is kept.
 fn keep<F: Files>(files: &mut F, alloc: Global, name: &str, text: &str) -> FetchEnd {
@@ -82,7 +83,7 @@ fn keep<F: Files>(files: &mut F, alloc: Global, name: &str, text: &str) -> Fetch
 /// Makes the calls of a table.
 pub fn walk_files<F: Files>(rt: &impl Abort, alloc: Global, files: &mut F, table: &[FilesRow<'_>]) {
     let mut into = Vec::new(alloc);
-    for (row, (name, call, end, bytes)) in table.iter().enumerate() {
+    for (row, (name, call, wanted)) in table.iter().enumerate() {
         let _ = into.resize(2, 1);
         let ended = match call {
             FilesCall::Fetch(limit) => files.fetch(alloc, name, *limit, &mut into),
@@ -91,9 +92,10 @@ pub fn walk_files<F: Files>(rt: &impl Abort, alloc: Global, files: &mut F, table
                 keep(files, alloc, name, text)
             }
         };
-        assert!(rt;
-            ended == *end && into.as_slice() == bytes.as_bytes(),
-            "row {row}"
-        );
+        let (end, bytes) = match wanted {
+            Ok(text) => (FetchEnd::Ok, text.as_bytes()),
+            Err(end) => (*end, b"".as_slice()),
+        };
+        assert!(rt; ended == end && into.as_slice() == bytes, "row {row}");
     }
 }
