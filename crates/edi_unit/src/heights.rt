@@ -5,13 +5,13 @@ ghost use Rattle.std.specs.Prelude.{◌≡◌, ◌+◌, ◌≤◌, map, sum_by};
 ghost use Rattle.edi_unit.specs.Lists.{list_items};
 ghost use Rattle.edi_unit.specs.Types.{is_set_shape, shape_at};
 ghost use Rattle.edi_unit.specs.View.{argument_of, arguments_of, block_of, expression_of, expressions_of};
-ghost use Rattle.edi_unit.specs.View.{link_of, links_of, part_of, parts_of, place_of};
+ghost use Rattle.edi_unit.specs.View.{link_of, links_of, part_of, place_of};
 ghost use Rattle.edi_unit.specs.Need.{argument_words, arguments_height, compound_height, expression_height, left_words, limited, links_height};
-ghost use Rattle.edi_unit.specs.Need.{members_height, part_height, parts_height, place_height, result_words, too_large};
+ghost use Rattle.edi_unit.specs.Need.{members_height, part_height, place_height, result_words, too_large};
 ghost use Rattle.edi_unit.specs.Need as spec;
 
 use crate::expressions::{
-    Argument, Arguments, Callee, Links, Operator, Part, Parts, Place, Value, Values,
+    Argument, Arguments, Callee, Links, Operator, Part, Place, Value, Values,
 };
 use crate::statements::{Act, Acts, Clause, Clauses};
 use crate::types::{Shape, TypeTable};
@@ -162,7 +162,11 @@ pub(crate) fn place_words(types: &TypeTable, blocks: &[Block], block: u32, place
     ensures exact { result ≡ limited (place_height types.now (map block_of blocks.now) block (place_of place.now)) }
     ensures small { result ≤ too_large }
 {
-    parts_words(types, blocks, block, &place.parts).max(1)
+    let mut words: u32 = 0;
+    for part in place.parts.items() {
+        words = words.max(part_words(types, blocks, block, part));
+    }
+    words.max(1)
 }
 
 // The height of a step to a part.
@@ -175,19 +179,6 @@ fn part_words(types: &TypeTable, blocks: &[Block], block: u32, part: &Part) -> u
         Part::Field(_) => 0,
         Part::Index(index, _) => sum(1, value_words(types, blocks, block, index)),
     }
-}
-
-// The height of the steps to a part.
-#[cycle(heights)]
-fn parts_words(types: &TypeTable, blocks: &[Block], block: u32, parts: &Parts) -> u32
-    ensures exact { result ≡ limited (parts_height types.now (map block_of blocks.now) block (parts_of parts.now)) }
-    ensures small { result ≤ too_large }
-{
-    let mut words: u32 = 0;
-    for part in parts.items() {
-        words = words.max(part_words(types, blocks, block, part));
-    }
-    words
 }
 
 // The height of an argument.

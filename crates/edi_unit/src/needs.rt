@@ -3,13 +3,13 @@
 ghost use Rattle.std.specs.Prelude.{◌≡◌, ◌≤◌, map, sum_by};
 ghost use Rattle.edi_unit.specs.Lists.{list_items};
 ghost use Rattle.edi_unit.specs.Types.{size};
-ghost use Rattle.edi_unit.specs.View.{act_of, acts_of, block_of, clause_of, clauses_of};
-ghost use Rattle.edi_unit.specs.Need.{act_height, acts_height, clause_height, clauses_height};
+ghost use Rattle.edi_unit.specs.View.{act_of, acts_of, block_of, clause_of};
+ghost use Rattle.edi_unit.specs.Need.{act_height, acts_height, clause_height};
 ghost use Rattle.edi_unit.specs.Need.{limited, slot_words, too_large, variable_words};
 ghost use Rattle.edi_unit.specs.Need as spec;
 
 use crate::heights::{arguments_words, place_words, sum, value_words};
-use crate::statements::{Act, Acts, Clause, Clauses};
+use crate::statements::{Act, Acts, Clause};
 use crate::types::{Numbers, TypeTable};
 use crate::typing::type_words;
 use crate::units::{Block, Parameter, Parameters};
@@ -31,7 +31,11 @@ fn act_words(types: &TypeTable, blocks: &[Block], block: u32, act: &Act) -> u32
         }
         Act::Call(_, arguments, _) => arguments_words(types, blocks, block, arguments),
         Act::If(clauses) | Act::While(clauses) | Act::When(clauses, _) => {
-            clauses_words(types, blocks, block, clauses)
+            let mut words: u32 = 0;
+            for clause in clauses.items() {
+                words = words.max(clause_words(types, blocks, block, clause));
+            }
+            words
         }
     }
 }
@@ -57,19 +61,6 @@ fn clause_words(types: &TypeTable, blocks: &[Block], block: u32, clause: &Clause
 {
     let condition = value_words(types, blocks, block, &clause.condition);
     condition.max(acts_words(types, blocks, block, &clause.body))
-}
-
-// The height of conditions with their statements.
-#[cycle(needs)]
-fn clauses_words(types: &TypeTable, blocks: &[Block], block: u32, clauses: &Clauses) -> u32
-    ensures exact { result ≡ limited (clauses_height types.now (map block_of blocks.now) block (clauses_of clauses.now)) }
-    ensures small { result ≤ too_large }
-{
-    let mut words: u32 = 0;
-    for clause in clauses.items() {
-        words = words.max(clause_words(types, blocks, block, clause));
-    }
-    words
 }
 
 // The words of a parameter.

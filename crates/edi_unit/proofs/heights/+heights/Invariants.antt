@@ -25,8 +25,8 @@ invariant-links_words-loop-link l = record {
       (links_height l.types (map block_of l.blocks) l.block l.left (links (map link_of l.link-items)));
 }
 
-abbrev pub invariant-parts_words-loop-part : goal.invariant-parts_words-loop-part
-invariant-parts_words-loop-part l =
+abbrev pub invariant-place_words-loop-part : goal.invariant-place_words-loop-part
+invariant-place_words-loop-part l =
     Heightens part_of parts (parts_height l.types (map block_of l.blocks) l.block) l.words l.part-index l.part-items
 
 abbrev pub invariant-arguments_words-loop-argument : goal.invariant-arguments_words-loop-argument

@@ -7,6 +7,6 @@ use Rattle.edi_unit.proofs.needs.+needs.Given as goal
 abbrev pub invariant-acts_words-loop-act : goal.invariant-acts_words-loop-act
 invariant-acts_words-loop-act l = Heightens act_of acts (acts_height l.types (map block_of l.blocks) l.block) l.words l.act-index l.act-items
 
-abbrev pub invariant-clauses_words-loop-clause : goal.invariant-clauses_words-loop-clause
-invariant-clauses_words-loop-clause l =
+abbrev pub invariant-act_words-loop-clause : goal.invariant-act_words-loop-clause
+invariant-act_words-loop-clause l =
     Heightens clause_of clauses (clauses_height l.types (map block_of l.blocks) l.block) l.words l.clause-index l.clause-items
