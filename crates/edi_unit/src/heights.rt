@@ -1,7 +1,7 @@
 //! The words of memory that the evaluation of a construct takes above its frame, and the words that a block needs. A number
 //! of words above 65,535 counts as 65,536, so that it is known without overflow however long a construct is.
 
-ghost use Rattle.std.specs.Prelude.{◌≡◌, ◌+◌, ◌≤◌, map, sum_by};
+ghost use Rattle.std.specs.Prelude.{◌≡◌, ◌+◌, ◌≤◌, if◌then◌else◌, map, sum_by};
 ghost use Rattle.edi_unit.specs.Lists.{list_items};
 ghost use Rattle.edi_unit.specs.Types.{is_set_shape, shape_at};
 ghost use Rattle.edi_unit.specs.View.{argument_of, arguments_of, block_of, expression_of, expressions_of};
@@ -93,13 +93,7 @@ pub(crate) fn value_words(types: &TypeTable, blocks: &[Block], block: u32, value
             let before = value_words(types, blocks, block, first);
             before.max(links_words(types, blocks, block, left, links))
         }
-        Value::Make { of, parts, .. } => {
-            if is_set(types, *of) {
-                members_words(types, blocks, block, parts)
-            } else {
-                compound_words(types, blocks, block, parts)
-            }
-        }
+        Value::Make { of, parts, .. } => make_words(types, blocks, block, *of, parts),
         Value::Apply(callee, arguments, _) => {
             let passing = arguments_words(types, blocks, block, arguments);
             passing.max(called_words(types, blocks, block, *callee))
@@ -107,27 +101,22 @@ pub(crate) fn value_words(types: &TypeTable, blocks: &[Block], block: u32, value
     }
 }
 
-// The height of a set's members.
+// The height of a record, an array or a set of type `of`.
 #[cycle(heights)]
-fn members_words(types: &TypeTable, blocks: &[Block], block: u32, members: &Values) -> u32
+fn make_words(types: &TypeTable, blocks: &[Block], block: u32, of: u32, parts: &Values) -> u32
     ensures exact { result
-        ≡ limited (members_height types.now (map block_of blocks.now) block (expressions_of members.now)) }
+        ≡ limited (if is_set_shape (shape_at types.now of)
+        then members_height types.now (map block_of blocks.now) block (expressions_of parts.now)
+        else compound_height types.now (map block_of blocks.now) block 0 (expressions_of parts.now)) }
     ensures small { result ≤ too_large }
 {
-    let mut words: u32 = 8;
-    for member in members.items() {
-        words = words.max(sum(8, value_words(types, blocks, block, member)));
+    if is_set(types, of) {
+        let mut words: u32 = 8;
+        for member in parts.items() {
+            words = words.max(sum(8, value_words(types, blocks, block, member)));
+        }
+        return words;
     }
-    words
-}
-
-// The height of a record's fields or an array's elements.
-#[cycle(heights)]
-fn compound_words(types: &TypeTable, blocks: &[Block], block: u32, parts: &Values) -> u32
-    ensures exact { result
-        ≡ limited (compound_height types.now (map block_of blocks.now) block 0 (expressions_of parts.now)) }
-    ensures small { result ≤ too_large }
-{
     let mut before: u32 = 0;
     let mut words: u32 = 0;
     for part in parts.items() {

@@ -6,8 +6,8 @@ use Rattle.edi_unit.specs.Need.{limited, compound_height, arguments_height}
 use Rattle.edi_unit.proofs.Limits.{drop_item, compound_step, arguments_step}
 use Rattle.edi_unit.proofs.heights.+heights.Goals as goal
 
-pub compound_words-loop-part-preserved : goal.compound_words-loop-part-preserved
-compound_words-loop-part-preserved t c =
+pub make_words-loop-part-preserved : goal.make_words-loop-part-preserved
+make_words-loop-part-preserved t c =
     let blocks = map block_of c.args.blocks.now in
     let items = c.items-part-items.result.now in
     let i = c.loop-part.part-index in
@@ -17,8 +17,8 @@ compound_words-loop-part-preserved t c =
       short = omega arith;
       height =
           compound_step c.args.types.now blocks c.args.block (expression_of c.part-item.result) (expressions (map expression_of (drop (i + 1) items)))
-          c.loop-part.before c.sum-before.result c.loop-part.words c.max-words.result c.value_words.result c.sum.result _
-          c.value_words.ensures.exact c.sum.ensures.exact c.max-words.ensures
+          c.loop-part.before c.sum-before.result c.loop-part.words c.max-words-in-loop-part.result c.value_words-in-loop-part.result c.sum-in-loop-part.result _
+          c.value_words-in-loop-part.ensures.exact c.sum-in-loop-part.ensures.exact c.max-words-in-loop-part.ensures
           (c.sum-before.ensures.exact ∙ ap (λ n. limited (c.loop-part.before + n))
           (c.type_words.ensures.exact ∙ ap (size c.args.types.now) c.expression_type.ensures.exact))
           (ap (λ l. limited (max c.loop-part.words

@@ -5,8 +5,8 @@ use Rattle.edi_unit.specs.Need.{limited, too_large, members_height, compound_hei
 use Rattle.edi_unit.proofs.Loops.{Heightens, Stacks}
 use Rattle.edi_unit.proofs.heights.+heights.Given as goal
 
-abbrev pub invariant-members_words-loop-member : goal.invariant-members_words-loop-member
-invariant-members_words-loop-member l = record {
+abbrev pub invariant-make_words-loop-member : goal.invariant-make_words-loop-member
+invariant-make_words-loop-member l = record {
   least : 8 ≤ l.words;
   small : l.words ≤ too_large;
   height : limited (max l.words (members_height l.types (map block_of l.blocks) l.block
@@ -14,8 +14,8 @@ invariant-members_words-loop-member l = record {
       (members_height l.types (map block_of l.blocks) l.block (expressions (map expression_of l.member-items)));
 }
 
-abbrev pub invariant-compound_words-loop-part : goal.invariant-compound_words-loop-part
-invariant-compound_words-loop-part l =
+abbrev pub invariant-make_words-loop-part : goal.invariant-make_words-loop-part
+invariant-make_words-loop-part l =
     Stacks expression_of expressions (compound_height l.types (map block_of l.blocks) l.block) l.before l.words l.part-index l.part-items
 
 abbrev pub invariant-links_words-loop-link : goal.invariant-links_words-loop-link
