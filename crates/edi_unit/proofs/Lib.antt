@@ -1,7 +1,8 @@
 pub mod Entries
-pub mod Tables
+pub mod Example
 pub mod Known
-pub mod ZeroValues
 pub mod Limits
 pub mod Loops
-pub mod Example
+pub mod Slots
+pub mod Tables
+pub mod ZeroValues

@@ -1,18 +1,17 @@
 //! The words that blocks need.
 
-ghost use Rattle.std.specs.Prelude.{◌≡◌, ◌≤◌, map, sum_by};
-ghost use Rattle.edi_unit.specs.Lists.{list_items};
+ghost use Rattle.std.specs.Prelude.{◌≡◌, ◌≤◌, map, option_to_list, sum_by};
 ghost use Rattle.edi_unit.specs.Types.{size};
-ghost use Rattle.edi_unit.specs.View.{act_of, acts_of, block_of, clause_of};
-ghost use Rattle.edi_unit.specs.Need.{act_height, acts_height, clause_height};
+ghost use Rattle.edi_unit.specs.View.{act_of, acts_of, block_of};
+ghost use Rattle.edi_unit.specs.Need.{act_height, acts_height};
 ghost use Rattle.edi_unit.specs.Need.{limited, slot_words, too_large, variable_words};
 ghost use Rattle.edi_unit.specs.Need as spec;
 
 use crate::heights::{arguments_words, place_words, sum, value_words};
-use crate::statements::{Act, Acts, Clause};
-use crate::types::{Numbers, TypeTable};
+use crate::statements::{Act, Acts};
+use crate::types::TypeTable;
 use crate::typing::type_words;
-use crate::units::{Block, Parameter, Parameters};
+use crate::units::{Block, Parameter};
 
 // The words that each instance of a block keeps besides its variables.
 const LINK_WORDS: u32 = 5;
@@ -33,7 +32,9 @@ fn act_words(types: &TypeTable, blocks: &[Block], block: u32, act: &Act) -> u32
         Act::If(clauses) | Act::While(clauses) | Act::When(clauses, _) => {
             let mut words: u32 = 0;
             for clause in clauses.items() {
-                words = words.max(clause_words(types, blocks, block, clause));
+                let condition = value_words(types, blocks, block, &clause.condition);
+                let body = acts_words(types, blocks, block, &clause.body);
+                words = words.max(condition.max(body));
             }
             words
         }
@@ -53,16 +54,6 @@ fn acts_words(types: &TypeTable, blocks: &[Block], block: u32, acts: &Acts) -> u
     words
 }
 
-// The height of a condition with its statements.
-#[cycle(needs)]
-fn clause_words(types: &TypeTable, blocks: &[Block], block: u32, clause: &Clause) -> u32
-    ensures exact { result ≡ limited (clause_height types.now (map block_of blocks.now) block (clause_of clause.now)) }
-    ensures small { result ≤ too_large }
-{
-    let condition = value_words(types, blocks, block, &clause.condition);
-    condition.max(acts_words(types, blocks, block, &clause.body))
-}
-
 // The words of a parameter.
 fn parameter_words(types: &TypeTable, parameter: Parameter) -> u32
     ensures exact { result ≡ slot_words types.now parameter }
@@ -75,28 +66,15 @@ fn parameter_words(types: &TypeTable, parameter: Parameter) -> u32
     }
 }
 
-// The words of parameters.
-fn parameters_words(types: &TypeTable, parameters: &Parameters) -> u32
-    ensures exact { result ≡ limited (sum_by (slot_words types.now) (list_items parameters.now)) }
+// The words of a result of this type, if there is one.
+fn returned_words(types: &TypeTable, of: Option<u32>) -> u32
+    ensures exact { result ≡ sum_by (size types.now) (option_to_list of) }
     ensures small { result ≤ too_large }
 {
-    let mut words: u32 = 0;
-    for parameter in parameters.items() {
-        words = sum(words, parameter_words(types, *parameter));
+    match of {
+        Some(of) => type_words(types, of),
+        None => 0,
     }
-    words
-}
-
-// The words of declared variables.
-fn declared_words(types: &TypeTable, variables: &Numbers) -> u32
-    ensures exact { result ≡ limited (sum_by (size types.now) (list_items variables.now)) }
-    ensures small { result ≤ too_large }
-{
-    let mut words: u32 = 0;
-    for variable in variables.items() {
-        words = sum(words, type_words(types, *variable));
-    }
-    words
 }
 
 // The words of a block's result, parameters and declared variables.
@@ -104,14 +82,17 @@ fn block_words(types: &TypeTable, block: &Block) -> u32
     ensures exact { result ≡ limited (variable_words types.now (block_of block.now)) }
     ensures small { result ≤ too_large }
 {
-    let result = match block.result {
-        Some(of) => type_words(types, of),
-        None => 0,
-    };
-    let parameters = parameters_words(types, &block.parameters);
+    let mut parameters: u32 = 0;
+    for parameter in block.parameters.items() {
+        parameters = sum(parameters, parameter_words(types, *parameter));
+    }
+    let mut variables: u32 = 0;
+    for variable in block.variables.items() {
+        variables = sum(variables, type_words(types, *variable));
+    }
     sum(
-        sum(result, parameters),
-        declared_words(types, &block.variables),
+        returned_words(types, block.result),
+        sum(parameters, variables),
     )
 }
 
