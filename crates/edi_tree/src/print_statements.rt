@@ -62,19 +62,26 @@ impl Printer {
         ensures exact { OnOk result
             (self.new ≡ spec.put (just is.End) (spec.print_conditions (conditions_of conditions.now) (spec.put_text opening.now line self.old))) }
     {
-        self.symbol(alloc, opening, line)?;
-        self.condition(alloc, &conditions.first)?;
+        self.condition(alloc, opening, line, &conditions.first)?;
         for condition in conditions.more.items() {
-            self.word(alloc, b"else")?;
-            self.condition(alloc, condition)?;
+            self.condition(alloc, b"else", None, condition)?;
         }
         self.word(alloc, b"end")
     }
 
+    // The word before a condition, on this line if its line is kept; the condition, and its list.
     #[cycle(print_list)]
-    fn condition(&mut self, alloc: Global, condition: &Condition) -> Result<(), AllocError>
-        ensures exact { OnOk result (self.new ≡ spec.print_condition (condition_of condition.now) self.old) }
+    fn condition(
+        &mut self,
+        alloc: Global,
+        opening: &[u8],
+        line: Option<u16>,
+        condition: &Condition,
+    ) -> Result<(), AllocError>
+        ensures exact { OnOk result
+            (self.new ≡ spec.print_condition (condition_of condition.now) (spec.put_text opening.now line self.old)) }
     {
+        self.symbol(alloc, opening, line)?;
         self.expr(alloc, &condition.expr)?;
         self.symbol(alloc, b"do", Some(condition.line))?;
         self.list(alloc, &condition.list)
