@@ -48,23 +48,13 @@ impl Faults {
         ensures rose { CountRose (count_of self outside) (count_of result outside) }
         ensures later { (other : Outside) → count_of self other ≤ count_of result other }
     {
+        let mut risen = self;
         match outside {
-            Outside::Drive => Faults {
-                drive: one_more(self.drive),
-                ..self
-            },
-            Outside::Input => Faults {
-                input: one_more(self.input),
-                ..self
-            },
-            Outside::Terminal => Faults {
-                terminal: one_more(self.terminal),
-                ..self
-            },
-            Outside::Printer => Faults {
-                printer: one_more(self.printer),
-                ..self
-            },
+            Outside::Drive => risen.drive = one_more(risen.drive),
+            Outside::Input => risen.input = one_more(risen.input),
+            Outside::Terminal => risen.terminal = one_more(risen.terminal),
+            Outside::Printer => risen.printer = one_more(risen.printer),
         }
+        risen
     }
 }
