@@ -48,8 +48,8 @@ abbrev pub second_map : (length : ℕ) → ℕ → Option ℕ
 second_map length map = if nat_le (pages_of length) 255 then None else Some map
 
 -- the numbers of a kind and of a protection
-abbrev pub are_marks : (kind protected : ℕ) → Bool
-are_marks kind protected = (kind == 1 || kind == 2) && nat_le protected 1
+abbrev pub kind_and_protection_fit : (kind protected : ℕ) → Bool
+kind_and_protection_fit kind protected = (kind == 1 || kind == 2) && nat_le protected 1
 
 -- the file of an entry whose title takes so many bytes, and whose kind and protection stand behind it
 abbrev pub file_in : (width : ℕ) → (maps : List ℕ) → (length : ℕ) → List ℕ → FileRecord
@@ -74,7 +74,7 @@ file_in width maps length bytes = record {
 -- `count` is the number of the drive's blocks.
 abbrev pub fields_fit : (count : ℕ) → List ℕ → Bool
 fields_fit count bytes =
-    are_marks (slice_index bytes 24) (slice_index bytes 25)
+    kind_and_protection_fit (slice_index bytes 24) (slice_index bytes 25)
     && nat_le (long_at bytes 30) most_bytes
     && is_data 33 count (short_at bytes 26)
     && is_second_map count (long_at bytes 30) (short_at bytes 28)

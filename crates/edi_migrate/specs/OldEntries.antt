@@ -4,7 +4,7 @@ use Rattle.edi_calls.specs.State.{is_title, without_blanks}
 use Rattle.edi_image.specs.Records.{FileRecord}
 use Rattle.edi_image.specs.declared.entries.Said.{Said}
 use Rattle.edi_image.specs.declared.entries.Said.TheVariants as said
-use Rattle.edi_image.specs.Entries.{are_marks, are_zeros, file_in, is_data, long_at, short_at}
+use Rattle.edi_image.specs.Entries.{are_zeros, file_in, is_data, kind_and_protection_fit, long_at, short_at}
 
 -- the greatest number of bytes of a file in an image of version 1
 abbrev pub old_most_bytes : ℕ
@@ -20,7 +20,7 @@ old_most_bytes = 130560
 --     bytes 20 to 31    zeros
 abbrev pub old_fields_fit : (count : ℕ) → List ℕ → Bool
 old_fields_fit count bytes =
-    are_marks (slice_index bytes 12) (slice_index bytes 13)
+    kind_and_protection_fit (slice_index bytes 12) (slice_index bytes 13)
     && nat_le (long_at bytes 16) old_most_bytes
     && is_data 5 count (short_at bytes 14)
     && are_zeros (drop 20 bytes)

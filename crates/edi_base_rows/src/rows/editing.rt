@@ -167,7 +167,8 @@ fn less_one(bytes: &[u8]) -> &[u8] {
     }
 }
 
-// A text of so many bytes with no line feed is one line, which counts one more.
+// A text of so many bytes with no line feed is one line, which counts one more. `count` is 261,120, as the answers
+// below say; as an argument it costs the proof nothing, where a long literal does.
 fn fill(rt: &impl Abort, alloc: Global, count: usize) {
     use Answer::{Done, Full, NoLine};
     use Call::{Delete, Insert, Replace, Undo};
