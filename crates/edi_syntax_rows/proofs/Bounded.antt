@@ -12,7 +12,7 @@ use Rattle.edi_tree.specs.Tree.{Program, program, no_global}
 use Rattle.edi_tree.specs.View.{globals, global_of, procedure_of, program_with}
 use Rattle.edi_tree.specs.Spells.{IsBounded}
 use Rattle.edi_tree.specs.Depth.{depth}
-use Rattle.edi_syntax_rows.specs.First.{display, main, letter, shows, body, procedure_main}
+use Rattle.edi_syntax_rows.specs.First.{with_param, display, main, letter, shows, body, procedure_main}
 
 at : Symbol → Mark
 at symbol = record { symbol = symbol; line = 1 }
@@ -27,7 +27,7 @@ first : Program
 first = program no_global procedure_main
 
 first_is_bounded : IsBounded first
-unfolding at marks first procedure_main body main display shows letter
+unfolding at marks first procedure_main body main display with_param shows letter
 first_is_bounded = record {
   marks = marks;
   last = 1;
@@ -46,5 +46,5 @@ is_bounded gs p none is = subst (λ t. ∥ IsBounded t ∥₁) (sym (is_first gs
 
 pub shallow : (gs : code_sequence.Sequence code_global.Global) (p : code_procedure.Procedure) → items_of gs ≡ [] → procedure_of p ≡ procedure_main
     → depth (program_with gs p) ≤ 64
-unfolding first procedure_main body main display shows letter
+unfolding first procedure_main body main display with_param shows letter
 shallow gs p none is = subst (λ t. depth t ≤ 64) (sym (is_first gs p none is)) (omega arith)

@@ -2,7 +2,7 @@
 use Rattle.std.specs.Prelude.{ℕ, List, Option, Some, None, codes}
 use Rattle.edi_tree.specs.declared.names.Name.{Name}
 use Rattle.edi_tree.specs.declared.names.Chars.{Chars}
-use Rattle.edi_tree.specs.Tree.{group, no_name, Heading, heading, params, no_param, value_param, procedure_param, Expr, expr, no_comparison, no_expr, simple}
+use Rattle.edi_tree.specs.Tree.{group, no_name, Heading, heading, params, no_param, Param, value_param, procedure_param, Expr, expr, no_comparison, no_expr, simple}
 use Rattle.edi_tree.specs.Tree.{no_addend, term, no_multiplier, string, args, StatementList, list, no_statement, Statement, call, Procedure, procedure}
 use Rattle.edi_tree.specs.Tree.{no_declaration}
 
@@ -12,11 +12,15 @@ on_line_1 text = record { text = text; line = 1 }
 abbrev pub a : Chars
 a = record { text = codes "a"; line = 1 }
 
+-- a heading of one parameter
+unfoldable pub with_param : List ℕ → Param → Heading
+with_param text p = heading (on_line_1 text) (params p no_param) None
+
 unfoldable pub display : Heading
-display = heading (on_line_1 (codes "display")) (params (value_param (group (on_line_1 (codes "value")) no_name (on_line_1 (codes "char")))) no_param) None
+display = with_param (codes "display") (value_param (group (on_line_1 (codes "value")) no_name (on_line_1 (codes "char"))))
 
 unfoldable pub main : Heading
-main = heading (on_line_1 (codes "main")) (params (procedure_param display) no_param) None
+main = with_param (codes "main") (procedure_param display)
 
 unfoldable pub letter : Expr
 letter = expr (simple None (term (string a) no_multiplier) no_addend) no_comparison

@@ -5,29 +5,28 @@ use edi_syntax::{SyntaxFault, parse};
 use std::alloc::Global;
 use std::process::Abort;
 
-/// A program of 211 symbols, in which a blank or a line feed stands between two of them, and nowhere else.
-const BUFFER: &str = "proc main ( proc accept ( var c : char ) ; proc display ( c : char ) )
+/// A program of 192 symbols, in which a blank or a line feed stands between two of them, and nowhere else.
+const PROGRAM: &str = "const n = 3 ; c = char ( 65 )
+enum colour ( red , blue )
+record point ( x , y : int )
+array row [ 0 : n ] ( int )
+set hue ( colour )
+proc main ( proc display ( c : char ) ; var e : int ) : int
+var p : point ; r , s : row
+pre proc later ( x : int )
 module
-array slots [ 0 : 3 ] ( char )
-var slot : slots ; head , tail , length : int
-* proc put ( c : char )
-begin when length < 4 do
-slot [ tail ] := c ; tail := ( tail + 1 ) mod 4 ; length := length + 1 end
-end
-* proc get ( var c : char )
-begin when length > 0 do
-c := slot [ head ] ; head := ( head + 1 ) mod 4 ; length := length - 1 end
-end
-begin head := 0 ; tail := 0 ; length := 0 end
-proc producer
-var x : char
-begin accept ( x ) ;
-while x <> char ( 25 ) do put ( x ) ; accept ( x ) end ; put ( x )
-end
-proc consumer
-var y : char
-begin get ( y ) ; while y <> char ( 25 ) do display ( y ) ; get ( y ) end end
-begin cobegin 1 do producer also 2 do consumer end end";
+* var k : int
+* proc twice ( x : int ) : int
+begin val twice := x + x end
+begin s [ 0 ] := 0 end
+post proc later ( x : int )
+begin skip end
+begin
+if p . x = 0 do skip else r [ 1 ] <> - 2 do display ( c ) end ;
+while not ( k >= 3 ) or k in hue ( red ) do k := k * 2 + 1 end ;
+when k mod 2 = 0 do later ( k ) end ;
+cobegin 1 do skip also c do skip end
+end";
 
 /// The syntax fault of a text that has symbols, if it has one.
 pub(crate) fn fault_in(rt: &impl Abort, alloc: Global, text: &[u8]) -> Option<SyntaxFault> {
@@ -35,76 +34,82 @@ pub(crate) fn fault_in(rt: &impl Abort, alloc: Global, text: &[u8]) -> Option<Sy
     parse(alloc, &symbols).err()
 }
 
-/// Texts with their first symbol that is no part of a program: its line and its index among the symbols.
-const SYNTAX: [(&str, u16, u32); 26] = [
-    ("", 1, 0),
-    ("\n\n", 3, 0),
-    ("proc main begin end", 1, 3),
-    ("proc main begin skip end skip", 1, 5),
-    ("proc main begin skip; end", 1, 5),
-    ("proc main begin skip end :", 1, 5),
-    ("proc main : : int begin skip end", 1, 3),
-    ("proc main * module begin skip end begin skip end", 1, 2),
-    (
-        "proc main module * module begin skip end begin skip end",
-        1,
-        4,
-    ),
-    ("const a = 'ab' proc main begin skip end", 1, 3),
-    ("const a = char(x) proc main begin skip end", 1, 5),
-    ("var x: int proc main begin skip end", 1, 0),
-    ("enum e () proc main begin skip end", 1, 3),
-    ("array a [1:2] int proc main begin skip end", 1, 7),
-    ("proc main(var proc p) begin skip end", 1, 4),
-    ("proc main pre p begin skip end", 1, 3),
-    ("proc main post pre proc p begin skip end", 1, 3),
-    ("proc main begin x.1 := 2 end", 1, 5),
-    ("proc main begin x[1 := 2 end", 1, 6),
-    ("proc main begin x() end", 1, 5),
-    ("proc main begin x := 1 = 2 = 3 end", 1, 8),
-    ("proc main begin x := - - 1 end", 1, 6),
-    ("proc main begin x := not + 1 end", 1, 6),
-    (
-        "proc main begin cobegin 1 do skip else 2 do skip end end",
-        1,
-        7,
-    ),
-    ("proc main begin if x do skip also x do skip end end", 1, 7),
-    ("proc main begin val f end", 1, 5),
+/// Texts of one line with the index of their first symbol that is no part of a program.
+const SYNTAX: [(&str, u32); 25] = [
+    ("", 0),
+    ("proc main begin end", 3),
+    ("proc main begin skip end skip", 5),
+    ("proc main begin skip; end", 5),
+    ("proc main begin skip end :", 5),
+    ("proc main : : int begin skip end", 3),
+    ("proc main * module begin skip end begin skip end", 2),
+    ("proc p module * module begin skip end begin skip end", 4),
+    ("const a = 'ab' proc main begin skip end", 3),
+    ("const a = char(x) proc main begin skip end", 5),
+    ("var x: int proc main begin skip end", 0),
+    ("enum e () proc main begin skip end", 3),
+    ("array a [1:2] int proc main begin skip end", 7),
+    ("proc main(var proc p) begin skip end", 4),
+    ("proc main pre p begin skip end", 3),
+    ("proc main post pre proc p begin skip end", 3),
+    ("proc main begin x.1 := 2 end", 5),
+    ("proc main begin x[1 := 2 end", 6),
+    ("proc main begin x() end", 5),
+    ("proc main begin x := 1 = 2 = 3 end", 8),
+    ("proc main begin x := - - 1 end", 6),
+    ("proc main begin x := not + 1 end", 6),
+    ("proc p begin cobegin 1 do skip else 2 do skip end end", 7),
+    ("proc main begin if x do skip also x do skip end end", 7),
+    ("proc main begin val f end", 5),
 ];
 
-/// Texts with their first symbol that the profile leaves out.
-const OUTSIDE: [(&str, u16, u32); 5] = [
-    ("proc main lib", 1, 2),
-    ("lib", 1, 0),
-    ("proc main begin x : = 1 end", 1, 4),
-    ("proc main\nbegin display('a':char) end", 2, 6),
-    ("proc main begin if true do skip end : end", 1, 8),
+/// So, of their first symbol that the profile leaves out.
+const OUTSIDE: [(&str, u32); 4] = [
+    ("proc main lib", 2),
+    ("lib", 0),
+    ("proc main begin x : = 1 end", 4),
+    ("proc main begin if true do skip end : end", 8),
 ];
 
-/// Asserts that each text has a fault at this symbol, outside of the profile or of the syntax.
-fn are_faulty(rt: &impl Abort, alloc: Global, cases: &[(&str, u16, u32)], outside: bool) {
-    for (text, line, index) in cases {
-        let (line, index) = (*line, *index);
-        let fault = if outside {
-            SyntaxFault::NotInProfile { line, index }
-        } else {
-            SyntaxFault::Syntax { line, index }
-        };
+/// A fault at this symbol, outside of the profile or of the syntax.
+fn fault_at(line: u16, index: u32, outside: bool) -> SyntaxFault {
+    if outside {
+        SyntaxFault::NotInProfile { line, index }
+    } else {
+        SyntaxFault::Syntax { line, index }
+    }
+}
+
+/// Asserts that each text has such a fault on its line 1.
+fn are_faulty(rt: &impl Abort, alloc: Global, cases: &[(&str, u32)], outside: bool) {
+    for (text, index) in cases {
         let found = fault_in(rt, alloc, text.as_bytes());
-        assert_eq!(rt; found, Some(fault), "{text}");
+        assert_eq!(rt; found, Some(fault_at(1, *index, outside)), "{text}");
     }
 }
 
 #[test]
-fn the_first_fault_its_line_and_index(rt: HostRuntime) {
+fn the_first_fault_and_its_index(rt: HostRuntime) {
     are_faulty(&rt, rt.alloc(), &SYNTAX, false);
     are_faulty(&rt, rt.alloc(), &OUTSIDE, true);
 }
 
 #[test]
+fn the_line_of_the_first_fault(rt: HostRuntime) {
+    let colon: &[u8] = b"proc main\nbegin display('a':char) end";
+    assert_eq!(rt;
+        fault_in(&rt, rt.alloc(), colon),
+        Some(fault_at(2, 6, true))
+    );
+    assert_eq!(rt;
+        fault_in(&rt, rt.alloc(), b"\n\n"),
+        Some(fault_at(3, 0, false))
+    );
+}
+
+#[test]
 fn each_beginning_of_a_program_ends_too_early(rt: HostRuntime) {
-    let bytes = BUFFER.as_bytes();
+    let bytes = PROGRAM.as_bytes();
     let mut line: u16 = 1;
     let mut index: u32 = 1;
     for (length, byte) in bytes.iter().enumerate() {
@@ -119,7 +124,7 @@ fn each_beginning_of_a_program_ends_too_early(rt: HostRuntime) {
             line = line.saturating_add(1);
         }
     }
-    assert_eq!(rt; index, 211);
+    assert_eq!(rt; index, 192);
     assert_eq!(rt; fault_in(&rt, rt.alloc(), bytes), None);
 }
 

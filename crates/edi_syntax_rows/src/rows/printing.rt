@@ -2,7 +2,7 @@
 
 ghost use Rattle.std.specs.Prelude.{◌≡◌, [], ◌∷◌, IfOk};
 ghost use Rattle.edi_tree.specs.Sequences.{items_of};
-ghost use Rattle.edi_tree.specs.View.{expr_of, heading_of, list_of, procedure_of, statement_of};
+ghost use Rattle.edi_tree.specs.View.{expr_of, heading_of, list_of, param_of, procedure_of, statement_of};
 ghost use Rattle.edi_syntax_rows.specs.First as first;
 
 use edi_lex::Text;
@@ -32,6 +32,18 @@ fn only<T: Drop>(alloc: Global, part: T) -> Result<Sequence<T>, AllocError>
     Ok(list)
 }
 
+// `proc NAME ( PARAMETER )`
+#[tactic(auto, unfolding(crate::specs::First::with_param))]
+fn heading(alloc: Global, text: &[u8], param: Param) -> Result<Heading, AllocError>
+    ensures { IfOk result (λ h. heading_of h ≡ first.with_param text.now (param_of param)) }
+{
+    Ok(Heading {
+        name: name(alloc, text)?,
+        params: only(alloc, param)?,
+        result: None,
+    })
+}
+
 // `proc display ( value : char )`
 #[tactic(auto, unfolding(crate::specs::First::display))]
 fn display(alloc: Global) -> Result<Heading, AllocError>
@@ -42,12 +54,7 @@ fn display(alloc: Global) -> Result<Heading, AllocError>
         more: Names::new(alloc),
         type_name: name(alloc, b"char")?,
     };
-    let params = only(alloc, Param::Value(group))?;
-    Ok(Heading {
-        name: name(alloc, b"display")?,
-        params,
-        result: None,
-    })
+    heading(alloc, b"display", Param::Value(group))
 }
 
 // `proc main ( proc display ( value : char ) )`
@@ -55,12 +62,7 @@ fn display(alloc: Global) -> Result<Heading, AllocError>
 fn main_heading(alloc: Global) -> Result<Heading, AllocError>
     ensures { IfOk result (λ h. heading_of h ≡ first.main) }
 {
-    let params = only(alloc, Param::Heading(display(alloc)?))?;
-    Ok(Heading {
-        name: name(alloc, b"main")?,
-        params,
-        result: None,
-    })
+    heading(alloc, b"main", Param::Heading(display(alloc)?))
 }
 
 // `'a'`
