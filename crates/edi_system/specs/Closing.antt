@@ -1,14 +1,15 @@
 -- Words of contracts. What `close` and `remove` leave: of what is kept of the files, also where no object tells its contents, and of the
 -- blocks, where the drive tells them.
-use Rattle.std.specs.Prelude.{◌≡◌, ℕ, Bool, true, false, List, length, Option, Some, None, Result, Ok}
+use Rattle.std.specs.Prelude.{◌≡◌, ◌⊎◌, ℕ, Bool, true, false, List, length, Option, Some, None, Result, Ok, Err}
 use Rattle.edi_calls.specs.declared.kinds.FileKind.TheVariants as kind
 use Rattle.edi_catalog.specs.declared.ends.CatEnd.{CatEnd}
+use Rattle.edi_catalog.specs.declared.ends.CatEnd.TheVariants as cat
 use Rattle.edi_told.specs.Told.{WhereTold}
 use Rattle.edi_image.specs.Image.{slots_of}
-use Rattle.edi_catalog.specs.Changes.{CatalogAnswers, Leaves, deleted, kept_changed, not_deleted, slots_changed}
+use Rattle.edi_catalog.specs.Changes.{CatalogAnswers, ChangedAreCached, Leaves, deleted, kept_changed, not_deleted, slots_changed}
 use Rattle.edi_catalog.specs.Files.{file_titled}
 use Rattle.edi_catalog.specs.Mounted.{files_of}
-use Rattle.edi_catalog.specs.Storing.{StoreAnswers, blocks_free, not_stored, index_for, slots_stored, stored_entry}
+use Rattle.edi_catalog.specs.Storing.{IsCachedAt, StoreAnswers, WereFree, blocks_free, not_stored, index_for, slots_stored, stored_entry}
 use Rattle.edi_system.specs.Catalogue.{done, is_refused, OpenStays}
 use Rattle.edi_system.specs.Reading.{not_titled}
 use Rattle.edi_system.specs.State.{buffer_in, catalog_in, drive_in}
@@ -33,6 +34,10 @@ pub record StoresText {D S T P : Type 0} (contents : D → Option (List (List �
       (not_stored title (length bytes) (blocks_free (count (drive_in before)) (files_of (catalog_in before))) (files_of (catalog_in before)))
       (index_for title (files_of (catalog_in before))) (stored_entry title kind.Text (length bytes)) (files_of (catalog_in before))
       (files_of (catalog_in after))
+  pub free : WereFree answer (count (drive_in before)) (index_for title (files_of (catalog_in before))) (files_of (catalog_in before))
+      (files_of (catalog_in after))
+  pub entries_cached : (answer ≡ Err cat.Fault) ⊎ ChangedAreCached (catalog_in before) (catalog_in after)
+  pub file_cached : IsCachedAt answer (index_for title (files_of (catalog_in before))) bytes (catalog_in after)
   pub leaves : WhereTold (contents (drive_in before)) (contents (drive_in after))
       (λ old new. Leaves answer (slots_of old) (slots_stored title kind.Text bytes (slots_of old)) old new)
   pub count_ : count (drive_in after) ≡ count (drive_in before)
@@ -45,6 +50,7 @@ pub record DeletesFile {D S T P : Type 0} (contents : D → Option (List (List �
   pub answer : Result (Unit {0}) CatEnd
   pub answers : CatalogAnswers answer (not_deleted (file_titled title (files_of (catalog_in before))))
       (files_of (catalog_in before)) (kept_changed deleted title (files_of (catalog_in before))) (files_of (catalog_in after))
+  pub entries_cached : (answer ≡ Err cat.Fault) ⊎ ChangedAreCached (catalog_in before) (catalog_in after)
   pub leaves : WhereTold (contents (drive_in before)) (contents (drive_in after))
       (λ old new. Leaves answer (slots_of old) (slots_changed deleted title (slots_of old)) old new)
   pub count_ : count (drive_in after) ≡ count (drive_in before)
