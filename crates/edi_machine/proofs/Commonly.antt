@@ -2,7 +2,8 @@
 use Rattle.std.proofs.Common.{◌≡◌, ℕ, ◌+◌, ◌-◌, ◌*◌, Bool, ◌&&◌, List, take, drop, get_or, Option, None, sym, ap, subst, refl, ◌∙◌, arith}
 use Rattle.std.specs.Prelude.{◌<◌, ◌≤◌, ◌⊎◌, [], ◌∷◌, Some, true, if◌then◌else◌, length}
 use Rattle.std.specs.List.{slice_range}
-use Rattle.std.proofs.Math.Seq.{take-length}
+use Rattle.std.proofs.Common.{suc}
+use Rattle.std.proofs.Math.Seq.{drop-cons, take-length}
 use Rattle.std.proofs.lemmas.Bool.{le-ltb}
 use Rattle.edi_calls.specs.declared.ends.Outside.{Outside}
 use Rattle.edi_calls.specs.State.{State}
@@ -127,3 +128,35 @@ module _ (words : List ℕ) (live : ℕ) (is_first : Bool) (l : Local) where
       cobegin_there a line rest branches (omega arith) taken
       (both_true t (is_allowed (op.cobegin line (branches_of branches))) allowed).1
       ∙ ap (λ (i : ℕ). perform (fetch words) live is_first (op.cobegin line (branches_of branches)) (l.pc + (3 * i + 3)) l) (sym also)
+
+-- ---- operands by the words behind an address
+
+pub one_there : (words operands : List ℕ) (i : ℕ) → operands ≡ drop i words → i < length words → operands ≡ get_or words i 0 ∷ drop 1 operands
+one_there words operands i e l =
+    let all : operands ≡ get_or words i 0 ∷ drop (suc i) words = e ∙ drop-cons words i 0 l in
+    all ∙ ap (λ (ws : List ℕ). get_or words i 0 ∷ ws) (sym (ap (drop 1) all))
+
+pub two_there : (words operands : List ℕ) (i : ℕ) → operands ≡ drop i words → suc i < length words
+    → operands ≡ get_or words i 0 ∷ get_or words (suc i) 0 ∷ drop 2 operands
+two_there words operands i e l =
+    let all : operands ≡ get_or words i 0 ∷ get_or words (suc i) 0 ∷ drop (suc (suc i)) words =
+    e ∙ drop-cons words i 0 (omega (arith, l)) ∙ ap (λ (ws : List ℕ). get_or words i 0 ∷ ws) (drop-cons words (suc i) 0 l) in
+    all ∙ ap (λ (ws : List ℕ). get_or words i 0 ∷ get_or words (suc i) 0 ∷ ws) (sym (ap (drop 2) all))
+
+pub three_there : (words operands : List ℕ) (i : ℕ) → operands ≡ drop i words → suc (suc i) < length words
+    → operands ≡ get_or words i 0 ∷ get_or words (suc i) 0 ∷ get_or words (suc (suc i)) 0 ∷ drop 3 operands
+three_there words operands i e l =
+    let two : drop (suc i) words ≡ get_or words (suc i) 0 ∷ get_or words (suc (suc i)) 0 ∷ drop 2 (drop (suc i) words) =
+    two_there words (drop (suc i) words) (suc i) refl l in
+    let all : operands ≡ get_or words i 0 ∷ drop (suc i) words = e ∙ drop-cons words i 0 (omega (arith, l)) in
+    all ∙ ap (λ (ws : List ℕ). get_or words i 0 ∷ ws)
+    (two ∙ ap (λ (ws : List ℕ). get_or words (suc i) 0 ∷ get_or words (suc (suc i)) 0 ∷ ws) (sym (ap (drop 3) all)))
+
+pub four_there : (words operands : List ℕ) (i : ℕ) → operands ≡ drop i words → suc (suc (suc i)) < length words
+    → operands ≡ get_or words i 0 ∷ get_or words (suc i) 0 ∷ get_or words (suc (suc i)) 0 ∷ get_or words (suc (suc (suc i))) 0 ∷ drop 4 operands
+four_there words operands i e l =
+    let three : drop (suc i) words ≡ get_or words (suc i) 0 ∷ get_or words (suc (suc i)) 0 ∷ get_or words (suc (suc (suc i))) 0
+    ∷ drop 3 (drop (suc i) words) = three_there words (drop (suc i) words) (suc i) refl l in
+    let all : operands ≡ get_or words i 0 ∷ drop (suc i) words = e ∙ drop-cons words i 0 (omega (arith, l)) in
+    all ∙ ap (λ (ws : List ℕ). get_or words i 0 ∷ ws)
+    (three ∙ ap (λ (ws : List ℕ). get_or words (suc i) 0 ∷ get_or words (suc (suc i)) 0 ∷ get_or words (suc (suc (suc i))) 0 ∷ ws) (sym (ap (drop 4) all)))

@@ -1,6 +1,6 @@
 //! The common instructions, each read, tested and executed at once by its number.
 
-ghost use Rattle.std.specs.Prelude.{◌≡◌, ◌+◌, ◌<◌, ◌≤◌, ◌^◌, ◌∷◌, None, length};
+ghost use Rattle.std.specs.Prelude.{◌≡◌, ◌+◌, ◌<◌, ◌≤◌, ◌^◌, ◌∷◌, None, drop, length, MatchOption};
 ghost use Rattle.edi_target.specs.Effect.{Local};
 ghost use Rattle.edi_machine.specs.Activities.{IsOrdered, local_of};
 ghost use Rattle.edi_machine.specs.Numbers.{effect_by};
@@ -19,6 +19,68 @@ use crate::{jumps, processes};
 use edi_calls::Calls;
 use edi_store::Store;
 
+// The first of these operands, which stand behind `at`, if there is one. It is read from the words themselves, so that each instruction asks
+// once for its own, and one without operands for none.
+#[tactic(auto, using(crate::proofs::Commonly::one_there))]
+#[inline(always)]
+fn one_of(words: &[u16], at: u32, operands: &[u16]) -> Option<u16>
+    requires here { operands.now ≡ drop (at + 1) words.now }
+    ensures exact { MatchOption result (length operands.now < 1) (λ a. operands.now ≡ a ∷ drop 1 operands.now) }
+{
+    let from = at as usize + 1;
+    if words.len() < from + 1 {
+        return None;
+    }
+    Some(words[from])
+}
+
+// The first two, if there are two.
+#[tactic(auto, using(crate::proofs::Commonly::two_there))]
+#[inline(always)]
+fn two_of(words: &[u16], at: u32, operands: &[u16]) -> Option<(u16, u16)>
+    requires here { operands.now ≡ drop (at + 1) words.now }
+    ensures exact { MatchOption result (length operands.now < 2) (λ r. operands.now ≡ r.0 ∷ r.1 ∷ drop 2 operands.now) }
+{
+    let from = at as usize + 1;
+    if words.len() < from + 2 {
+        return None;
+    }
+    Some((words[from], words[from + 1]))
+}
+
+// The first three, if there are three.
+#[tactic(auto, using(crate::proofs::Commonly::three_there))]
+#[inline(always)]
+fn three_of(words: &[u16], at: u32, operands: &[u16]) -> Option<(u16, u16, u16)>
+    requires here { operands.now ≡ drop (at + 1) words.now }
+    ensures exact { MatchOption result (length operands.now < 3) (λ r. operands.now ≡ r.0 ∷ r.1 ∷ r.2 ∷ drop 3 operands.now) }
+{
+    let from = at as usize + 1;
+    if words.len() < from + 3 {
+        return None;
+    }
+    Some((words[from], words[from + 1], words[from + 2]))
+}
+
+// The first four, if there are four.
+#[tactic(auto, using(crate::proofs::Commonly::four_there))]
+#[inline(always)]
+fn four_of(words: &[u16], at: u32, operands: &[u16]) -> Option<(u16, u16, u16, u16)>
+    requires here { operands.now ≡ drop (at + 1) words.now }
+    ensures exact { MatchOption result (length operands.now < 4) (λ r. operands.now ≡ r.0 ∷ r.1 ∷ r.2 ∷ r.3 ∷ drop 4 operands.now) }
+{
+    let from = at as usize + 1;
+    if words.len() < from + 4 {
+        return None;
+    }
+    Some((
+        words[from],
+        words[from + 1],
+        words[from + 2],
+        words[from + 3],
+    ))
+}
+
 // Executes the instruction of this number and these operands: a common one here, and each other in one function for all of them.
 #[tactic(auto, using(crate::proofs::Commonly::asks_nothing))]
 #[inline(always)]
@@ -34,6 +96,7 @@ fn execute_by<C: Calls>(
 ) -> StepEnd
     requires size { length words.now < 2 ^ 32 }
     requires room { activity.old.pc + 1 + length operands.now < 2 ^ 32 }
+    requires here { operands.now ≡ drop (activity.old.pc + 1) words.now }
     requires working { C.failed calls.old None }
     requires live { live ≤ 32 }
     requires ordered { IsOrdered activity.old }
@@ -44,24 +107,24 @@ fn execute_by<C: Calls>(
 {
     let at = activity.pc;
     match number {
-        1 => match *operands {
-            [value, ..] => constant(store, activity, value, at + 2),
-            _ => StepEnd::Bad(at)
+        1 => match one_of(words, at, operands) {
+            Some(value) => constant(store, activity, value, at + 2),
+            None => StepEnd::Bad(at)
         },
-        4 => match *operands {
-            [level, offset, ..] => if level <= 64 {
+        4 => match two_of(words, at, operands) {
+            Some((level, offset)) => if level <= 64 {
                 frame_address(store, activity, level, offset, at + 3)
             } else {
                 StepEnd::Bad(at)
             },
-            _ => StepEnd::Bad(at)
+            None => StepEnd::Bad(at)
         },
-        5 => match *operands {
-            [offset, ..] => field_address(store, activity, offset, at + 2),
-            _ => StepEnd::Bad(at)
+        5 => match one_of(words, at, operands) {
+            Some(offset) => field_address(store, activity, offset, at + 2),
+            None => StepEnd::Bad(at)
         },
-        6 => match *operands {
-            [low, high, size, line, ..] => if low.cast_signed() <= high.cast_signed() {
+        6 => match four_of(words, at, operands) {
+            Some((low, high, size, line)) => if low.cast_signed() <= high.cast_signed() {
                 element_address(
                     store,
                     activity,
@@ -74,73 +137,73 @@ fn execute_by<C: Calls>(
             } else {
                 StepEnd::Bad(at)
             },
-            _ => StepEnd::Bad(at)
+            None => StepEnd::Bad(at)
         },
-        7 => match *operands {
-            [1, ..] => load_word(store, activity, at + 2),
-            [count, ..] => if count >= 1 {
+        7 => match one_of(words, at, operands) {
+            Some(1) => load_word(store, activity, at + 2),
+            Some(count) => if count >= 1 {
                 load(store, activity, count, at + 2)
             } else {
                 StepEnd::Bad(at)
             },
-            _ => StepEnd::Bad(at)
+            None => StepEnd::Bad(at)
         },
-        8 => match *operands {
-            [1, ..] => keep_word(store, activity, at + 2),
-            [count, ..] => if count >= 1 {
+        8 => match one_of(words, at, operands) {
+            Some(1) => keep_word(store, activity, at + 2),
+            Some(count) => if count >= 1 {
                 keep(store, activity, count, at + 2)
             } else {
                 StepEnd::Bad(at)
             },
-            _ => StepEnd::Bad(at)
+            None => StepEnd::Bad(at)
         },
-        9 => match *operands {
-            [line, ..] => calculate(store, activity, Operator::Add, line, at + 2),
-            _ => StepEnd::Bad(at)
+        9 => match one_of(words, at, operands) {
+            Some(line) => calculate(store, activity, Operator::Add, line, at + 2),
+            None => StepEnd::Bad(at)
         },
-        10 => match *operands {
-            [line, ..] => calculate(store, activity, Operator::Sub, line, at + 2),
-            _ => StepEnd::Bad(at)
+        10 => match one_of(words, at, operands) {
+            Some(line) => calculate(store, activity, Operator::Sub, line, at + 2),
+            None => StepEnd::Bad(at)
         },
-        11 => match *operands {
-            [line, ..] => calculate(store, activity, Operator::Mul, line, at + 2),
-            _ => StepEnd::Bad(at)
+        11 => match one_of(words, at, operands) {
+            Some(line) => calculate(store, activity, Operator::Mul, line, at + 2),
+            None => StepEnd::Bad(at)
         },
-        12 => match *operands {
-            [line, ..] => calculate(store, activity, Operator::Div, line, at + 2),
-            _ => StepEnd::Bad(at)
+        12 => match one_of(words, at, operands) {
+            Some(line) => calculate(store, activity, Operator::Div, line, at + 2),
+            None => StepEnd::Bad(at)
         },
-        13 => match *operands {
-            [line, ..] => calculate(store, activity, Operator::Mod, line, at + 2),
-            _ => StepEnd::Bad(at)
+        13 => match one_of(words, at, operands) {
+            Some(line) => calculate(store, activity, Operator::Mod, line, at + 2),
+            None => StepEnd::Bad(at)
         },
-        14 => match *operands {
-            [line, ..] => negation(store, activity, line, at + 2),
-            _ => StepEnd::Bad(at)
+        14 => match one_of(words, at, operands) {
+            Some(line) => negation(store, activity, line, at + 2),
+            None => StepEnd::Bad(at)
         },
         15 => other_truth(store, activity, at + 1),
-        16 => match *operands {
-            [count, ..] => if count >= 1 {
+        16 => match one_of(words, at, operands) {
+            Some(count) => if count >= 1 {
                 compare_values(store, activity, count, true, at + 2)
             } else {
                 StepEnd::Bad(at)
             },
-            _ => StepEnd::Bad(at)
+            None => StepEnd::Bad(at)
         },
-        17 => match *operands {
-            [count, ..] => if count >= 1 {
+        17 => match one_of(words, at, operands) {
+            Some(count) => if count >= 1 {
                 compare_values(store, activity, count, false, at + 2)
             } else {
                 StepEnd::Bad(at)
             },
-            _ => StepEnd::Bad(at)
+            None => StepEnd::Bad(at)
         },
         18 => compare(store, activity, Order::Below, at + 1),
         19 => compare(store, activity, Order::AtMost, at + 1),
         20 => compare(store, activity, Order::Above, at + 1),
         21 => compare(store, activity, Order::AtLeast, at + 1),
-        27 => match *operands {
-            [low, high, line, ..] => check(
+        27 => match three_of(words, at, operands) {
+            Some((low, high, line)) => check(
                 store,
                 activity,
                 low.cast_signed(),
@@ -148,35 +211,35 @@ fn execute_by<C: Calls>(
                 line,
                 at + 4,
             ),
-            _ => StepEnd::Bad(at)
+            None => StepEnd::Bad(at)
         },
-        28 => match *operands {
-            [high, low, ..] => jumps::jump(store, activity, code_address(high, low)),
-            _ => StepEnd::Bad(at)
+        28 => match two_of(words, at, operands) {
+            Some((high, low)) => jumps::jump(store, activity, code_address(high, low)),
+            None => StepEnd::Bad(at)
         },
-        29 => match *operands {
-            [high, low, ..] => jumps::jump_if_false(
+        29 => match two_of(words, at, operands) {
+            Some((high, low)) => jumps::jump_if_false(
                 store,
                 activity,
                 code_address(high, low),
                 at + 3,
             ),
-            _ => StepEnd::Bad(at)
+            None => StepEnd::Bad(at)
         },
-        30 => match *operands {
-            [high, low, ..] => jumps::jump_and(store, activity, code_address(high, low), at + 3),
-            _ => StepEnd::Bad(at)
+        30 => match two_of(words, at, operands) {
+            Some((high, low)) => jumps::jump_and(store, activity, code_address(high, low), at + 3),
+            None => StepEnd::Bad(at)
         },
-        31 => match *operands {
-            [high, low, ..] => jumps::jump_or(store, activity, code_address(high, low), at + 3),
-            _ => StepEnd::Bad(at)
+        31 => match two_of(words, at, operands) {
+            Some((high, low)) => jumps::jump_or(store, activity, code_address(high, low), at + 3),
+            None => StepEnd::Bad(at)
         },
-        32 => match *operands {
-            [high, low, ..] => jumps::jump_back(store, activity, code_address(high, low)),
-            _ => StepEnd::Bad(at)
+        32 => match two_of(words, at, operands) {
+            Some((high, low)) => jumps::jump_back(store, activity, code_address(high, low)),
+            None => StepEnd::Bad(at)
         },
-        34 => match *operands {
-            [level, high, low, line, ..] => if level <= 64 {
+        34 => match four_of(words, at, operands) {
+            Some((level, high, low, line)) => if level <= 64 {
                 call(
                     store,
                     activity,
@@ -189,24 +252,29 @@ fn execute_by<C: Calls>(
             } else {
                 StepEnd::Bad(at)
             },
-            _ => StepEnd::Bad(at)
+            None => StepEnd::Bad(at)
         },
-        37 => match *operands {
-            [results, function, ..] => if function <= 1 {
+        37 => match two_of(words, at, operands) {
+            Some((results, function)) => if function <= 1 {
                 leave_block(store, activity, first, results, function)
             } else {
                 StepEnd::Bad(at)
             },
-            _ => StepEnd::Bad(at)
+            None => StepEnd::Bad(at)
         },
-        39 => match *operands {
-            [line, ..] => processes::arrive(store, activity, line, at + 2),
-            _ => StepEnd::Bad(at)
+        39 => match one_of(words, at, operands) {
+            Some(line) => processes::arrive(store, activity, line, at + 2),
+            None => StepEnd::Bad(at)
         },
         41 => processes::end_phase(store, activity, at + 1),
-        44 => match *operands {
-            [high, low, ..] => processes::try_again(store, activity, true, code_address(high, low)),
-            _ => StepEnd::Bad(at)
+        44 => match two_of(words, at, operands) {
+            Some((high, low)) => processes::try_again(
+                store,
+                activity,
+                true,
+                code_address(high, low),
+            ),
+            None => StepEnd::Bad(at)
         },
         2 | 3 | 22 | 23 | 24 | 25 | 26 | 35 | 36 | 38 | 40 | 42 | 43 => {
             execute_rare_on_copy(store, activity, words, live, first, number, operands, calls)
@@ -229,6 +297,7 @@ fn execute_front<C: Calls>(
 ) -> StepEnd
     requires size { length words.now < 2 ^ 32 }
     requires room { activity.old.pc + length front.now < 2 ^ 32 }
+    requires here { front.now ≡ drop activity.old.pc words.now }
     requires working { C.failed calls.old None }
     requires live { live ≤ 32 }
     requires ordered { IsOrdered activity.old }

@@ -10,11 +10,17 @@ returns-then-cast_signed-clause-all g c =
     (effect_by c.args.words.now c.args.live c.args.first (c.args.number ∷ c.args.operands.now) (local_of c.args.store.now c.args.activity.now))
     c.element_address.result _ _ c.args.calls.now (search rules) c.requires.working
 
-pub returns-in-len3-up-clause-all : goal.returns-in-len3-up-clause-all
-returns-in-len3-up-clause-all g c =
+pub returns-in-Some-three_of-clause-all : goal.returns-in-Some-three_of-clause-all
+returns-in-Some-three_of-clause-all g c =
     asks_nothing g.C.Calls.state g.C.Calls.failed g.C.Calls.faults g.C.Calls.references g.C.Calls.leads
     (effect_by c.args.words.now c.args.live c.args.first (c.args.number ∷ c.args.operands.now) (local_of c.args.store.now c.args.activity.now))
     c.check.result _ _ c.args.calls.now (search rules) c.requires.working
+
+pub returns-then-function-le1-clause-all : goal.returns-then-function-le1-clause-all
+returns-then-function-le1-clause-all g c =
+    asks_nothing g.C.Calls.state g.C.Calls.failed g.C.Calls.faults g.C.Calls.references g.C.Calls.leads
+    (effect_by c.args.words.now c.args.live c.args.first (c.args.number ∷ c.args.operands.now) (local_of c.args.store.now c.args.activity.now))
+    c.leave_block.result _ _ c.args.calls.now (search rules) c.requires.working
 
 pub returns-in_default-clause-all : goal.returns-in_default-clause-all
 returns-in_default-clause-all g c =

@@ -14,3 +14,6 @@ pub returns-in_default-clause-all : goal.returns-in_default-clause-all
 returns-in_default-clause-all g c =
     stepped_past g.C.Calls.state g.C.Calls.failed g.C.Calls.faults g.C.Calls.references g.C.Calls.leads c.args.words.now c.args.live c.args.first
     (local_of c.args.store.now c.args.activity.now) c.args.calls.now c.in_default.ensures.lookup.0 c.requires.working
+
+pub execute_front-requires-clause-here : goal.execute_front-requires-clause-here
+execute_front-requires-clause-here g c = part_from _ _ _ c.in-Some.ensures.lookup.0.0 c.in-Some.ensures.lookup.0.2
