@@ -1,9 +1,8 @@
 -- The effect of an instruction by the words at the program counter, and what a step that asks nothing of the system keeps.
-use Rattle.std.proofs.Common.{◌≡◌, ℕ, ◌+◌, ◌-◌, ◌*◌, Bool, ◌&&◌, List, take, drop, get_or, Option, None, sym, ap, subst, refl, ◌∙◌, arith}
+use Rattle.std.proofs.Common.{◌≡◌, ℕ, ◌+◌, ◌-◌, ◌*◌, Bool, ◌&&◌, List, take, drop, get_or, Option, None, sym, ap, subst, refl, ◌∙◌, arith, length-drop}
 use Rattle.std.specs.Prelude.{◌<◌, ◌≤◌, ◌⊎◌, [], ◌∷◌, Some, true, if◌then◌else◌, length}
 use Rattle.std.specs.List.{slice_range}
-use Rattle.std.proofs.Common.{suc}
-use Rattle.std.proofs.Math.Seq.{drop-cons, take-length}
+use Rattle.std.proofs.Math.Seq.{take-length}
 use Rattle.std.proofs.lemmas.Bool.{le-ltb}
 use Rattle.edi_calls.specs.declared.ends.Outside.{Outside}
 use Rattle.edi_calls.specs.State.{State}
@@ -129,34 +128,34 @@ module _ (words : List ℕ) (live : ℕ) (is_first : Bool) (l : Local) where
       (both_true t (is_allowed (op.cobegin line (branches_of branches))) allowed).1
       ∙ ap (λ (i : ℕ). perform (fetch words) live is_first (op.cobegin line (branches_of branches)) (l.pc + (3 * i + 3)) l) (sym also)
 
--- ---- operands by the words behind an address
+-- ---- the first operands by a slice of them
 
-pub one_there : (words operands : List ℕ) (i : ℕ) → operands ≡ drop i words → i < length words → operands ≡ get_or words i 0 ∷ drop 1 operands
-one_there words operands i e l =
-    let all : operands ≡ get_or words i 0 ∷ drop (suc i) words = e ∙ drop-cons words i 0 l in
-    all ∙ ap (λ (ws : List ℕ). get_or words i 0 ∷ ws) (sym (ap (drop 1) all))
+-- where there are fewer words behind an address, there are fewer operands
+pub none_there : (words operands : List ℕ) (at n : ℕ) → operands ≡ drop at words → 1 ≤ n → (at + n < at) ⊎ (length words < at + n) → length operands < n
+none_there words operands at n e some few = omega (arith, ap length e, length-drop at words, some, few)
 
-pub two_there : (words operands : List ℕ) (i : ℕ) → operands ≡ drop i words → suc i < length words
-    → operands ≡ get_or words i 0 ∷ get_or words (suc i) 0 ∷ drop 2 operands
-two_there words operands i e l =
-    let all : operands ≡ get_or words i 0 ∷ get_or words (suc i) 0 ∷ drop (suc (suc i)) words =
-    e ∙ drop-cons words i 0 (omega (arith, l)) ∙ ap (λ (ws : List ℕ). get_or words i 0 ∷ ws) (drop-cons words (suc i) 0 l) in
-    all ∙ ap (λ (ws : List ℕ). get_or words i 0 ∷ get_or words (suc i) 0 ∷ ws) (sym (ap (drop 2) all))
+pub one_there : (operands front : List ℕ) → front ≡ take 1 operands → 1 ≤ length operands → operands ≡ get_or front 0 0 ∷ drop 1 operands
+one_there [] front e l = absurd (omega (arith, l))
+one_there (a ∷ rest) front e l = ap (λ (ws : List ℕ). get_or ws 0 0 ∷ rest) (sym e)
 
-pub three_there : (words operands : List ℕ) (i : ℕ) → operands ≡ drop i words → suc (suc i) < length words
-    → operands ≡ get_or words i 0 ∷ get_or words (suc i) 0 ∷ get_or words (suc (suc i)) 0 ∷ drop 3 operands
-three_there words operands i e l =
-    let two : drop (suc i) words ≡ get_or words (suc i) 0 ∷ get_or words (suc (suc i)) 0 ∷ drop 2 (drop (suc i) words) =
-    two_there words (drop (suc i) words) (suc i) refl l in
-    let all : operands ≡ get_or words i 0 ∷ drop (suc i) words = e ∙ drop-cons words i 0 (omega (arith, l)) in
-    all ∙ ap (λ (ws : List ℕ). get_or words i 0 ∷ ws)
-    (two ∙ ap (λ (ws : List ℕ). get_or words (suc i) 0 ∷ get_or words (suc (suc i)) 0 ∷ ws) (sym (ap (drop 3) all)))
+pub two_there : (operands front : List ℕ) → front ≡ take 2 operands → 2 ≤ length operands
+    → operands ≡ get_or front 0 0 ∷ get_or front 1 0 ∷ drop 2 operands
+two_there [] front e l = absurd (omega (arith, l))
+two_there (a ∷ []) front e l = absurd (omega (arith, l))
+two_there (a ∷ b ∷ rest) front e l = ap (λ (ws : List ℕ). get_or ws 0 0 ∷ get_or ws 1 0 ∷ rest) (sym e)
 
-pub four_there : (words operands : List ℕ) (i : ℕ) → operands ≡ drop i words → suc (suc (suc i)) < length words
-    → operands ≡ get_or words i 0 ∷ get_or words (suc i) 0 ∷ get_or words (suc (suc i)) 0 ∷ get_or words (suc (suc (suc i))) 0 ∷ drop 4 operands
-four_there words operands i e l =
-    let three : drop (suc i) words ≡ get_or words (suc i) 0 ∷ get_or words (suc (suc i)) 0 ∷ get_or words (suc (suc (suc i))) 0
-    ∷ drop 3 (drop (suc i) words) = three_there words (drop (suc i) words) (suc i) refl l in
-    let all : operands ≡ get_or words i 0 ∷ drop (suc i) words = e ∙ drop-cons words i 0 (omega (arith, l)) in
-    all ∙ ap (λ (ws : List ℕ). get_or words i 0 ∷ ws)
-    (three ∙ ap (λ (ws : List ℕ). get_or words (suc i) 0 ∷ get_or words (suc (suc i)) 0 ∷ get_or words (suc (suc (suc i))) 0 ∷ ws) (sym (ap (drop 4) all)))
+pub three_there : (operands front : List ℕ) → front ≡ take 3 operands → 3 ≤ length operands
+    → operands ≡ get_or front 0 0 ∷ get_or front 1 0 ∷ get_or front 2 0 ∷ drop 3 operands
+three_there [] front e l = absurd (omega (arith, l))
+three_there (a ∷ []) front e l = absurd (omega (arith, l))
+three_there (a ∷ b ∷ []) front e l = absurd (omega (arith, l))
+three_there (a ∷ b ∷ c ∷ rest) front e l = ap (λ (ws : List ℕ). get_or ws 0 0 ∷ get_or ws 1 0 ∷ get_or ws 2 0 ∷ rest) (sym e)
+
+pub four_there : (operands front : List ℕ) → front ≡ take 4 operands → 4 ≤ length operands
+    → operands ≡ get_or front 0 0 ∷ get_or front 1 0 ∷ get_or front 2 0 ∷ get_or front 3 0 ∷ drop 4 operands
+four_there [] front e l = absurd (omega (arith, l))
+four_there (a ∷ []) front e l = absurd (omega (arith, l))
+four_there (a ∷ b ∷ []) front e l = absurd (omega (arith, l))
+four_there (a ∷ b ∷ c ∷ []) front e l = absurd (omega (arith, l))
+four_there (a ∷ b ∷ c ∷ d ∷ rest) front e l =
+    ap (λ (ws : List ℕ). get_or ws 0 0 ∷ get_or ws 1 0 ∷ get_or ws 2 0 ∷ get_or ws 3 0 ∷ rest) (sym e)

@@ -1,6 +1,6 @@
 //! The common instructions, each read, tested and executed at once by its number.
 
-ghost use Rattle.std.specs.Prelude.{◌≡◌, ◌+◌, ◌<◌, ◌≤◌, ◌^◌, ◌∷◌, None, drop, length, MatchOption};
+ghost use Rattle.std.specs.Prelude.{◌≡◌, ◌+◌, ◌<◌, ◌≤◌, ◌^◌, ◌∷◌, None, drop, take, length, MatchOption};
 ghost use Rattle.edi_target.specs.Effect.{Local};
 ghost use Rattle.edi_machine.specs.Activities.{IsOrdered, local_of};
 ghost use Rattle.edi_machine.specs.Numbers.{effect_by};
@@ -19,19 +19,44 @@ use crate::{jumps, processes};
 use edi_calls::Calls;
 use edi_store::Store;
 
-// The first of these operands, which stand behind `at`, if there is one. It is read from the words themselves, so that each instruction asks
-// once for its own, and one without operands for none.
+// The first `count` of these operands, which stand behind `at`, if there are so many. They are taken from the words themselves, so that each
+// instruction asks once for its own, and the slice of all operands, which only the rare instructions need, is made for no other.
+#[tactic(auto, using(crate::proofs::Commonly::none_there))]
+#[inline(always)]
+fn operands_of<'a>(words: &'a [u16], at: u32, count: usize, operands: &[u16]) -> Option<&'a [u16]>
+    requires some { 1 ≤ count }
+    requires few { count ≤ 4 }
+    requires here { operands.now ≡ drop (at + 1) words.now }
+    ensures exact { MatchOption result (length operands.now < count) (λ front. (count ≤ length operands.now) × (front.now ≡ take count operands.now)) }
+{
+    let from = at as usize + 1;
+    match words.get(from..from + count) {
+        Some(front) => Some(front),
+        None => None,
+    }
+}
+
+// All of them, taken from the words themselves too.
+#[inline(always)]
+fn rest_of<'a>(words: &'a [u16], at: u32, operands: &[u16]) -> &'a [u16]
+    requires here { operands.now ≡ drop (at + 1) words.now }
+    ensures { result.now ≡ operands.now }
+{
+    match words.get(at as usize + 1..) {
+        Some(rest) => rest,
+        None => &words[0..0],
+    }
+}
+
+// The first of these operands, if there is one.
 #[tactic(auto, using(crate::proofs::Commonly::one_there))]
 #[inline(always)]
 fn one_of(words: &[u16], at: u32, operands: &[u16]) -> Option<u16>
     requires here { operands.now ≡ drop (at + 1) words.now }
     ensures exact { MatchOption result (length operands.now < 1) (λ a. operands.now ≡ a ∷ drop 1 operands.now) }
 {
-    let from = at as usize + 1;
-    if words.len() < from + 1 {
-        return None;
-    }
-    Some(words[from])
+    let front = operands_of(words, at, 1, operands)?;
+    Some(front[0])
 }
 
 // The first two, if there are two.
@@ -41,11 +66,8 @@ fn two_of(words: &[u16], at: u32, operands: &[u16]) -> Option<(u16, u16)>
     requires here { operands.now ≡ drop (at + 1) words.now }
     ensures exact { MatchOption result (length operands.now < 2) (λ r. operands.now ≡ r.0 ∷ r.1 ∷ drop 2 operands.now) }
 {
-    let from = at as usize + 1;
-    if words.len() < from + 2 {
-        return None;
-    }
-    Some((words[from], words[from + 1]))
+    let front = operands_of(words, at, 2, operands)?;
+    Some((front[0], front[1]))
 }
 
 // The first three, if there are three.
@@ -55,11 +77,8 @@ fn three_of(words: &[u16], at: u32, operands: &[u16]) -> Option<(u16, u16, u16)>
     requires here { operands.now ≡ drop (at + 1) words.now }
     ensures exact { MatchOption result (length operands.now < 3) (λ r. operands.now ≡ r.0 ∷ r.1 ∷ r.2 ∷ drop 3 operands.now) }
 {
-    let from = at as usize + 1;
-    if words.len() < from + 3 {
-        return None;
-    }
-    Some((words[from], words[from + 1], words[from + 2]))
+    let front = operands_of(words, at, 3, operands)?;
+    Some((front[0], front[1], front[2]))
 }
 
 // The first four, if there are four.
@@ -69,16 +88,8 @@ fn four_of(words: &[u16], at: u32, operands: &[u16]) -> Option<(u16, u16, u16, u
     requires here { operands.now ≡ drop (at + 1) words.now }
     ensures exact { MatchOption result (length operands.now < 4) (λ r. operands.now ≡ r.0 ∷ r.1 ∷ r.2 ∷ r.3 ∷ drop 4 operands.now) }
 {
-    let from = at as usize + 1;
-    if words.len() < from + 4 {
-        return None;
-    }
-    Some((
-        words[from],
-        words[from + 1],
-        words[from + 2],
-        words[from + 3],
-    ))
+    let front = operands_of(words, at, 4, operands)?;
+    Some((front[0], front[1], front[2], front[3]))
 }
 
 // Executes the instruction of this number and these operands: a common one here, and each other in one function for all of them.
@@ -277,7 +288,8 @@ fn execute_by<C: Calls>(
             None => StepEnd::Bad(at)
         },
         2 | 3 | 22 | 23 | 24 | 25 | 26 | 35 | 36 | 38 | 40 | 42 | 43 => {
-            execute_rare_on_copy(store, activity, words, live, first, number, operands, calls)
+            let rest = rest_of(words, at, operands);
+            execute_rare_on_copy(store, activity, words, live, first, number, rest, calls)
         }
         0 | 33 => StepEnd::Bad(at),
         _ => StepEnd::Bad(at),
