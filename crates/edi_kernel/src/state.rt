@@ -129,8 +129,8 @@ impl KernelState {
                 StintEnd::Exited { used }
             }
             _ => {
-                self.arrived = Some(activity);
                 self.table.arrive(slot, activity);
+                self.arrived = Some(activity);
                 StintEnd::Arrived { used }
             }
         }

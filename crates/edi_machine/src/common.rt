@@ -123,6 +123,9 @@ fn execute_by<C: Calls>(
             None => StepEnd::Bad(at)
         },
         4 => match two_of(words, at, operands) {
+            // Most levels are 0 or 1, which need no test that they are allowed.
+            Some((0, offset)) => frame_address(store, activity, 0, offset, at + 3),
+            Some((1, offset)) => frame_address(store, activity, 1, offset, at + 3),
             Some((level, offset)) => if level <= 64 {
                 frame_address(store, activity, level, offset, at + 3)
             } else {
