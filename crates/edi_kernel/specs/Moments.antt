@@ -16,6 +16,9 @@ pub record Moment : Type 0 where
   pub others : List Name
   pub drawn : ℕ
 
+abbrev pub moment_at : Machine → Name → List Name → ℕ → Moment
+moment_at m p others drawn = record { machine = m; name = p; others = others; drawn = drawn }
+
 abbrev pub moment_on : Taking → (Name → List Name → ℕ → Option Moment) → Option Moment
 moment_on nobody more = None
 moment_on (taking p others drawn) more = more p others drawn
@@ -28,7 +31,7 @@ moment_after choices more p others drawn (went m (joins ps)) = moment_on (take_n
 
 -- after n instructions from here, if the run has not ended before
 abbrev pub moment : (ℕ → Option (Instruction × ℕ)) → Choices → ℕ → Machine → Name → List Name → ℕ → Option Moment
-moment fetch choices zero m p others drawn = Some (record { machine = m; name = p; others = others; drawn = drawn })
+moment fetch choices zero m p others drawn = Some (moment_at m p others drawn)
 moment fetch choices (suc n) m p others drawn = moment_after choices (moment fetch choices n) p others drawn (step fetch m p others)
 
 -- after n instructions of this code from its start, where so many choices had been drawn before it

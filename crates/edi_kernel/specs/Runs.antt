@@ -17,7 +17,7 @@ use Rattle.edi_kernel.specs.declared.ends.Ending.TheVariants as ending
 use Rattle.edi_kernel.specs.declared.state.KernelState.{KernelState}
 use Rattle.edi_kernel.specs.Table.{FirstAlone, Withdraws, ready_slots}
 use Rattle.edi_kernel.specs.Kernel.{IsKernel, Holds, EndsAs, KeepsWords, FailsAt}
-use Rattle.edi_kernel.specs.Moments.{Moment, moment, moment_of}
+use Rattle.edi_kernel.specs.Moments.{Moment, moment, moment_at, moment_of}
 
 -- ---- the next process
 
@@ -73,22 +73,28 @@ pub record Started (code : CodeParts) (k : KernelState) : Type 0 where
 
 -- ---- a round of a run: a stint, and the choice of the next process
 
+-- the run from this moment on, and the moments of it
+abbrev pub run_from : List ℕ → Choices → ℕ → Moment → MachineRun
+run_from words choices n at = run (fetch words) choices n at.machine at.name at.others at.drawn
+
+abbrev pub moment_from : List ℕ → Choices → ℕ → Moment → Option Moment
+moment_from words choices n at = moment (fetch words) choices n at.machine at.name at.others at.drawn
+
 -- the run of any number of steps from here comes to what one from there comes to
-abbrev pub ComesTo : List ℕ → Choices → (m : Machine) → Name → List Name → ℕ → (m' : Machine) → Name → List Name → ℕ → Type 0
-ComesTo words choices m p others drawn m' p' others' drawn' =
-    (n : ℕ) (r : MachineRun) → run (fetch words) choices n m' p' others' drawn' ≡ r → (k : ℕ) × (run (fetch words) choices k m p others drawn ≡ r)
+abbrev pub ComesTo : List ℕ → Choices → (here there : Moment) → Type 0
+ComesTo words choices here there = (n : ℕ) (r : MachineRun) → run_from words choices n there ≡ r → (k : ℕ) × (run_from words choices k here ≡ r)
 
 -- each moment of the run from there is one of the run from here
-abbrev pub PassesTo : List ℕ → Choices → (m : Machine) → Name → List Name → ℕ → (m' : Machine) → Name → List Name → ℕ → Type 0
-PassesTo words choices m p others drawn m' p' others' drawn' =
-    (n : ℕ) (x : Option Moment) → moment (fetch words) choices n m' p' others' drawn' ≡ x → (k : ℕ) × (moment (fetch words) choices k m p others drawn ≡ x)
+abbrev pub PassesTo : List ℕ → Choices → (here there : Moment) → Type 0
+PassesTo words choices here there =
+    (n : ℕ) (x : Option Moment) → moment_from words choices n there ≡ x → (k : ℕ) × (moment_from words choices k here ≡ x)
 
 pub record GoesRound (words : List ℕ) (bound : ℕ) (k : KernelState) (now : State) (old new : Drawn) (m : Machine) (p : Name) (others : List Name) : Type 0 where
   pub machine : Machine
   pub name : Name
   pub rest : List Name
-  pub comes : ComesTo words old.source m p others old.drawn machine name rest new.drawn
-  pub passes : PassesTo words old.source m p others old.drawn machine name rest new.drawn
+  pub comes : ComesTo words old.source (moment_at m p others old.drawn) (moment_at machine name rest new.drawn)
+  pub passes : PassesTo words old.source (moment_at m p others old.drawn) (moment_at machine name rest new.drawn)
   pub holds : Holds k machine (Some name) rest
   pub system : machine.system ≡ now
   pub turns : machine.turns ≡ bound - k.used
