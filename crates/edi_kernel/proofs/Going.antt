@@ -1,10 +1,9 @@
 -- A stint of the kernel is one of the machine.
 use Rattle.std.proofs.Common.{◌≡◌, ℕ, zero, suc, ◌+◌, ◌-◌, ◌<◌, ◌≤◌, inl, inr, Bool, true, false, ◌&&◌, nat_lt, ◌*◌, List, [], ◌∷◌, ◌++◌, length, map}
-use Rattle.std.proofs.Common.{Option, Some, None, refl, sym, ◌∙◌, ap, arith, subst, nat_eq, if◌then◌else◌, eq-eqb}
+use Rattle.std.proofs.Common.{Some, None, refl, sym, ◌∙◌, ap, arith, subst, nat_eq, if◌then◌else◌, eq-eqb}
 use Rattle.std.specs.Prelude.{◌==◌}
 use Rattle.std.specs.Option.{option_map}
 use Rattle.std.proofs.lemmas.Bool.{cases_eq, ne_eqb, eqb-false}
-use Rattle.edi_told.specs.Told.{WhereTold}
 use Rattle.edi_calls.specs.State.{State}
 use Rattle.edi_calls.specs.Calls.{call}
 use Rattle.edi_calls.specs.Names.{Name, same, find}
@@ -65,16 +64,6 @@ unmarked_if false t slot h = h
 
 pub few_marks : (t : Table) (slot : ℕ) → IsTable t → IsTaken t slot → t.marks < 64
 few_marks t slot s h = omega (arith, h.counted, marked_few t (slot ∷ ready_slots t), length-le-nodes 32 2 t.lists 0 s.sound)
-
--- the same stretch of the same activity
-pub stretches_same : (words store : List ℕ) (live live' left : ℕ) (first : Bool) (a b : Activity) (old new : Option State) (pause : Pause)
-    (now : State → Running) (c d : Bool) → live ≡ live' → a ≡ b → d ≡ false →
-    WhereTold old new (λ s t. Stretches words live first (running_in store a s left) d pause (now t) c)
-    → WhereTold old new (λ s t. Stretches words live' first (running_in store b s left) false pause (now t) c)
-stretches_same words store live live' left first a b old new pause now c d e f k h =
-    subst (λ x. WhereTold old new (λ s t. Stretches words live' first (running_in store x s left) false pause (now t) c)) f
-    (subst (λ n. WhereTold old new (λ s t. Stretches words n first (running_in store a s left) false pause (now t) c)) e
-    (subst (λ x. WhereTold old new (λ s t. Stretches words live first (running_in store a s left) x pause (now t) c)) k h))
 
 -- the process goes on as its entry says
 runs : (m : Machine) (store : List ℕ) (s : State) (left : ℕ) (process : Process) (forks : ℕ) → m.memory ≡ store → m.system ≡ s → m.turns ≡ left →

@@ -5,9 +5,10 @@ pub mod Births
 pub mod Deaths
 pub mod Lists
 pub mod Effects
-pub mod Steps
 pub mod Phases
+pub mod Steps
 pub mod Stretches
+pub mod Plain
 pub mod Walks
 pub mod Switches
 pub mod Exits

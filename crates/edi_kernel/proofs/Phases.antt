@@ -7,11 +7,11 @@ use Rattle.edi_machine.specs.declared.ends.StepEnd.TheVariants as end
 use Rattle.edi_machine.proofs.Telling.{StaysHeld, ended, never_both, went}
 use Rattle.edi_kernel.specs.Stretch.{cleared_by, cleared_of, clears_after, noted_after, pause_of}
 
-or_false : (b : Bool) → b ≡ (b || false)
+pub or_false : (b : Bool) → b ≡ (b || false)
 or_false true = refl
 or_false false = refl
 
-or_true : (b : Bool) → true ≡ (b || true)
+pub or_true : (b : Bool) → true ≡ (b || true)
 or_true true = refl
 or_true false = refl
 

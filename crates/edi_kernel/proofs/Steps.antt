@@ -30,6 +30,7 @@ use Rattle.edi_kernel.specs.declared.stretch.Pause.TheVariants as pause
 use Rattle.edi_kernel.specs.Stretch.{Paused, pausing, stopping, after_answer, failure_of, pause_by, pause_with, pause_of, left_after, goes_on, clears_after}
 use Rattle.edi_kernel.specs.Stretch.{StepsFrom, OneStep, Allows, Falls}
 use Rattle.edi_kernel.proofs.Effects.{Fits, every_effect_fits}
+use Rattle.edi_kernel.proofs.Phases.{or_false, or_true}
 
 abbrev is_asks : Effect → Bool
 is_asks (asks number arguments address line l) = true
@@ -54,14 +55,6 @@ module _ (words : List ℕ) (live : ℕ) (is_first : Bool) (before after : Local
   more_same : (l : Local) (n m : ℕ) (c d : Bool) → after ≡ l → t ≡ s → n ≡ m → c ≡ d → (more : Running → Bool → Paused)
       → more (record was { local = l; turns = n }) c ≡ more (now m) d
   more_same l n m c d e f k g more = ap (λ r. more r c) (same_now l n m e f k) ∙ ap (more (now m)) g
-
-  or_false : (b : Bool) → b ≡ (b || false)
-  or_false true = refl
-  or_false false = refl
-
-  or_true : (b : Bool) → true ≡ (b || true)
-  or_true true = refl
-  or_true false = refl
 
   -- the end of a critical phase is told
   kept : (b : Bool) → b ≡ false → cleared ≡ (cleared || b)

@@ -1,5 +1,6 @@
 -- Stretches of instructions.
-use Rattle.std.proofs.Common.{◌≡◌, ℕ, zero, suc, ◌+◌, ◌-◌, ◌*◌, ◌<◌, ◌≤◌, inl, inr, Bool, List, length, Option, Some, None, refl, sym, subst, ◌∙◌, arith}
+use Rattle.std.proofs.Common.{◌≡◌, ℕ, zero, suc, ◌+◌, ◌-◌, ◌*◌, ◌<◌, ◌≤◌, inl, inr, Bool, false, List, length, Option}
+use Rattle.std.proofs.Common.{Some, None, refl, sym, ap, subst, ◌∙◌, arith}
 use Rattle.edi_told.specs.Told.{WhereTold}
 use Rattle.edi_told.proofs.Told.{WhereTold-then}
 use Rattle.edi_calls.specs.declared.ends.Outside.{Outside}
@@ -8,6 +9,7 @@ use Rattle.edi_target.specs.Fetch.{fetch}
 use Rattle.edi_target.specs.Effect.{Turn, entering, leaving, looping, arriving, again, forking, exiting, finishing}
 use Rattle.edi_target.specs.Mach.{Running, Answer, on, behind, turned, over, local_step}
 use Rattle.edi_calls.specs.declared.kinds.Cause.TheVariants as cause
+use Rattle.edi_machine.specs.declared.activity.Activity.{Activity}
 use Rattle.edi_machine.specs.declared.ends.TurnKind.{TurnKind}
 use Rattle.edi_machine.specs.declared.ends.TurnKind.TheVariants as kind
 use Rattle.edi_machine.specs.declared.ends.StepEnd.{StepEnd}
@@ -15,8 +17,10 @@ use Rattle.edi_machine.specs.declared.ends.StepEnd.TheVariants as end
 use Rattle.edi_kernel.specs.declared.ends.Ending.TheVariants as ending
 use Rattle.edi_kernel.specs.declared.stretch.Pause.{Pause}
 use Rattle.edi_kernel.specs.declared.stretch.Pause.TheVariants as pause
+use Rattle.edi_kernel.specs.declared.stretch.Progress.{Progress}
 use Rattle.edi_kernel.specs.Stretch.{Paused, pausing, after_turn, after_answer, walk_turn, walk_on, walked, stretch, OneStep, Reaches, Stretches, Falls}
-use Rattle.edi_kernel.specs.Stretch.{Spends, CallsLast, pause_by, pause_with, pause_of, left_after}
+use Rattle.edi_kernel.specs.Stretch.{Spends, CallsLast, at_start, cleared_in, left_after, pause_by, pause_of, pause_with, running_in}
+use Rattle.edi_kernel.proofs.Phases.{begins}
 
 -- an activity that goes on is after the step where the stretch goes on from
 walks_on : (c e : Bool) (answer : Answer) (now : Running) → ((more : Running → Bool → Paused) → after_answer more c answer ≡ more now e) →
@@ -50,7 +54,7 @@ module _ (words : List ℕ) (live : ℕ) (is_first : Bool) where
   told_itself None r c = tt
   told_itself (Some s) r c = reaches_itself (r s) c
 
-  one_more : (was r now : Running) (c d e : Bool) → Reaches words live is_first was c r d → OneStep words live is_first r d None now e
+  pub one_more : (was r now : Running) (c d e : Bool) → Reaches words live is_first was c r d → OneStep words live is_first r d None now e
       → Reaches words live is_first was c now e
   one_more was r now c d e h k = record {
     ends = λ n x f. h.ends (suc n) x (k (stretch (fetch words) live is_first n) ∙ f);
@@ -58,7 +62,7 @@ module _ (words : List ℕ) (live : ℕ) (is_first : Bool) where
   }
 
   -- the last instruction ends the stretch
-  last : (pause : Pause) (was r now : Running) (c d e : Bool) → Reaches words live is_first was c r d → OneStep words live is_first r d (Some pause) now e
+  pub last : (pause : Pause) (was r now : Running) (c d e : Bool) → Reaches words live is_first was c r d → OneStep words live is_first r d (Some pause) now e
       → Stretches words live is_first was c pause now e
   last (pause.Over ending.Fault) was r now c d e h k = let m = h.gets 0 (Some (r, d)) refl in
       record { steps = m.0; at = r; emptied = d; reached = m.1; torn = k }
@@ -89,6 +93,19 @@ module _ (words : List ℕ) (live : ℕ) (is_first : Bool) where
         WhereTold old new (λ s t. Stretches words live is_first (was s) c pause (now t) e)
     told_last pause h k = WhereTold-then _ (λ s t. OneStep words live is_first (r s) d (Some pause) (now t) e)
         (λ s t. Stretches words live is_first (was s) c pause (now t) e) old between new (λ x y z a b. last pause (was x) (r y) (now z) c d e a b) h k
+
+-- the stretch of an activity that has done nothing yet
+pub stretches_begun : (words store : List ℕ) (live live' : ℕ) (first : Bool) (p : Progress) (a : Activity) (old new : Option State) (pause : Pause)
+    (now : State → Running) (c : Bool) → live ≡ live' → p ≡ at_start a p.left →
+    WhereTold old new (λ s t. Stretches words live first (running_in store p.activity s p.left) (cleared_in p) pause (now t) c)
+    → WhereTold old new (λ s t. Stretches words live' first (running_in store a s p.left) false pause (now t) c)
+stretches_begun words store live live' first p a old new pause now c e begun h =
+    let b : Activity = p.activity in
+    let same : b ≡ a = ap (λ (q : Progress). q.activity) begun in
+    let none : cleared_in p ≡ false = ap cleared_in begun ∙ begins a.held in
+    subst (λ x. WhereTold old new (λ s t. Stretches words live' first (running_in store x s p.left) false pause (now t) c)) same
+    (subst (λ n. WhereTold old new (λ s t. Stretches words n first (running_in store b s p.left) false pause (now t) c)) e
+    (subst (λ x. WhereTold old new (λ s t. Stretches words live first (running_in store b s p.left) x pause (now t) c)) none h))
 
 -- calls that come after calls
 pub lasts_on : {C R : Type 0} (faults : C → Outside → ℕ) (references : C → R) (leads : C → C → Type 0) (a b c : C) → CallsLast faults references leads a b

@@ -23,6 +23,8 @@ use Rattle.edi_kernel.specs.declared.ends.Ending.{Ending}
 use Rattle.edi_kernel.specs.declared.ends.Ending.TheVariants as ending
 use Rattle.edi_kernel.specs.declared.stretch.Pause.{Pause}
 use Rattle.edi_kernel.specs.declared.stretch.Pause.TheVariants as pause
+use Rattle.edi_kernel.specs.declared.stretch.Plain.{Plain}
+use Rattle.edi_kernel.specs.declared.stretch.Plain.TheVariants as plain
 use Rattle.edi_kernel.specs.declared.stretch.Progress.{Progress}
 
 -- the activity with the memory, the system and the turns that are left
@@ -139,6 +141,10 @@ noted_after end.On noted phase held = noted
 noted_after (end.Turn kind) noted phase held = goes_on kind || cleared_by noted phase held
 noted_after end noted phase held = cleared_by noted phase held
 
+-- the progress of an activity that has done nothing yet
+abbrev pub at_start : Activity → (left : ℕ) → Progress
+at_start a left = record { activity = a; left = left; cleared = false; phase = nat_eq a.held 1 }
+
 -- an activity that is in a phase began in it, where no marks are noted as taken away
 abbrev pub IsInPhase : Progress → Type 0
 IsInPhase p = p.activity.held ≡ 1 → (p.cleared || p.phase) ≡ true
@@ -189,6 +195,24 @@ StepsFrom words live is_first was cleared answer (Some pause) now is_cleared =
 abbrev pub OneStep : List ℕ → (live : ℕ) → (is_first : Bool) → (was : Running) → Bool → Option Pause → (now : Running) → Bool → Type 0
 OneStep words live is_first was cleared result now is_cleared =
     StepsFrom words live is_first was cleared (local_step (fetch words) live is_first was) result now is_cleared
+
+-- ---- plain instructions, whose activity goes on apart from the rest of its progress
+
+abbrev pub with_activity : Progress → Activity → Progress
+with_activity p a = record p { activity = a }
+
+abbrev pub IsSameFrame : (old new : Activity) → Type 0
+IsSameFrame old new = (new.base ≡ old.base) × (new.end ≡ old.end) × (new.segment ≡ old.segment)
+
+-- one instruction, whatever processes live and whatever the system is
+abbrev pub OnePlain : List ℕ → Plain → (memory : List ℕ) → Activity → Progress → (new_memory : List ℕ) → Activity → Progress → Type 0
+OnePlain words plain.On memory a p new_memory b q =
+    (live : ℕ) (is_first : Bool) (s : State) → OneStep words live is_first (running_in memory a s p.left) (cleared_in (with_activity p a)) None
+    (running_in new_memory b s q.left) (cleared_in (with_activity q b))
+OnePlain words plain.Arrived memory a p new_memory b q =
+    (live : ℕ) (is_first : Bool) (s : State) → OneStep words live is_first (running_in memory a s p.left) (cleared_in (with_activity p a))
+    (Some (pause.At kind.Arrive)) (running_in new_memory b s q.left) q.cleared
+OnePlain words plain.Other memory a p new_memory b q = (new_memory ≡ memory) × (b ≡ a) × (q ≡ p)
 
 -- ---- stretches
 

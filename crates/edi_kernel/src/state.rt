@@ -10,7 +10,7 @@ ghost use Rattle.edi_told.specs.Told.{WhereTold};
 ghost use Rattle.edi_calls.specs.Names.{Name};
 ghost use Rattle.edi_target.specs.Mach.{Machine};
 ghost use Rattle.edi_machine.specs.declared.activity.Activity.{Activity};
-ghost use Rattle.edi_kernel.specs.Stretch.{Allows, Blamed, CallsLast, Spends, Stretches, is_standstill, running_in};
+ghost use Rattle.edi_kernel.specs.Stretch.{Allows, Blamed, CallsLast, Spends, Stretches, at_start, is_standstill, running_in};
 ghost use Rattle.edi_kernel.specs.Kernel.{
   GoesTo,
   Handles,
@@ -94,33 +94,31 @@ impl KernelState {
         &mut self,
         code: &Code,
         slot: usize,
-        activity: Activity,
+        activity: &Activity,
         kind: TurnKind,
         used: u64,
     ) -> StintEnd
         requires table { IsTable self.old.table }
         requires taken { IsTaken self.old.table slot }
-        requires ordered { IsOrdered activity }
+        requires ordered { IsOrdered activity.now }
         requires allowed { Allows (Some (Pause.At kind)) code.now.words (32 - length (free_slots self.old.table)) (slot == 0)
-            (local_of self.old.store activity) }
+            (local_of self.old.store activity.now) }
         requires marks { self.old.table.marks < 64 }
         ensures standing { StandsAfter result (Some slot) (ready_slots self.old.table) self.new.table self.new.arrived }
-        ensures exact { HandlesTurn kind code.now.words slot used activity self.old self.new result }
+        ensures exact { HandlesTurn kind code.now.words slot used activity.now self.old self.new result }
         ensures taken { self.new.taken ≡ self.old.taken }
         ensures entering { self.new.entering ≡ self.old.entering }
         ensures turns { self.new.used ≡ self.old.used }
     {
         match kind {
             TurnKind::Again(true) => {
-                self.arrived = Some(activity);
+                self.arrived = Some(*activity);
                 let all_marked = self.table.attempt(slot, activity);
                 attempt_end(all_marked, used)
             }
             TurnKind::Fork(at) => {
                 self.arrived = None;
-                // A copy: lent to no function that is not inlined, the activity stays in registers.
-                let parent = activity;
-                self.fork(code, at, slot, &parent);
+                self.fork(code, at, slot, activity);
                 StintEnd::Forked { used }
             }
             TurnKind::Exit => {
@@ -130,7 +128,7 @@ impl KernelState {
             }
             _ => {
                 self.table.arrive(slot, activity);
-                self.arrived = Some(activity);
+                self.arrived = Some(*activity);
                 StintEnd::Arrived { used }
             }
         }
@@ -142,18 +140,18 @@ impl KernelState {
         &mut self,
         code: &Code,
         slot: usize,
-        activity: Activity,
+        activity: &Activity,
         pause: Pause,
         used: u64,
     ) -> StintEnd
         requires table { IsTable self.old.table }
         requires taken { IsTaken self.old.table slot }
-        requires ordered { IsOrdered activity }
-        requires allowed { Allows (Some pause) code.now.words (32 - length (free_slots self.old.table)) (slot == 0) (local_of self.old.store activity) }
+        requires ordered { IsOrdered activity.now }
+        requires allowed { Allows (Some pause) code.now.words (32 - length (free_slots self.old.table)) (slot == 0) (local_of self.old.store activity.now) }
         requires marks { self.old.table.marks < 64 }
         requires standstill { is_standstill pause ≡ false }
         ensures standing { StandsAfter result (Some slot) (ready_slots self.old.table) self.new.table self.new.arrived }
-        ensures exact { Handles pause code.now.words slot used activity self.old self.new result }
+        ensures exact { Handles pause code.now.words slot used activity.now self.old self.new result }
         ensures taken { self.new.taken ≡ self.old.taken }
         ensures entering { self.new.entering ≡ self.old.entering }
         ensures turns { self.new.used ≡ self.old.used }
@@ -175,35 +173,28 @@ impl KernelState {
         code: &Code,
         calls: &mut C,
         slot: usize,
-        left: u64,
-    ) -> (Pause, Progress)
+        progress: &mut Progress,
+    ) -> Pause
         requires table { IsTable self.old.table }
         requires slot { slot < 32 }
         requires working { C.failed calls.old None }
+        requires begins { progress.old ≡ at_start (resumed (process_at self.old.table slot)) progress.old.left }
         ensures exact { WhereTold (C.state calls.old) (C.state calls.new) (λ s t.
             Stretches code.now.words (32 - length (free_slots self.old.table)) (slot == 0)
-            (running_in self.old.store (resumed (process_at self.old.table slot)) s left) false
-            result.0 (running_in self.new.store result.1.activity t result.1.left) result.1.cleared) }
+            (running_in self.old.store (resumed (process_at self.old.table slot)) s progress.old.left) false
+            result (running_in self.new.store progress.new.activity t progress.new.left) progress.new.cleared) }
         ensures same { self.new ≡ record self.old { store = self.new.store } }
-        ensures standstill { is_standstill result.0 ≡ false }
-        ensures allowed { Allows (Some result.0) code.now.words (32 - length (free_slots self.old.table)) (slot == 0)
-            (local_of self.new.store result.1.activity) }
-        ensures less { result.1.left ≤ left }
-        ensures spends { Spends (Some result.0) left result.1.left }
-        ensures blame { Blamed (Some result.0) (C.failed calls.new) (C.faults calls.old) (C.faults calls.new) }
+        ensures standstill { is_standstill result ≡ false }
+        ensures allowed { Allows (Some result) code.now.words (32 - length (free_slots self.old.table)) (slot == 0)
+            (local_of self.new.store progress.new.activity) }
+        ensures less { progress.new.left ≤ progress.old.left }
+        ensures spends { Spends (Some result) progress.old.left progress.new.left }
+        ensures blame { Blamed (Some result) (C.failed calls.new) (C.faults calls.old) (C.faults calls.new) }
         ensures lasts { CallsLast C.faults C.references C.leads calls.old calls.new }
-        ensures ordered { IsOrdered result.1.activity }
+        ensures ordered { IsOrdered progress.new.activity }
     {
-        let activity = self.table.resume(slot);
-        let mut progress = Progress {
-            activity,
-            left,
-            cleared: false,
-            phase: activity.held == 1,
-        };
         let live = self.table.live();
-        let pause = advance(&mut self.store, &mut progress, code, live, slot == 0, calls);
-        (pause, progress)
+        advance(&mut self.store, progress, code, live, slot == 0, calls)
     }
 
     /// The taken process goes on until it gives way, the run ends, or `left` turns are used up and another is
@@ -225,9 +216,16 @@ impl KernelState {
         ensures turns { self.new.used ≡ self.old.used }
     {
         let slot = self.taken.unwrap();
-        let (pause, progress) = self.walk(code, calls, slot, left);
+        let activity = self.table.resume(slot);
+        let mut progress = Progress {
+            activity,
+            left,
+            cleared: false,
+            phase: activity.held == 1,
+        };
+        let pause = self.walk(code, calls, slot, &mut progress);
         self.taken = None;
         self.table.unmark_if(progress.cleared);
-        self.handle(code, slot, progress.activity, pause, left - progress.left)
+        self.handle(code, slot, &progress.activity, pause, left - progress.left)
     }
 }

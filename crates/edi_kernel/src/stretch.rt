@@ -1,7 +1,8 @@
 //! What a taken process does until it gives way.
 
-ghost use Rattle.std.specs.Prelude.{◌≡◌, ◌≤◌, None, Some, false};
+ghost use Rattle.std.specs.Prelude.{◌≡◌, ◌+◌, ◌-◌, ◌*◌, ◌<◌, ◌≤◌, ◌^◌, ℕ, Bool, None, Some, true, false, length};
 ghost use Rattle.edi_told.specs.Told.{WhereTold};
+ghost use Rattle.edi_calls.specs.State.{State};
 ghost use Rattle.edi_store.specs.Memory.{IsMemory};
 ghost use Rattle.edi_machine.specs.Activities.{IsOrdered, local_of};
 ghost use Rattle.edi_kernel.specs.Stretch.{
@@ -10,8 +11,11 @@ ghost use Rattle.edi_kernel.specs.Stretch.{
   CallsLast,
   Falls,
   OneStep,
+  OnePlain,
   IsInPhase,
   IsNoStandstill,
+  IsSameFrame,
+  Reaches,
   Spends,
   Stretches,
   cleared_at,
@@ -23,11 +27,12 @@ ghost use Rattle.edi_kernel.specs.Stretch.{
   pause_by,
   pause_of,
   running_in,
+  with_activity,
 };
 
 use crate::ends::Ending;
 use edi_calls::Calls;
-use edi_machine::{Activity, Cause, StepEnd, TurnKind, step};
+use edi_machine::{Activity, Cause, StepEnd, TurnKind, step, step_plainly};
 use edi_store::Store;
 use edi_target::Code;
 
@@ -38,6 +43,17 @@ pub(crate) enum Pause {
     At(TurnKind),
     /// The run has ended.
     Over(Ending),
+}
+
+/// What has come of the next instruction, where only a plain one is executed.
+#[derive(Clone, Copy)]
+pub(crate) enum Plain {
+    /// The process goes on.
+    On,
+    /// The process has arrived at a `when`.
+    Arrived,
+    /// Nothing was done.
+    Other,
 }
 
 /// What changes while a process goes on: its activity, the turns that are left, and whether anything has happened that
@@ -180,6 +196,99 @@ fn instruct<C: Calls>(
     pause
 }
 
+/// Executes the next instruction of this activity, which goes on apart from the rest of its progress, where it is a plain one.
+#[inline(always)]
+fn instruct_plainly(
+    store: &mut Store,
+    activity: &mut Activity,
+    progress: &mut Progress,
+    words: &[u16],
+) -> Plain
+    requires size { length words.now < 2 ^ 32 }
+    requires ordered { IsOrdered activity.old }
+    requires phase { IsInPhase (with_activity progress.old activity.old) }
+    ensures exact { OnePlain words.now result store.old activity.old progress.old store.new activity.new progress.new }
+    ensures phase { result ≡ Plain.On → IsInPhase (with_activity progress.new activity.new) }
+    ensures falls { result ≡ Plain.On → Falls None words.now progress.old.left activity.old.pc progress.new.left activity.new.pc }
+    ensures spends { result ≡ Plain.Arrived → progress.new.left < progress.old.left }
+    ensures less { progress.new.left ≤ progress.old.left }
+    ensures frame { IsSameFrame activity.old activity.new }
+    ensures apart { (progress.new.activity ≡ progress.old.activity) × (progress.new.phase ≡ progress.old.phase) }
+    ensures ordered { IsOrdered activity.new }
+    ensures whole { IsMemory store.new }
+{
+    let held = activity.held;
+    match step_plainly(store, activity, words, &progress.left) {
+        Some(StepEnd::On) => Plain::On,
+        Some(StepEnd::Turn(TurnKind::Loop)) => {
+            progress.left -= 1;
+            progress.cleared = true;
+            Plain::On
+        }
+        Some(StepEnd::Turn(TurnKind::Arrive)) => {
+            let end = StepEnd::Turn(TurnKind::Arrive);
+            progress.left -= 1;
+            progress.cleared = cleared_after(end, progress.cleared, progress.phase, held);
+            Plain::Arrived
+        }
+        Some(StepEnd::Fail(_, _)) => Plain::Other,
+        Some(StepEnd::Bad(_)) => Plain::Other,
+        None => Plain::Other,
+        // No other end is that of a plain instruction.
+        _ => unreachable!(),
+    }
+}
+
+/// Gives the activity back that went on apart. It is in the same frame, which is not written.
+#[inline(always)]
+fn come_to(progress: &mut Progress, activity: Activity)
+    requires { IsSameFrame progress.old.activity activity }
+    ensures { progress.new ≡ with_activity progress.old activity }
+{
+    progress.activity.top = activity.top;
+    progress.activity.pc = activity.pc;
+    progress.activity.held = activity.held;
+}
+
+/// Executes plain instructions as long as the process goes on by them. Tells whether it has arrived at a `when`.
+///
+/// Nearly all instructions are executed here. The activity goes on apart from the rest and is lent to no function that is not inlined, so
+/// that it stays in registers, and no other value needs one.
+#[inline(never)]
+fn go_plainly(store: &mut Store, progress: &mut Progress, words: &[u16]) -> bool
+    requires size { length words.now < 2 ^ 32 }
+    requires ordered { IsOrdered progress.old.activity }
+    requires phase { IsInPhase progress.old }
+    ensures goes { result ≡ false → (live : ℕ) (first : Bool) (s : State) →
+        Reaches words.now live first (running_in store.old progress.old.activity s progress.old.left) (cleared_in progress.old)
+        (running_in store.new progress.new.activity s progress.new.left) (cleared_in progress.new) }
+    ensures arrives { result ≡ true → (live : ℕ) (first : Bool) (s : State) →
+        Stretches words.now live first (running_in store.old progress.old.activity s progress.old.left) (cleared_in progress.old)
+        (Pause.At TurnKind.Arrive) (running_in store.new progress.new.activity s progress.new.left) progress.new.cleared }
+    ensures phase { result ≡ false → IsInPhase progress.new }
+    ensures nearer { progress.new.left * (length words.now + 1) + (length words.now - progress.new.activity.pc)
+        ≤ progress.old.left * (length words.now + 1) + (length words.now - progress.old.activity.pc) }
+    ensures spends { result ≡ true → progress.new.left < progress.old.left }
+    ensures less { progress.new.left ≤ progress.old.left }
+    ensures ordered { IsOrdered progress.new.activity }
+    ensures whole { IsMemory store.new }
+{
+    let mut here = progress.activity;
+    'plain: loop {
+        match instruct_plainly(store, &mut here, progress, words) {
+            Plain::On => (),
+            Plain::Arrived => {
+                come_to(progress, here);
+                return true;
+            }
+            Plain::Other => {
+                come_to(progress, here);
+                return false;
+            }
+        }
+    }
+}
+
 /// Executes instructions until the process pauses.
 #[inline(always)]
 pub(crate) fn advance<C: Calls>(
@@ -207,6 +316,9 @@ pub(crate) fn advance<C: Calls>(
     ensures whole { IsMemory store.new }
 {
     'stretch: loop {
+        if go_plainly(store, progress, code.words()) {
+            return Pause::At(TurnKind::Arrive);
+        }
         if let Some(pause) = instruct(store, progress, code, live, first, calls) {
             return pause;
         }

@@ -124,14 +124,11 @@ impl Table {
         requires { slot < 32 }
         ensures { result ≡ resumed (process_at self.now slot) }
     {
-        let activity = self.processes[slot].activity;
-        match self.processes[slot].standing {
-            Standing::AtWhen => Activity {
-                held: 1,
-                ..activity
-            },
-            _ => activity,
+        let mut activity = self.processes[slot].activity;
+        if let Standing::AtWhen = self.processes[slot].standing {
+            activity.held = 1;
         }
+        activity
     }
 
     /// Takes all marks away. Most often there are none, and nothing is written.
@@ -192,26 +189,24 @@ impl Table {
 
     /// The process stands at its `when`, with this activity, and is the last of the ready ones.
     #[inline(always)]
-    fn stand(&mut self, slot: usize, activity: Activity)
+    fn stand(&mut self, slot: usize, activity: &Activity)
         requires slot { slot < 32 }
         requires homeless { home_of self.old.lists slot ≡ None }
-        ensures { PutsProcess 0 slot (at_its_when (process_at self.old slot) activity) self.old self.new }
+        ensures { PutsProcess 0 slot (at_its_when (process_at self.old slot) activity.now) self.old self.new }
     {
-        let process = Process {
-            standing: Standing::AtWhen,
-            activity,
-            ..self.processes[slot]
-        };
-        self.put(READY, slot, process);
+        let process = &mut self.processes[slot];
+        process.standing = Standing::AtWhen;
+        process.activity = *activity;
+        self.lists.push_back(READY, slot);
     }
 
     /// The process has arrived at a `when`.
     #[inline(always)]
-    pub(crate) fn arrive(&mut self, slot: usize, activity: Activity)
+    pub(crate) fn arrive(&mut self, slot: usize, activity: &Activity)
         requires slot { slot < 32 }
         requires homeless { home_of self.old.lists slot ≡ None }
         requires clear { self.old.marks ≡ 0 → self.old.marked ≡ no_marks }
-        ensures { PutsProcess 0 slot (at_its_when (process_at self.old slot) activity) (unmarked self.old) self.new }
+        ensures { PutsProcess 0 slot (at_its_when (process_at self.old slot) activity.now) (unmarked self.old) self.new }
     {
         self.unmark();
         self.stand(slot, activity);
@@ -219,11 +214,11 @@ impl Table {
 
     /// The process stands at its `when` after an attempt that marks it. Tells whether all that are ready are marked.
     #[inline(always)]
-    pub(crate) fn attempt(&mut self, slot: usize, activity: Activity) -> bool
+    pub(crate) fn attempt(&mut self, slot: usize, activity: &Activity) -> bool
         requires slot { slot < 32 }
         requires homeless { home_of self.old.lists slot ≡ None }
         requires room { self.old.marks < 64 }
-        ensures put { PutsProcess 0 slot (at_its_when (process_at self.old slot) activity) (marked_with self.old slot) self.new }
+        ensures put { PutsProcess 0 slot (at_its_when (process_at self.old slot) activity.now) (marked_with self.old slot) self.new }
         ensures all { result ≡ (marks_with self.old slot == length (ready_slots self.new)) }
     {
         self.mark(slot);

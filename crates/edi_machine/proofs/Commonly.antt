@@ -20,7 +20,7 @@ use Rattle.edi_target.proofs.Reading.{both_true, no_row, past_end}
 use Rattle.edi_machine.specs.Steps.{Blames, Gives, Keeps, Stepped, Takes, effect_of}
 
 -- the words that were found from the program counter on are those there
-effect_there : (words : List ℕ) (live : ℕ) (is_first : Bool) (l : Local) (front : List ℕ) → drop l.pc words ≡ front
+pub effect_there : (words : List ℕ) (live : ℕ) (is_first : Bool) (l : Local) (front : List ℕ) → drop l.pc words ≡ front
     → effect_of words live is_first l ≡ effect_by words live is_first front l
 unfolding decode
 effect_there words live is_first l front here = ap (λ ws. effect_at (fetch words) (placed l.pc (decode ws)) live is_first l) here

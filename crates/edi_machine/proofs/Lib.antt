@@ -1,6 +1,7 @@
 pub mod Frames
 pub mod Fetching
 pub mod Commonly
+pub mod Plainly
 pub mod NewFrames
 pub mod SetWords
 pub mod SystemCalls

@@ -8,6 +8,7 @@ ghost use Rattle.edi_target.specs.Effect.{Local, in_range, pop_word, push, to, t
 ghost use Rattle.edi_target.specs.Perform.{arithmetic};
 ghost use Rattle.edi_machine.specs.Activities.{IsOrdered, local_of};
 ghost use Rattle.edi_machine.specs.Operators.{integer_by};
+ghost use Rattle.edi_machine.specs.Plain.{Plainly};
 ghost use Rattle.edi_machine.specs.Steps.{Gives};
 
 use crate::activity::Activity;
@@ -41,6 +42,7 @@ fn result_of(operator: Operator, x: i16, y: i16) -> Option<i16>
 }
 
 /// 1 for true and 0 for false.
+#[inline(always)]
 pub fn truth_word(b: bool) -> u16
     ensures { result ≡ truth b }
 {
@@ -48,6 +50,7 @@ pub fn truth_word(b: bool) -> u16
 }
 
 /// The integers that the two words on top stand for, the upper one behind the lower one.
+#[inline(always)]
 pub fn top_two_integers(store: &Store, activity: &Activity) -> Option<(i16, i16)>
     requires ordered { IsOrdered activity.now }
     ensures top { let a = activity.now in
@@ -61,6 +64,7 @@ pub fn top_two_integers(store: &Store, activity: &Activity) -> Option<(i16, i16)
 }
 
 // Pushes the word of a result in place of the two words on top, or fails where there is no result.
+#[inline(always)]
 fn put_result(
     store: &mut Store,
     activity: &mut Activity,
@@ -73,6 +77,7 @@ fn put_result(
     ensures exact { let l = local_of store.old activity.old in
         Gives (in_range line (option_map unsigned value) (λ z. push (z ∷ []) (record l { top = l.top - 1 - 1 }) (to next))) result l
         (local_of store.new activity.new) }
+    ensures plain { Plainly 0 result activity.old activity.new }
     ensures ordered { IsOrdered activity.new }
 {
     match value {
@@ -99,6 +104,7 @@ pub fn calculate(
     requires ordered { IsOrdered activity.old }
     ensures exact { let l = local_of store.old activity.old in
         Gives (arithmetic (on_words (integer_by operator)) line next l) result l (local_of store.new activity.new) }
+    ensures plain { Plainly 0 result activity.old activity.new }
     ensures ordered { IsOrdered activity.new }
 {
     match top_two_integers(store, activity) {
@@ -108,10 +114,12 @@ pub fn calculate(
 }
 
 /// NEG.
+#[inline(always)]
 pub fn negation(store: &mut Store, activity: &mut Activity, line: u16, next: u32) -> StepEnd
     requires ordered { IsOrdered activity.old }
     ensures exact { let l = local_of store.old activity.old in
         Gives (pop_word l (λ x l. in_range line (word_sub 0 x) (λ z. push (z ∷ []) l (to next)))) result l (local_of store.new activity.new) }
+    ensures plain { Plainly 0 result activity.old activity.new }
     ensures ordered { IsOrdered activity.new }
 {
     let Some(x) = top_word(store, activity) else {
@@ -124,10 +132,12 @@ pub fn negation(store: &mut Store, activity: &mut Activity, line: u16, next: u32
 }
 
 /// NOT.
+#[inline(always)]
 pub fn other_truth(store: &mut Store, activity: &mut Activity, next: u32) -> StepEnd
     requires ordered { IsOrdered activity.old }
     ensures exact { let l = local_of store.old activity.old in
         Gives (pop_word l (λ x l. push (truth (nat_eq x 0) ∷ []) l (to next))) result l (local_of store.new activity.new) }
+    ensures plain { Plainly 0 result activity.old activity.new }
     ensures ordered { IsOrdered activity.new }
 {
     match top_word(store, activity) {

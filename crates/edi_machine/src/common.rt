@@ -7,34 +7,14 @@ ghost use Rattle.edi_machine.specs.Numbers.{effect_by};
 ghost use Rattle.edi_machine.specs.Steps.{Stepped, effect_of};
 
 use crate::activity::Activity;
-use crate::arithmetic::{Operator, calculate, negation, other_truth};
-use crate::comparisons::{Order, compare, compare_values};
-use crate::constants::{check, constant, element_address, field_address, frame_address};
 use crate::ends::StepEnd;
 use crate::instruction::code_address;
+use crate::plain::{execute_plain, four_of, two_of};
 use crate::procedures::{call, leave_block};
-use crate::rare::execute_rare_on_copy;
-use crate::variables::{keep, keep_word, load, load_word};
-use crate::{jumps, processes};
+use crate::processes;
+use crate::rare::execute_rare;
 use edi_calls::Calls;
 use edi_store::Store;
-
-// The first `count` of these operands, which stand behind `at`, if there are so many. They are taken from the words themselves, so that each
-// instruction asks once for its own, and the slice of all operands, which only the rare instructions need, is made for no other.
-#[tactic(auto, using(crate::proofs::Commonly::none_there))]
-#[inline(always)]
-fn operands_of<'a>(words: &'a [u16], at: u32, count: usize, operands: &[u16]) -> Option<&'a [u16]>
-    requires some { 1 ≤ count }
-    requires few { count ≤ 4 }
-    requires here { operands.now ≡ drop (at + 1) words.now }
-    ensures exact { MatchOption result (length operands.now < count) (λ front. (count ≤ length operands.now) × (front.now ≡ take count operands.now)) }
-{
-    let from = at as usize + 1;
-    match words.get(from..from + count) {
-        Some(front) => Some(front),
-        None => None,
-    }
-}
 
 // All of them, taken from the words themselves too.
 #[inline(always)]
@@ -46,50 +26,6 @@ fn rest_of<'a>(words: &'a [u16], at: u32, operands: &[u16]) -> &'a [u16]
         Some(rest) => rest,
         None => &words[0..0],
     }
-}
-
-// The first of these operands, if there is one.
-#[tactic(auto, using(crate::proofs::Commonly::one_there))]
-#[inline(always)]
-fn one_of(words: &[u16], at: u32, operands: &[u16]) -> Option<u16>
-    requires here { operands.now ≡ drop (at + 1) words.now }
-    ensures exact { MatchOption result (length operands.now < 1) (λ a. operands.now ≡ a ∷ drop 1 operands.now) }
-{
-    let front = operands_of(words, at, 1, operands)?;
-    Some(front[0])
-}
-
-// The first two, if there are two.
-#[tactic(auto, using(crate::proofs::Commonly::two_there))]
-#[inline(always)]
-fn two_of(words: &[u16], at: u32, operands: &[u16]) -> Option<(u16, u16)>
-    requires here { operands.now ≡ drop (at + 1) words.now }
-    ensures exact { MatchOption result (length operands.now < 2) (λ r. operands.now ≡ r.0 ∷ r.1 ∷ drop 2 operands.now) }
-{
-    let front = operands_of(words, at, 2, operands)?;
-    Some((front[0], front[1]))
-}
-
-// The first three, if there are three.
-#[tactic(auto, using(crate::proofs::Commonly::three_there))]
-#[inline(always)]
-fn three_of(words: &[u16], at: u32, operands: &[u16]) -> Option<(u16, u16, u16)>
-    requires here { operands.now ≡ drop (at + 1) words.now }
-    ensures exact { MatchOption result (length operands.now < 3) (λ r. operands.now ≡ r.0 ∷ r.1 ∷ r.2 ∷ drop 3 operands.now) }
-{
-    let front = operands_of(words, at, 3, operands)?;
-    Some((front[0], front[1], front[2]))
-}
-
-// The first four, if there are four.
-#[tactic(auto, using(crate::proofs::Commonly::four_there))]
-#[inline(always)]
-fn four_of(words: &[u16], at: u32, operands: &[u16]) -> Option<(u16, u16, u16, u16)>
-    requires here { operands.now ≡ drop (at + 1) words.now }
-    ensures exact { MatchOption result (length operands.now < 4) (λ r. operands.now ≡ r.0 ∷ r.1 ∷ r.2 ∷ r.3 ∷ drop 4 operands.now) }
-{
-    let front = operands_of(words, at, 4, operands)?;
-    Some((front[0], front[1], front[2], front[3]))
 }
 
 // Executes the instruction of this number and these operands: a common one here, and each other in one function for all of them.
@@ -117,141 +53,11 @@ fn execute_by<C: Calls>(
     ensures ordered { IsOrdered activity.new }
 {
     let at = activity.pc;
+    let turns = 1;
+    if let Some(end) = execute_plain::<false>(store, activity, words, number, operands, &turns) {
+        return end;
+    }
     match number {
-        1 => match one_of(words, at, operands) {
-            Some(value) => constant(store, activity, value, at + 2),
-            None => StepEnd::Bad(at)
-        },
-        4 => match two_of(words, at, operands) {
-            // Most levels are 0 or 1, which need no test that they are allowed.
-            Some((0, offset)) => frame_address(store, activity, 0, offset, at + 3),
-            Some((1, offset)) => frame_address(store, activity, 1, offset, at + 3),
-            Some((level, offset)) => if level <= 64 {
-                frame_address(store, activity, level, offset, at + 3)
-            } else {
-                StepEnd::Bad(at)
-            },
-            None => StepEnd::Bad(at)
-        },
-        5 => match one_of(words, at, operands) {
-            Some(offset) => field_address(store, activity, offset, at + 2),
-            None => StepEnd::Bad(at)
-        },
-        6 => match four_of(words, at, operands) {
-            Some((low, high, size, line)) => if low.cast_signed() <= high.cast_signed() {
-                element_address(
-                    store,
-                    activity,
-                    low.cast_signed(),
-                    high.cast_signed(),
-                    size,
-                    line,
-                    at + 5,
-                )
-            } else {
-                StepEnd::Bad(at)
-            },
-            None => StepEnd::Bad(at)
-        },
-        7 => match one_of(words, at, operands) {
-            Some(1) => load_word(store, activity, at + 2),
-            Some(count) => if count >= 1 {
-                load(store, activity, count, at + 2)
-            } else {
-                StepEnd::Bad(at)
-            },
-            None => StepEnd::Bad(at)
-        },
-        8 => match one_of(words, at, operands) {
-            Some(1) => keep_word(store, activity, at + 2),
-            Some(count) => if count >= 1 {
-                keep(store, activity, count, at + 2)
-            } else {
-                StepEnd::Bad(at)
-            },
-            None => StepEnd::Bad(at)
-        },
-        9 => match one_of(words, at, operands) {
-            Some(line) => calculate(store, activity, Operator::Add, line, at + 2),
-            None => StepEnd::Bad(at)
-        },
-        10 => match one_of(words, at, operands) {
-            Some(line) => calculate(store, activity, Operator::Sub, line, at + 2),
-            None => StepEnd::Bad(at)
-        },
-        11 => match one_of(words, at, operands) {
-            Some(line) => calculate(store, activity, Operator::Mul, line, at + 2),
-            None => StepEnd::Bad(at)
-        },
-        12 => match one_of(words, at, operands) {
-            Some(line) => calculate(store, activity, Operator::Div, line, at + 2),
-            None => StepEnd::Bad(at)
-        },
-        13 => match one_of(words, at, operands) {
-            Some(line) => calculate(store, activity, Operator::Mod, line, at + 2),
-            None => StepEnd::Bad(at)
-        },
-        14 => match one_of(words, at, operands) {
-            Some(line) => negation(store, activity, line, at + 2),
-            None => StepEnd::Bad(at)
-        },
-        15 => other_truth(store, activity, at + 1),
-        16 => match one_of(words, at, operands) {
-            Some(count) => if count >= 1 {
-                compare_values(store, activity, count, true, at + 2)
-            } else {
-                StepEnd::Bad(at)
-            },
-            None => StepEnd::Bad(at)
-        },
-        17 => match one_of(words, at, operands) {
-            Some(count) => if count >= 1 {
-                compare_values(store, activity, count, false, at + 2)
-            } else {
-                StepEnd::Bad(at)
-            },
-            None => StepEnd::Bad(at)
-        },
-        18 => compare(store, activity, Order::Below, at + 1),
-        19 => compare(store, activity, Order::AtMost, at + 1),
-        20 => compare(store, activity, Order::Above, at + 1),
-        21 => compare(store, activity, Order::AtLeast, at + 1),
-        27 => match three_of(words, at, operands) {
-            Some((low, high, line)) => check(
-                store,
-                activity,
-                low.cast_signed(),
-                high.cast_signed(),
-                line,
-                at + 4,
-            ),
-            None => StepEnd::Bad(at)
-        },
-        28 => match two_of(words, at, operands) {
-            Some((high, low)) => jumps::jump(store, activity, code_address(high, low)),
-            None => StepEnd::Bad(at)
-        },
-        29 => match two_of(words, at, operands) {
-            Some((high, low)) => jumps::jump_if_false(
-                store,
-                activity,
-                code_address(high, low),
-                at + 3,
-            ),
-            None => StepEnd::Bad(at)
-        },
-        30 => match two_of(words, at, operands) {
-            Some((high, low)) => jumps::jump_and(store, activity, code_address(high, low), at + 3),
-            None => StepEnd::Bad(at)
-        },
-        31 => match two_of(words, at, operands) {
-            Some((high, low)) => jumps::jump_or(store, activity, code_address(high, low), at + 3),
-            None => StepEnd::Bad(at)
-        },
-        32 => match two_of(words, at, operands) {
-            Some((high, low)) => jumps::jump_back(store, activity, code_address(high, low)),
-            None => StepEnd::Bad(at)
-        },
         34 => match four_of(words, at, operands) {
             Some((level, high, low, line)) => if level <= 64 {
                 call(
@@ -276,11 +82,6 @@ fn execute_by<C: Calls>(
             },
             None => StepEnd::Bad(at)
         },
-        39 => match one_of(words, at, operands) {
-            Some(line) => processes::arrive(store, activity, line, at + 2),
-            None => StepEnd::Bad(at)
-        },
-        41 => processes::end_phase(store, activity, at + 1),
         44 => match two_of(words, at, operands) {
             Some((high, low)) => processes::try_again(
                 store,
@@ -292,9 +93,37 @@ fn execute_by<C: Calls>(
         },
         2 | 3 | 22 | 23 | 24 | 25 | 26 | 35 | 36 | 38 | 40 | 42 | 43 => {
             let rest = rest_of(words, at, operands);
-            execute_rare_on_copy(store, activity, words, live, first, number, rest, calls)
+            execute_rare(store, activity, words, live, first, number, rest, calls)
         }
         0 | 33 => StepEnd::Bad(at),
+        // The plain ones are executed above.
+        1
+        | 4
+        | 5
+        | 6
+        | 7
+        | 8
+        | 9
+        | 10
+        | 11
+        | 12
+        | 13
+        | 14
+        | 15
+        | 16
+        | 17
+        | 18
+        | 19
+        | 20
+        | 21
+        | 27
+        | 28
+        | 29
+        | 30
+        | 31
+        | 32
+        | 39
+        | 41 => unreachable!(),
         _ => StepEnd::Bad(at),
     }
 }

@@ -7,6 +7,7 @@ ghost use Rattle.edi_target.specs.Effect.{Local};
 ghost use Rattle.edi_target.specs.Perform.{comparison, equality};
 ghost use Rattle.edi_machine.specs.Activities.{IsOrdered, local_of};
 ghost use Rattle.edi_machine.specs.Operators.{same_as, stands_in};
+ghost use Rattle.edi_machine.specs.Plain.{Plainly};
 ghost use Rattle.edi_machine.specs.Steps.{Gives};
 
 use crate::activity::Activity;
@@ -43,6 +44,7 @@ pub fn compare(store: &mut Store, activity: &mut Activity, order: Order, next: u
     requires ordered { IsOrdered activity.old }
     ensures exact { let l = local_of store.old activity.old in
         Gives (comparison (stands_in order) next l) result l (local_of store.new activity.new) }
+    ensures plain { Plainly 0 result activity.old activity.new }
     ensures ordered { IsOrdered activity.new }
 {
     match top_two_integers(store, activity) {
@@ -75,6 +77,7 @@ fn top_two_are_equal(store: &Store, activity: Activity, count: u16) -> Option<bo
 }
 
 // Whether two values are as they are wanted, equal or different, where `same` tells whether they are equal.
+#[inline(always)]
 fn is_wanted(same: bool, wanted: bool) -> bool
     ensures { result ≡ (if wanted then same else not same) }
 {
@@ -93,6 +96,7 @@ pub fn compare_values(
     requires ordered { IsOrdered activity.old }
     ensures exact { let l = local_of store.old activity.old in
         Gives (equality (same_as wanted) count next l) result l (local_of store.new activity.new) }
+    ensures plain { Plainly 0 result activity.old activity.new }
     ensures ordered { IsOrdered activity.new }
 {
     let size = u32::from(count);

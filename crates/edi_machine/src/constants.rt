@@ -8,6 +8,7 @@ ghost use Rattle.edi_target.specs.Effect.{Local, pop_word, push, to};
 ghost use Rattle.edi_target.specs.Perform.{element, push_address, checked};
 ghost use Rattle.edi_target.specs.Effect.{look};
 ghost use Rattle.edi_machine.specs.Activities.{IsOrdered, local_of};
+ghost use Rattle.edi_machine.specs.Plain.{Plainly};
 ghost use Rattle.edi_machine.specs.Steps.{Gives};
 
 use crate::activity::Activity;
@@ -17,10 +18,12 @@ use edi_calls::Cause;
 use edi_store::Store;
 
 /// CONST.
+#[inline(always)]
 pub fn constant(store: &mut Store, activity: &mut Activity, value: u16, next: u32) -> StepEnd
     requires ordered { IsOrdered activity.old }
     ensures exact { let l = local_of store.old activity.old in
         Gives (push (value ∷ []) l (to next)) result l (local_of store.new activity.new) }
+    ensures plain { Plainly 0 result activity.old activity.new }
     ensures ordered { IsOrdered activity.new }
 {
     push_at(store, activity, activity.top, value, next)
@@ -57,6 +60,7 @@ pub fn zeros(store: &mut Store, activity: &mut Activity, count: u16, next: u32) 
 }
 
 /// ADDRESS.
+#[inline(always)]
 pub fn frame_address(
     store: &mut Store,
     activity: &mut Activity,
@@ -67,6 +71,7 @@ pub fn frame_address(
     requires ordered { IsOrdered activity.old }
     ensures exact { let l = local_of store.old activity.old in
         Gives (push_address (level l.memory count l.base + offset) next l) result l (local_of store.new activity.new) }
+    ensures plain { Plainly 0 result activity.old activity.new }
     ensures ordered { IsOrdered activity.new }
 {
     let base = level_base(store, count, activity.base as u16);
@@ -75,10 +80,12 @@ pub fn frame_address(
 }
 
 /// FIELD.
+#[inline(always)]
 pub fn field_address(store: &mut Store, activity: &mut Activity, offset: u16, next: u32) -> StepEnd
     requires ordered { IsOrdered activity.old }
     ensures exact { let l = local_of store.old activity.old in
         Gives (pop_word l (λ x l. push_address (x + offset) next l)) result l (local_of store.new activity.new) }
+    ensures plain { Plainly 0 result activity.old activity.new }
     ensures ordered { IsOrdered activity.new }
 {
     match top_word(store, activity) {
@@ -91,6 +98,7 @@ pub fn field_address(store: &mut Store, activity: &mut Activity, offset: u16, ne
 }
 
 // An index, counted from `low`.
+#[inline(always)]
 fn from_low(index: i16, low: i16) -> u32
     requires { low ≤ℤ index }
     ensures exact { result ≡ nat_abs (index -ℤ low) }
@@ -100,6 +108,7 @@ fn from_low(index: i16, low: i16) -> u32
 }
 
 /// INDEX, of bounds `low` to `high`.
+#[inline(always)]
 pub fn element_address(
     store: &mut Store,
     activity: &mut Activity,
@@ -112,6 +121,7 @@ pub fn element_address(
     requires ordered { IsOrdered activity.old }
     ensures exact { let l = local_of store.old activity.old in
         Gives (pop_word l (λ i l. pop_word l (λ x l. element low high size line next x (signed i) l))) result l (local_of store.new activity.new) }
+    ensures plain { Plainly 0 result activity.old activity.new }
     ensures ordered { IsOrdered activity.new }
 {
     let Some((x, i)) = top_two_words(store, activity) else {
@@ -126,6 +136,7 @@ pub fn element_address(
 }
 
 /// CHECK.
+#[inline(always)]
 pub fn check(
     store: &mut Store,
     activity: &mut Activity,
@@ -137,6 +148,7 @@ pub fn check(
     requires ordered { IsOrdered activity.old }
     ensures exact { let l = local_of store.old activity.old in
         Gives (look l (λ x. checked low high line next (signed x) l)) result l (local_of store.new activity.new) }
+    ensures plain { Plainly 0 result activity.old activity.new }
     ensures ordered { IsOrdered activity.new }
 {
     let Some(x) = top_word(store, activity) else {

@@ -6,6 +6,7 @@ ghost use Rattle.edi_target.specs.Memory.{word, level};
 ghost use Rattle.edi_target.specs.Effect.{Local, goes, needs, push, to};
 ghost use Rattle.edi_target.specs.Perform.{push_address};
 ghost use Rattle.edi_machine.specs.Activities.{IsOrdered, local_of};
+ghost use Rattle.edi_machine.specs.Plain.{Plainly};
 ghost use Rattle.edi_machine.specs.Steps.{Gives};
 
 use crate::activity::Activity;
@@ -53,6 +54,7 @@ pub fn push_below(
     requires room { top < activity.old.end }
     ensures exact { let l = local_of store.old activity.old in
         Gives (push (word ∷ []) (record l { top = top }) (to next)) result l (local_of store.new activity.new) }
+    ensures plain { Plainly 0 result activity.old activity.new }
     ensures ordered { IsOrdered activity.new }
 {
     store.put(top as u16, word);
@@ -75,6 +77,7 @@ pub fn push_at(
     requires to { top ≤ activity.old.end }
     ensures exact { let l = local_of store.old activity.old in
         Gives (push (word ∷ []) (record l { top = top }) (to next)) result l (local_of store.new activity.new) }
+    ensures plain { Plainly 0 result activity.old activity.new }
     ensures ordered { IsOrdered activity.new }
 {
     if top >= activity.end {
@@ -97,6 +100,7 @@ pub fn push_address_at(
     requires to { top ≤ activity.old.end }
     ensures exact { let l = local_of store.old activity.old in
         Gives (push_address address next (record l { top = top })) result l (local_of store.new activity.new) }
+    ensures plain { Plainly 0 result activity.old activity.new }
     ensures ordered { IsOrdered activity.new }
 {
     if address > 65_535 {

@@ -9,6 +9,7 @@ ghost use Rattle.edi_target.specs.View.{Shows, instruction_of, is_whole};
 use edi_target::{Op, read_op};
 
 /// The code address of two words.
+#[inline(always)]
 pub fn code_address(high: u16, low: u16) -> u32
     ensures { result ≡ address_of_words high low }
 {

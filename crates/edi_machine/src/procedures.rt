@@ -131,16 +131,14 @@ pub fn enter(
                 function,
                 body,
             };
-            let mut here = *activity;
-            let end = enter_block(store, &mut here, block, link, line, next);
-            *activity = here;
-            end
+            enter_block(store, activity, block, link, line, next)
         }
         _ => StepEnd::Bad(activity.pc),
     }
 }
 
 /// CALL.
+#[inline(always)]
 pub fn call(
     store: &mut Store,
     activity: &mut Activity,
@@ -198,6 +196,7 @@ fn leave_frame(store: &mut Store, activity: &mut Activity, results: u32, functio
 }
 
 /// RETURN. `first` tells whether this is the program's first process.
+#[inline(always)]
 pub fn leave_block(
     store: &mut Store,
     activity: &mut Activity,
@@ -213,10 +212,7 @@ pub fn leave_block(
     ensures ordered { IsOrdered activity.new }
 {
     if activity.base != activity.segment.first {
-        let mut here = *activity;
-        let end = leave_frame(store, &mut here, u32::from(results), function);
-        *activity = here;
-        return end;
+        return leave_frame(store, activity, u32::from(results), function);
     }
     if first {
         StepEnd::Turn(TurnKind::ProgramEnd)

@@ -7,6 +7,7 @@ ghost use Rattle.edi_target.specs.Decode.{branches_of};
 ghost use Rattle.edi_target.specs.Effect.{Local, due, needs, released, again, arriving, exiting};
 ghost use Rattle.edi_target.specs.Perform.{exceeds, fork, in_phase, unheld};
 ghost use Rattle.edi_machine.specs.Activities.{IsOrdered, local_of};
+ghost use Rattle.edi_machine.specs.Plain.{Plainly};
 ghost use Rattle.edi_machine.specs.Steps.{Gives};
 
 use crate::activity::Activity;
@@ -19,10 +20,12 @@ use edi_store::Store;
 const MOST_PROCESSES: u32 = 32;
 
 /// WHEN.
+#[inline(always)]
 pub fn arrive(store: &Store, activity: &mut Activity, line: u16, next: u32) -> StepEnd
     requires ordered { IsOrdered activity.old }
     ensures exact { let l = local_of store.now activity.old in
         Gives (unheld line l (due arriving (record l { pc = next }))) result l (local_of store.now activity.new) }
+    ensures plain { Plainly 1 result activity.old activity.new }
     ensures ordered { IsOrdered activity.new }
 {
     if activity.held > 0 {
@@ -33,6 +36,7 @@ pub fn arrive(store: &Store, activity: &mut Activity, line: u16, next: u32) -> S
 }
 
 /// RETRY, and QUIET, of which the attempt marks its process.
+#[inline(always)]
 pub fn try_again(store: &Store, activity: &mut Activity, marks: bool, target: u32) -> StepEnd
     requires ordered { IsOrdered activity.old }
     ensures exact { let l = local_of store.now activity.old in
@@ -48,10 +52,12 @@ pub fn try_again(store: &Store, activity: &mut Activity, marks: bool, target: u3
 }
 
 /// DONE.
+#[inline(always)]
 pub fn end_phase(store: &Store, activity: &mut Activity, next: u32) -> StepEnd
     requires ordered { IsOrdered activity.old }
     ensures exact { let l = local_of store.now activity.old in
         Gives (in_phase l (released (record l { pc = next; held = 0 }))) result l (local_of store.now activity.new) }
+    ensures plain { Plainly 0 result activity.old activity.new }
     ensures ordered { IsOrdered activity.new }
 {
     if activity.held != 1 {

@@ -47,7 +47,7 @@ fn execute_described<C: Calls>(
 // one place in memory for the answers of all these.
 #[tactic(auto, using(crate::proofs::Commonly::asks_nothing))]
 #[inline(never)]
-fn execute_rare<C: Calls>(
+pub fn execute_rare<C: Calls>(
     store: &mut Store,
     activity: &mut Activity,
     words: &[u16],
@@ -147,36 +147,4 @@ fn execute_rare<C: Calls>(
         43 => processes::exit(store, activity, first),
         _ => unreachable!(),
     }
-}
-
-/// Executes the instruction of this number and these operands on a copy of the activity: the caller's own is lent to no function that
-/// is not inlined, and so may stay in registers.
-#[inline(always)]
-pub fn execute_rare_on_copy<C: Calls>(
-    store: &mut Store,
-    activity: &mut Activity,
-    words: &[u16],
-    live: u32,
-    first: bool,
-    number: u16,
-    operands: &[u16],
-    calls: &mut C,
-) -> StepEnd
-    requires size { length words.now < 2 ^ 32 }
-    requires rare { is_rare number ≡ true }
-    requires room { activity.old.pc + 1 + length operands.now < 2 ^ 32 }
-    requires working { C.failed calls.old None }
-    requires live { live ≤ 32 }
-    requires ordered { IsOrdered activity.old }
-    ensures all { let l = local_of store.old activity.old in
-        Stepped C.state C.failed C.faults C.references C.leads (effect_by words.now live first (number ∷ operands.now) l) result l
-        (local_of store.new activity.new) calls.old calls.new }
-    ensures ordered { IsOrdered activity.new }
-{
-    let mut here = *activity;
-    let end = execute_rare(
-        store, &mut here, words, live, first, number, operands, calls,
-    );
-    *activity = here;
-    end
 }

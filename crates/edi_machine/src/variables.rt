@@ -4,6 +4,7 @@ ghost use Rattle.std.specs.Prelude.{◌≡◌, ◌+◌, ◌-◌, ◌<◌, ◌≤
 ghost use Rattle.edi_store.specs.Memory.{words_at, written};
 ghost use Rattle.edi_target.specs.Effect.{Local, pop, pop_word, push, to, within, goes};
 ghost use Rattle.edi_machine.specs.Activities.{IsOrdered, local_of};
+ghost use Rattle.edi_machine.specs.Plain.{Plainly};
 ghost use Rattle.edi_machine.specs.Steps.{Gives};
 
 use crate::activity::Activity;
@@ -12,10 +13,12 @@ use crate::frame::{push_below, top_two_words, top_word};
 use edi_store::{MEMORY_WORDS, Store};
 
 /// LOAD of one word.
+#[inline(always)]
 pub fn load_word(store: &mut Store, activity: &mut Activity, next: u32) -> StepEnd
     requires ordered { IsOrdered activity.old }
     ensures exact { let l = local_of store.old activity.old in
         Gives (pop_word l (λ x l. within x 1 (push (words_at l.memory x 1) l (to next)))) result l (local_of store.new activity.new) }
+    ensures plain { Plainly 0 result activity.old activity.new }
     ensures ordered { IsOrdered activity.new }
 {
     let Some(x) = top_word(store, activity) else {
@@ -27,10 +30,12 @@ pub fn load_word(store: &mut Store, activity: &mut Activity, next: u32) -> StepE
 
 /// LOAD.
 #[tactic(auto, using(crate::proofs::Frames::words_at_length))]
+#[inline(always)]
 pub fn load(store: &mut Store, activity: &mut Activity, count: u16, next: u32) -> StepEnd
     requires ordered { IsOrdered activity.old }
     ensures exact { let l = local_of store.old activity.old in
         Gives (pop_word l (λ x l. within x count (push (words_at l.memory x count) l (to next)))) result l (local_of store.new activity.new) }
+    ensures plain { Plainly 0 result activity.old activity.new }
     ensures ordered { IsOrdered activity.new }
 {
     let Some(x) = top_word(store, activity) else {
@@ -50,11 +55,13 @@ pub fn load(store: &mut Store, activity: &mut Activity, count: u16, next: u32) -
 }
 
 /// STORE of one word.
+#[inline(always)]
 pub fn keep_word(store: &mut Store, activity: &mut Activity, next: u32) -> StepEnd
     requires ordered { IsOrdered activity.old }
     ensures exact { let l = local_of store.old activity.old in
         Gives (pop 1 l (λ words l. pop_word l (λ x l. within x 1 (goes (record l { memory = written l.memory x words; pc = next }))))) result l
         (local_of store.new activity.new) }
+    ensures plain { Plainly 0 result activity.old activity.new }
     ensures ordered { IsOrdered activity.new }
 {
     let Some((x, word)) = top_two_words(store, activity) else {
@@ -67,11 +74,13 @@ pub fn keep_word(store: &mut Store, activity: &mut Activity, next: u32) -> StepE
 }
 
 /// STORE.
+#[inline(always)]
 pub fn keep(store: &mut Store, activity: &mut Activity, count: u16, next: u32) -> StepEnd
     requires ordered { IsOrdered activity.old }
     ensures exact { let l = local_of store.old activity.old in
         Gives (pop count l (λ words l. pop_word l (λ x l. within x count (goes (record l { memory = written l.memory x words; pc = next }))))) result l
         (local_of store.new activity.new) }
+    ensures plain { Plainly 0 result activity.old activity.new }
     ensures ordered { IsOrdered activity.new }
 {
     let count = u32::from(count);

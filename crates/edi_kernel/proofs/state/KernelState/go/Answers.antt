@@ -13,12 +13,12 @@ unmark_if-requires g c =
 
 pub handle-requires-clause-taken : goal.handle-requires-clause-taken
 handle-requires-clause-taken g c =
-    (mid_of c.args.self.now c.walk-pause.new.self c.unmark_if.new.self c.unwrap-slot.result c.walk-pause.result.1.cleared c.requires.kernel
+    (mid_of c.args.self.now c.walk-pause.new.self c.unmark_if.new.self c.unwrap-slot.result c.walk-pause.new.progress.cleared c.requires.kernel
     c.unwrap-slot.ensures (ap (λ (k : KernelState). k.table) c.walk-pause.ensures.same) c.unmark_if.ensures).taken
 
 pub handle-requires-clause-marks : goal.handle-requires-clause-marks
 handle-requires-clause-marks g c =
-    let m = mid_of c.args.self.now c.walk-pause.new.self c.unmark_if.new.self c.unwrap-slot.result c.walk-pause.result.1.cleared c.requires.kernel
+    let m = mid_of c.args.self.now c.walk-pause.new.self c.unmark_if.new.self c.unwrap-slot.result c.walk-pause.new.progress.cleared c.requires.kernel
     c.unwrap-slot.ensures (ap (λ (k : KernelState). k.table) c.walk-pause.ensures.same) c.unmark_if.ensures in
     few_marks c.unmark_if.new.self c.unwrap-slot.result m.sound m.taken
 
@@ -26,9 +26,9 @@ pub returns-clause-exact : goal.returns-clause-exact
 returns-clause-exact g c =
     WhereTold-map _ _ _ _
     (goes_all c.args.code.now.words c.args.self.now (record c.walk-pause.new.self { table = c.unmark_if.new.self; taken = None })
-    c.handle.new.self c.unwrap-slot.result c.args.left c.walk-pause.result.1.left
-    c.walk-pause.result.1.activity c.walk-pause.result.1.cleared c.walk-pause.result.0 c.handle.result _ c.requires.kernel c.unwrap-slot.ensures
-    (mid_of c.args.self.now c.walk-pause.new.self c.unmark_if.new.self c.unwrap-slot.result c.walk-pause.result.1.cleared c.requires.kernel
+    c.handle.new.self c.unwrap-slot.result c.args.left c.walk-pause.new.progress.left
+    c.walk-pause.new.progress.activity c.walk-pause.new.progress.cleared c.walk-pause.result c.handle.result _ c.requires.kernel c.unwrap-slot.ensures
+    (mid_of c.args.self.now c.walk-pause.new.self c.unmark_if.new.self c.unwrap-slot.result c.walk-pause.new.progress.cleared c.requires.kernel
     c.unwrap-slot.ensures (ap (λ (k : KernelState). k.table) c.walk-pause.ensures.same) c.unmark_if.ensures)
     c.handle.ensures.taken c.walk-pause.ensures.less c.walk-pause.ensures.ordered c.walk-pause.ensures.allowed c.handle.ensures.exact)
     c.walk-pause.ensures.exact
@@ -36,15 +36,15 @@ returns-clause-exact g c =
 pub returns-clause-kernel : goal.returns-clause-kernel
 returns-clause-kernel g c =
     stays_kernel c.args.code.now.words c.args.self.now (record c.walk-pause.new.self { table = c.unmark_if.new.self; taken = None })
-    c.handle.new.self c.unwrap-slot.result c.args.left c.walk-pause.result.1.left
-    c.walk-pause.result.1.activity c.walk-pause.result.1.cleared c.walk-pause.result.0 c.handle.result _ c.requires.kernel c.unwrap-slot.ensures
-    (mid_of c.args.self.now c.walk-pause.new.self c.unmark_if.new.self c.unwrap-slot.result c.walk-pause.result.1.cleared c.requires.kernel
+    c.handle.new.self c.unwrap-slot.result c.args.left c.walk-pause.new.progress.left
+    c.walk-pause.new.progress.activity c.walk-pause.new.progress.cleared c.walk-pause.result c.handle.result _ c.requires.kernel c.unwrap-slot.ensures
+    (mid_of c.args.self.now c.walk-pause.new.self c.unmark_if.new.self c.unwrap-slot.result c.walk-pause.new.progress.cleared c.requires.kernel
     c.unwrap-slot.ensures (ap (λ (k : KernelState). k.table) c.walk-pause.ensures.same) c.unmark_if.ensures)
     c.handle.ensures.taken c.walk-pause.ensures.less c.walk-pause.ensures.ordered c.walk-pause.ensures.allowed c.handle.ensures.exact
 
 pub returns-clause-standing : goal.returns-clause-standing
 returns-clause-standing g c =
     stands_same c.handle.result _ _ _ _ _ _ (sym c.unwrap-slot.ensures)
-    (ap ready_slots c.unmark_if.ensures ∙ ready_if c.walk-pause.result.1.cleared c.walk-pause.new.self.table ∙ ap (λ (k : KernelState). ready_slots k.table)
+    (ap ready_slots c.unmark_if.ensures ∙ ready_if c.walk-pause.new.progress.cleared c.walk-pause.new.self.table ∙ ap (λ (k : KernelState). ready_slots k.table)
     c.walk-pause.ensures.same)
     c.handle.ensures.standing

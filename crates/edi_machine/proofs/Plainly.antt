@@ -1,0 +1,56 @@
+-- Plain instructions.
+use Rattle.std.proofs.Common.{◌≡◌, ℕ, zero, suc, ◌-◌, ◌≤◌, Bool, true, List, [], ◌∷◌, length, get_or, take, drop, Option}
+use Rattle.std.proofs.Common.{Some, None, refl, sym, ap, subst, ◌∙◌, arith}
+use Rattle.std.specs.Prelude.{MatchOption}
+use Rattle.std.proofs.Math.Seq.{take-length}
+use Rattle.edi_target.specs.Effect.{Effect, Local}
+use Rattle.edi_machine.specs.declared.activity.Activity.{Activity}
+use Rattle.edi_machine.specs.declared.ends.TurnKind.TheVariants as kind
+use Rattle.edi_machine.specs.declared.ends.StepEnd.{StepEnd}
+use Rattle.edi_machine.specs.declared.ends.StepEnd.TheVariants as end
+use Rattle.edi_machine.specs.Numbers.{effect_by}
+use Rattle.edi_machine.specs.Plain.{Plainly, is_plain}
+use Rattle.edi_machine.specs.Steps.{Gives, effect_of}
+use Rattle.edi_machine.proofs.Commonly.{effect_there}
+
+plain_more : (m n : ℕ) (answer : StepEnd) → m ≤ n → is_plain m answer ≡ true → is_plain n answer ≡ true
+plain_more zero n (end.Turn k) le e = absurd (cc)
+plain_more (suc m) zero (end.Turn k) le e = absurd (omega (arith, le))
+plain_more (suc m) (suc n) (end.Turn kind.Loop) le e = refl
+plain_more (suc m) (suc n) (end.Turn kind.Arrive) le e = refl
+plain_more (suc m) (suc n) (end.Turn k) le e = e
+plain_more m n end.On le e = refl
+plain_more m n (end.Fail cause line) le e = refl
+plain_more m n (end.Bad at) le e = refl
+plain_more m n end.Fault le e = absurd (cc)
+
+-- with more turns left more may be done
+pub plainly_more : (m n : ℕ) (answer : StepEnd) (old new : Activity) → Plainly m answer old new → m ≤ n → Plainly n answer old new
+plainly_more m n answer old new h le = record {
+  plain = plain_more m n answer le h.plain;
+  same_base = h.same_base;
+  same_end = h.same_end;
+  same_segment = h.same_segment;
+}
+
+module _ (words : List ℕ) (before after : Local) (Nothing : Type 0) where
+  -- what the instruction gives that has these effects
+  abbrev Given : (effect : (live : ℕ) → (is_first : Bool) → Effect) → Option StepEnd → Type 0
+  Given effect result = MatchOption result Nothing (λ answer. (live : ℕ) (is_first : Bool) → Gives (effect live is_first) answer before after)
+
+  -- by the words at the front, one by one
+  pub given_by : (result : Option StepEnd) (front : List ℕ) → 1 ≤ length front
+      → Given (λ live is_first. effect_by words live is_first (get_or front 0 0 ∷ take (length front - 1) (drop 1 front)) before) result
+      → Given (λ live is_first. effect_by words live is_first front before) result
+  given_by result [] some h = absurd (omega (arith, some))
+  given_by result (a ∷ rest) some h =
+      let long : length (a ∷ rest) - 1 ≡ length rest = omega arith in
+      subst (λ (ws : List ℕ). Given (λ live is_first. effect_by words live is_first (a ∷ ws) before) result)
+      (ap (λ (i : ℕ). take i rest) long ∙ take-length rest) h
+
+  -- by the words at the program counter
+  pub given_here : (result : Option StepEnd) (front : List ℕ) → drop before.pc words ≡ front
+      → Given (λ live is_first. effect_by words live is_first front before) result → Given (λ live is_first. effect_of words live is_first before) result
+  given_here None front here h = h
+  given_here (Some answer) front here h = λ live is_first. subst (λ (e : Effect). Gives e answer before after)
+      (sym (effect_there words live is_first before front here)) (h live is_first)
