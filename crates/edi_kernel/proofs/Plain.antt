@@ -1,5 +1,5 @@
 -- One plain instruction of the code, and many, are steps of the definition, whatever processes live and whatever the system is.
-use Rattle.std.proofs.Common.{◌≡◌, ℕ, zero, suc, ◌-◌, ◌<◌, Bool, true, false, List, Option, Some, None, refl, sym, ap, subst, ◌∙◌, arith}
+use Rattle.std.proofs.Common.{◌≡◌, ℕ, zero, suc, ◌-◌, Bool, true, false, List, Option, Some, None, refl, sym, ap, subst, ◌∙◌}
 use Rattle.edi_told.specs.Told.{WhereTold}
 use Rattle.edi_told.proofs.Told.{WhereTold-map}
 use Rattle.edi_calls.specs.State.{State}
@@ -7,12 +7,11 @@ use Rattle.edi_calls.specs.declared.kinds.Cause.{Cause}
 use Rattle.edi_target.specs.Effect.{Local, Effect, goes, released, asks, due, fails, bad}
 use Rattle.edi_target.specs.Mach.{Running}
 use Rattle.edi_machine.specs.declared.activity.Activity.{Activity}
-use Rattle.edi_machine.specs.declared.ends.TurnKind.{TurnKind}
 use Rattle.edi_machine.specs.declared.ends.TurnKind.TheVariants as kind
 use Rattle.edi_machine.specs.declared.ends.StepEnd.{StepEnd}
 use Rattle.edi_machine.specs.declared.ends.StepEnd.TheVariants as end
 use Rattle.edi_machine.specs.Activities.{local_of}
-use Rattle.edi_machine.specs.Plain.{may_take}
+use Rattle.edi_machine.specs.Plain.{may_be_due}
 use Rattle.edi_machine.specs.Steps.{Gives, Takes, effect_of}
 use Rattle.edi_machine.proofs.Commonly.{gives_takes, keeps_itself}
 use Rattle.edi_machine.proofs.Telling.{fork_of_step, held_of_step, phase_of_step}
@@ -25,18 +24,10 @@ use Rattle.edi_kernel.specs.Stretch.{Stretches}
 use Rattle.edi_kernel.proofs.Phases.{notes, stays_in}
 use Rattle.edi_kernel.proofs.Steps.{falls_are, steps_are}
 
--- a turn that a plain instruction may take
-goes_by_loop : (left : ℕ) → may_take left kind.Loop ≡ true → pause_of (end.Turn kind.Loop) left ≡ None
-goes_by_loop zero may = absurd (cc)
-goes_by_loop (suc n) may = refl
-
-pauses_by_arrival : (left : ℕ) → may_take left kind.Arrive ≡ true → pause_of (end.Turn kind.Arrive) left ≡ Some (pause.At kind.Arrive)
+-- an arrival where a turn is left
+pauses_by_arrival : (left : ℕ) → may_be_due left kind.Arrive ≡ true → pause_of (end.Turn kind.Arrive) left ≡ Some (pause.At kind.Arrive)
 pauses_by_arrival zero may = absurd (cc)
 pauses_by_arrival (suc n) may = refl
-
-pub is_left : (k : TurnKind) (left : ℕ) → may_take left k ≡ true → left - 1 < left
-is_left k zero may = absurd (cc)
-is_left k (suc n) may = omega arith
 
 module _ (words memory new_memory : List ℕ) (a b : Activity) (p : Progress) where
   abbrev Given : StepEnd → Type 0
@@ -65,13 +56,7 @@ module _ (words memory new_memory : List ℕ) (a b : Activity) (p : Progress) wh
         (running_in new_memory b s p.left) (cleared_in (with_activity p b))
     one_on given = one end.On given
 
-    pub one_loop : may_take p.left kind.Loop ≡ true → Given (end.Turn kind.Loop) → (live : ℕ) (is_first : Bool) (s : State) →
-        OneStep words live is_first (running_in memory a s p.left) (cleared_in (with_activity p a)) None (running_in new_memory b s (p.left - 1)) true
-    one_loop may given live is_first s =
-        subst (λ (r : Option Pause). OneStep words live is_first (running_in memory a s p.left) (cleared_in (with_activity p a)) r
-        (running_in new_memory b s (p.left - 1)) (cleared_of r true p.phase b.held)) (goes_by_loop p.left may) (one (end.Turn kind.Loop) given live is_first s)
-
-    pub one_arrival : may_take p.left kind.Arrive ≡ true → Given (end.Turn kind.Arrive) → (c : Bool)
+    pub one_arrival : may_be_due p.left kind.Arrive ≡ true → Given (end.Turn kind.Arrive) → (c : Bool)
         → c ≡ noted_after (end.Turn kind.Arrive) p.cleared p.phase a.held → (live : ℕ) (is_first : Bool) (s : State) →
         OneStep words live is_first (running_in memory a s p.left) (cleared_in (with_activity p a)) (Some (pause.At kind.Arrive))
         (running_in new_memory b s (p.left - 1)) c
@@ -99,9 +84,6 @@ module _ (words memory new_memory : List ℕ) (a b : Activity) (p : Progress) wh
 
   pub on_falls : Given end.On → Falls None words p.left a.pc p.left b.pc
   on_falls given = falls end.On given p.left refl refl
-
-  pub loop_falls : may_take p.left kind.Loop ≡ true → Given (end.Turn kind.Loop) → Falls None words p.left a.pc (p.left - 1) b.pc
-  loop_falls may given = falls (end.Turn kind.Loop) given (p.left - 1) (goes_by_loop p.left may) refl
 
 -- ---- an instruction that fails or is refused changes nothing
 

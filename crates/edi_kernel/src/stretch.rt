@@ -1,4 +1,8 @@
-//! What a taken process does until it gives way.
+//! What a taken process does until it gives way: the interpreter's loop.
+//!
+//! It goes round two paths. On the fast one `go_plainly` executes plain instructions one after another, with the activity in registers. On
+//! the slow one `instruct` executes one instruction, whatever it is, by `step`: one that is not plain, one that fails or is refused, one
+//! whose turn is due where none is left, and one in the last two words of a code. Only there a run ends or the system is called.
 
 ghost use Rattle.std.specs.Prelude.{◌≡◌, ◌+◌, ◌-◌, ◌*◌, ◌<◌, ◌≤◌, ◌^◌, ℕ, Bool, None, Some, true, false, length};
 ghost use Rattle.edi_told.specs.Told.{WhereTold};
@@ -45,14 +49,14 @@ pub(crate) enum Pause {
     Over(Ending),
 }
 
-/// What has come of the next instruction, where only a plain one is executed.
+/// What has come of the next instruction on the fast path.
 #[derive(Clone, Copy)]
 pub(crate) enum Plain {
     /// The process goes on.
     On,
     /// The process has arrived at a `when`.
     Arrived,
-    /// Nothing was done.
+    /// Nothing was done: the instruction is no plain one, no turn is left for it, or it fails or is refused. The slow path executes it.
     Other,
 }
 
@@ -196,7 +200,8 @@ fn instruct<C: Calls>(
     pause
 }
 
-/// Executes the next instruction of this activity, which goes on apart from the rest of its progress, where it is a plain one.
+/// Executes the next instruction of this activity where it is a plain one. The activity goes on apart: that of the progress is the one from
+/// before, and is not read.
 #[inline(always)]
 fn instruct_plainly(
     store: &mut Store,
@@ -231,6 +236,7 @@ fn instruct_plainly(
             progress.cleared = cleared_after(end, progress.cleared, progress.phase, held);
             Plain::Arrived
         }
+        // Nothing has changed. The slow path executes it again and ends the run, so that the loop carries no cause.
         Some(StepEnd::Fail(_, _)) => Plain::Other,
         Some(StepEnd::Bad(_)) => Plain::Other,
         None => Plain::Other,
@@ -239,9 +245,9 @@ fn instruct_plainly(
     }
 }
 
-/// Gives the activity back that went on apart. It is in the same frame, which is not written.
+/// Gives the activity back that went on apart. Its base, end and segment are those from before, so these fields are not written.
 #[inline(always)]
-fn come_to(progress: &mut Progress, activity: Activity)
+fn give_back(progress: &mut Progress, activity: Activity)
     requires { IsSameFrame progress.old.activity activity }
     ensures { progress.new ≡ with_activity progress.old activity }
 {
@@ -252,8 +258,8 @@ fn come_to(progress: &mut Progress, activity: Activity)
 
 /// Executes plain instructions as long as the process goes on by them. Tells whether it has arrived at a `when`.
 ///
-/// Nearly all instructions are executed here. The activity goes on apart from the rest and is lent to no function that is not inlined, so
-/// that it stays in registers, and no other value needs one.
+/// Most instructions are executed here. The activity goes on in a copy, which is lent to no function that is not inlined and so may stay in
+/// registers; the turns and the marks change seldom and stay in memory.
 #[inline(never)]
 fn go_plainly(store: &mut Store, progress: &mut Progress, words: &[u16]) -> bool
     requires size { length words.now < 2 ^ 32 }
@@ -262,7 +268,7 @@ fn go_plainly(store: &mut Store, progress: &mut Progress, words: &[u16]) -> bool
     ensures goes { result ≡ false → (live : ℕ) (first : Bool) (s : State) →
         Reaches words.now live first (running_in store.old progress.old.activity s progress.old.left) (cleared_in progress.old)
         (running_in store.new progress.new.activity s progress.new.left) (cleared_in progress.new) }
-    ensures arrives { result ≡ true → (live : ℕ) (first : Bool) (s : State) →
+    ensures pauses { result ≡ true → (live : ℕ) (first : Bool) (s : State) →
         Stretches words.now live first (running_in store.old progress.old.activity s progress.old.left) (cleared_in progress.old)
         (Pause.At TurnKind.Arrive) (running_in store.new progress.new.activity s progress.new.left) progress.new.cleared }
     ensures phase { result ≡ false → IsInPhase progress.new }
@@ -278,11 +284,11 @@ fn go_plainly(store: &mut Store, progress: &mut Progress, words: &[u16]) -> bool
         match instruct_plainly(store, &mut here, progress, words) {
             Plain::On => (),
             Plain::Arrived => {
-                come_to(progress, here);
+                give_back(progress, here);
                 return true;
             }
             Plain::Other => {
-                come_to(progress, here);
+                give_back(progress, here);
                 return false;
             }
         }

@@ -194,6 +194,7 @@ impl Table {
         requires homeless { home_of self.old.lists slot ≡ None }
         ensures { PutsProcess 0 slot (at_its_when (process_at self.old slot) activity.now) self.old self.new }
     {
+        // Written in place: a process that is put together first is copied.
         let process = &mut self.processes[slot];
         process.standing = Standing::AtWhen;
         process.activity = *activity;

@@ -21,7 +21,7 @@ rare_numbers = 2 ∷ 3 ∷ 22 ∷ 23 ∷ 24 ∷ 25 ∷ 26 ∷ 35 ∷ 36 ∷ 38 �
 abbrev pub is_rare : ℕ → Bool
 is_rare number = list_any (nat_eq number) rare_numbers
 
--- the numbers of the plain instructions
+-- the numbers of the plain instructions, which are executed most often and stay in their frame
 abbrev pub plain_numbers : List ℕ
 plain_numbers =
     1 ∷ 4 ∷ 5 ∷ 6 ∷ 7 ∷ 8 ∷ 9 ∷ 10 ∷ 11 ∷ 12 ∷ 13 ∷ 14 ∷ 15 ∷ 16 ∷ 17 ∷ 18 ∷ 19 ∷ 20 ∷ 21 ∷ 27 ∷ 28 ∷ 29 ∷ 30 ∷ 31 ∷ 32 ∷ 39 ∷ 41 ∷ []

@@ -1,5 +1,4 @@
--- Words of contracts. What a plain instruction does: its process stays in its frame, and of the turns it takes only those of a loop's end and
--- of a `when`.
+-- Words of contracts. How a plain instruction ends: its process stays in its frame, and no turn is due but that of a loop's end or of a `when`.
 use Rattle.std.specs.Prelude.{◌≡◌, ℕ, zero, suc, Bool, true, false}
 use Rattle.edi_machine.specs.declared.activity.Activity.{Activity}
 use Rattle.edi_machine.specs.declared.ends.TurnKind.{TurnKind}
@@ -7,16 +6,16 @@ use Rattle.edi_machine.specs.declared.ends.TurnKind.TheVariants as kind
 use Rattle.edi_machine.specs.declared.ends.StepEnd.{StepEnd}
 use Rattle.edi_machine.specs.declared.ends.StepEnd.TheVariants as end
 
--- the turns that a plain instruction may take where so many are left
-abbrev pub may_take : (turns_left : ℕ) → TurnKind → Bool
-may_take zero k = false
-may_take (suc n) kind.Loop = true
-may_take (suc n) kind.Arrive = true
-may_take (suc n) k = false
+-- the turns that may be due after a plain instruction where so many are left
+abbrev pub may_be_due : (turns_left : ℕ) → TurnKind → Bool
+may_be_due zero k = false
+may_be_due (suc n) kind.Loop = true
+may_be_due (suc n) kind.Arrive = true
+may_be_due (suc n) k = false
 
 -- how it may end
 abbrev pub is_plain : (turns_left : ℕ) → StepEnd → Bool
-is_plain turns_left (end.Turn k) = may_take turns_left k
+is_plain turns_left (end.Turn k) = may_be_due turns_left k
 is_plain turns_left end.Fault = false
 is_plain turns_left answer = true
 

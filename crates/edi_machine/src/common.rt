@@ -1,6 +1,6 @@
-//! The common instructions, each read, tested and executed at once by its number.
+//! Any one instruction by its number: the plain ones and the rare ones are handed on; CALL, RETURN and QUIET are executed here.
 
-ghost use Rattle.std.specs.Prelude.{◌≡◌, ◌+◌, ◌<◌, ◌≤◌, ◌^◌, ◌∷◌, None, drop, take, length, MatchOption};
+ghost use Rattle.std.specs.Prelude.{◌≡◌, ◌+◌, ◌<◌, ◌≤◌, ◌^◌, ◌∷◌, None, drop, length};
 ghost use Rattle.edi_target.specs.Effect.{Local};
 ghost use Rattle.edi_machine.specs.Activities.{IsOrdered, local_of};
 ghost use Rattle.edi_machine.specs.Numbers.{effect_by};
@@ -16,19 +16,7 @@ use crate::rare::execute_rare;
 use edi_calls::Calls;
 use edi_store::Store;
 
-// All of them, taken from the words themselves too.
-#[inline(always)]
-fn rest_of<'a>(words: &'a [u16], at: u32, operands: &[u16]) -> &'a [u16]
-    requires here { operands.now ≡ drop (at + 1) words.now }
-    ensures { result.now ≡ operands.now }
-{
-    match words.get(at as usize + 1..) {
-        Some(rest) => rest,
-        None => &words[0..0],
-    }
-}
-
-// Executes the instruction of this number and these operands: a common one here, and each other in one function for all of them.
+// Executes the instruction of this number and these operands.
 #[tactic(auto, using(crate::proofs::Commonly::asks_nothing))]
 #[inline(always)]
 fn execute_by<C: Calls>(
@@ -53,8 +41,11 @@ fn execute_by<C: Calls>(
     ensures ordered { IsOrdered activity.new }
 {
     let at = activity.pc;
-    let turns = 1;
-    if let Some(end) = execute_plain::<false>(store, activity, words, number, operands, &turns) {
+    // A step tells that a turn is due, whether or not one is left.
+    let some_left = 1;
+    if let Some(end) = execute_plain::<false>(
+        store, activity, words, number, operands, &some_left,
+    ) {
         return end;
     }
     match number {
@@ -91,10 +82,9 @@ fn execute_by<C: Calls>(
             ),
             None => StepEnd::Bad(at)
         },
-        2 | 3 | 22 | 23 | 24 | 25 | 26 | 35 | 36 | 38 | 40 | 42 | 43 => {
-            let rest = rest_of(words, at, operands);
-            execute_rare(store, activity, words, live, first, number, rest, calls)
-        }
+        2 | 3 | 22 | 23 | 24 | 25 | 26 | 35 | 36 | 38 | 40 | 42 | 43 => execute_rare(
+            store, activity, words, live, first, number, operands, calls,
+        ),
         0 | 33 => StepEnd::Bad(at),
         // The plain ones are executed above.
         1

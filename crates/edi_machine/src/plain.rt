@@ -1,5 +1,5 @@
-//! The plain instructions: each reads, tests and executes itself at once by its number, and none needs the code, the other processes or
-//! the system.
+//! The plain instructions: those that are executed most often, but for CALL and RETURN. Their process stays in its frame, and they make no
+//! system call. Each is read, tested and executed at once by its number.
 
 ghost use Rattle.std.specs.Prelude.{◌≡◌, ◌+◌, ◌<◌, ◌≤◌, ◌^◌, ◌∷◌, ⊤, ℕ, Bool, None, false, drop, take, length, MatchOption};
 ghost use Rattle.edi_store.specs.Memory.{IsMemory};
@@ -19,7 +19,7 @@ use crate::{jumps, processes};
 use edi_store::Store;
 
 // The first `count` of these operands, which stand behind `at`, if there are so many. They are taken from the words themselves, so that each
-// instruction asks once for its own, and the slice of all operands, which only the rare instructions need, is made for no other.
+// instruction asks once for its own, and the slice of all operands, which only the contract needs, is never made.
 #[tactic(auto, using(crate::proofs::Commonly::none_there))]
 #[inline(always)]
 fn operands_of<'a>(words: &'a [u16], at: u32, count: usize, operands: &[u16]) -> Option<&'a [u16]>
@@ -46,7 +46,7 @@ fn one_of(words: &[u16], at: u32, operands: &[u16]) -> Option<u16>
     Some(front[0])
 }
 
-// The first two, if there are two.
+/// The first two, if there are two.
 #[tactic(auto, using(crate::proofs::Commonly::two_there))]
 #[inline(always)]
 pub fn two_of(words: &[u16], at: u32, operands: &[u16]) -> Option<(u16, u16)>
@@ -68,7 +68,7 @@ fn three_of(words: &[u16], at: u32, operands: &[u16]) -> Option<(u16, u16, u16)>
     Some((front[0], front[1], front[2]))
 }
 
-// The first four, if there are four.
+/// The first four, if there are four.
 #[tactic(auto, using(crate::proofs::Commonly::four_there))]
 #[inline(always)]
 pub fn four_of(words: &[u16], at: u32, operands: &[u16]) -> Option<(u16, u16, u16, u16)>
@@ -79,11 +79,14 @@ pub fn four_of(words: &[u16], at: u32, operands: &[u16]) -> Option<(u16, u16, u1
     Some((front[0], front[1], front[2], front[3]))
 }
 
-/// Executes the instruction of this number and these operands, where it is a plain one and a turn is left for the turn that it takes.
-/// `None` tells that nothing was done. Each of its two callers has a copy of its own, by whether it is the `HOT` one: a function that is
-/// called from one place is inlined there, however large it is.
+/// Executes the instruction of this number and these operands, where it is a plain one and a turn is left for the one that is due after it.
+/// `None` tells that nothing was done.
+///
+/// Each of its two callers has a copy of its own, the one in a loop and the other: LLVM inlines a function that is called from one place,
+/// however large it is, where the compiler drops `inline(always)` from one so large. The turns are lent, so that only the instructions
+/// after which one is due look at them.
 #[tactic(auto, using(crate::proofs::Plainly::plainly_more))]
-pub fn execute_plain<const HOT: bool>(
+pub fn execute_plain<const IN_LOOP: bool>(
     store: &mut Store,
     activity: &mut Activity,
     words: &[u16],
@@ -284,9 +287,9 @@ fn execute_front_plainly(
 }
 
 /// Executes the instruction at the activity's `pc` where it is a plain one, two words of the code stand behind it, and a turn is left for
-/// the turn that it takes. `None` tells that nothing was done: `step` executes that instruction.
+/// the one that is due after it, which is not taken here. `None` tells that nothing was done: `step` executes that instruction.
 ///
-/// All that is told of a step is told of this one: what it gives, by the definition of the machine, whatever processes live.
+/// What it gives is told as for a step, whatever processes live; all else that `step` tells follows.
 #[inline(always)]
 pub fn step_plainly(
     store: &mut Store,
@@ -306,7 +309,8 @@ pub fn step_plainly(
 {
     let _was_whole = store.get(0);
     let at = activity.pc as usize;
-    // With two words behind it, no instruction but those with more operands has to ask for its own.
+    // The one test of the code's bounds for instructions of up to two operands: LLVM then drops theirs. One that begins in the last two
+    // words of a code is left to `step`.
     if words.len() < at + 3 {
         return None;
     }

@@ -43,8 +43,8 @@ fn execute_described<C: Calls>(
     call_described(store, activity, words, level, offset, line, next, calls)
 }
 
-// Executes the instruction of this number and these operands. It is never inlined, so that the path of the common instructions has
-// one place in memory for the answers of all these.
+/// Executes the instruction of this number and these operands. It is never inlined, so that the step has one place in memory for the answers
+/// of all these.
 #[tactic(auto, using(crate::proofs::Commonly::asks_nothing))]
 #[inline(never)]
 pub fn execute_rare<C: Calls>(

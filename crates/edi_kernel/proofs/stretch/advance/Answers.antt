@@ -53,4 +53,4 @@ returns-then-go_plainly-clause-exact g c =
     (λ s. running_in c.stretch.store c.stretch.progress.activity s c.stretch.progress.left)
     (λ s. running_in c.go_plainly.new.store c.go_plainly.new.progress.activity s c.go_plainly.new.progress.left)
     (cleared_in c.args.progress.now) (cleared_in c.stretch.progress) c.go_plainly.new.progress.cleared
-    _ _ c.stretch.invariant.reached (c.go_plainly.ensures.arrives c.if-go_plainly.true c.args.live c.args.first)
+    _ _ c.stretch.invariant.reached (c.go_plainly.ensures.pauses c.if-go_plainly.true c.args.live c.args.first)

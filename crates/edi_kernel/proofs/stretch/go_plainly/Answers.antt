@@ -30,12 +30,12 @@ plain-preserved c =
       );
     }
 
-pub returns-in-Arrived-clause-arrives : goal.returns-in-Arrived-clause-arrives
-returns-in-Arrived-clause-arrives c = λ is live is_first s.
+pub returns-in-Arrived-clause-pauses : goal.returns-in-Arrived-clause-pauses
+returns-in-Arrived-clause-pauses c = λ is live is_first s.
     let began = c.args.progress.now in
     let now = c.instruct_plainly.new in
     subst (λ (q : Progress). Stretches c.args.words.now live is_first (running_in c.args.store.now began.activity s began.left) (cleared_in began)
-    (pause.At kind.Arrive) (running_in now.store q.activity s q.left) q.cleared) (sym c.come_to.ensures)
+    (pause.At kind.Arrive) (running_in now.store q.activity s q.left) q.cleared) (sym c.give_back.ensures)
     (last c.args.words.now live is_first (pause.At kind.Arrive) (running_in c.args.store.now began.activity s began.left)
     (running_in c.plain.store c.plain.here s c.plain.progress.left) (running_in now.store now.activity s now.progress.left)
     (cleared_in began) (cleared_in (with_activity c.plain.progress c.plain.here)) now.progress.cleared
