@@ -1,5 +1,5 @@
 -- Behind the entry of a block: the work of its body stands in the code, and behind it the end of the block, and what was left.
-use Rattle.std.proofs.Common.{◌≡◌, ℕ, suc, ◌+◌, ◌-◌, ◌/◌, ◌%◌, ◌<◌, ◌≤◌, ◌^◌, Bool, false, List, ◌∷◌, length, get_or, Some, None, refl, sym, subst, ap, ◌∙◌}
+use Rattle.std.proofs.Common.{◌≡◌, ℕ, suc, ◌+◌, ◌-◌, ◌/◌, ◌%◌, ◌<◌, ◌≤◌, ◌^◌, Bool, false, List, [], ◌∷◌, length, get_or, Some, None, refl, sym, subst, ap, ◌∙◌}
 use Rattle.std.proofs.Common.{arith}
 use Rattle.std.specs.Prelude.{nat_lt}
 use Rattle.edi_calls.specs.Names.{Name}
@@ -25,11 +25,11 @@ use Rattle.edi_spots.specs.Located.{frame_of, Room, Links, Matches, Agrees}
 use Rattle.edi_spots.specs.Scene.{Scene, alone, base_of, Stands}
 use Rattle.edi_spots.specs.Steps.{work_at}
 use Rattle.edi_spots.proofs.Places.{start_within, roomy}
-use Rattle.edi_spots.proofs.Located.{matches_kept, matches_acts}
+use Rattle.edi_spots.proofs.Located.{Listed, procedure_listed, matches_kept, matches_acts}
 use Rattle.edi_called.proofs.Grown.{IsGrown, longer, new_frame, start_old, start_all, frame_old}
 use Rattle.edi_called.proofs.Comes.{IsCalled, inst, enough, word_before, word_new}
 use Rattle.edi_called.proofs.Entering as entering
-use Rattle.edi_called.proofs.Entering.{ws, ws_length, begins}
+use Rattle.edi_called.proofs.Entering.{no_branch, ws, ws_length, begins}
 use Rattle.edi_called.proofs.Blocks.{H, e, mem}
 
 returns_nothing : (g : Coded) (b : Block) → b.result ≡ None → return_of g.unit.types b ≡ op.return 0 0
@@ -139,6 +139,8 @@ module _ (g : Coded) (long : ValuesAreLong) (zeros : ZeroIsZeros) (s : Scene) (F
       let there : suc d ≡ length (K p) - 1 = omega (arith, deeper, longer p fr F K gr) in
       subst (Matches g lead from (K p) new_mem (body_of g.unit n (procedure_end ∷ left)) bodied.body) there
       (matches_acts g lead from (K p) new_mem B.body _ 0 (procedure_end ∷ left) bodied.body bodied.end (suc d)
+      (subst (λ (x : Frame). Listed g x.block (record { of = n; path = [] }) B.body bodied.body 0) (sym frame_is)
+      (procedure_listed g n (no_branch B.kind c.called) bodied))
       (subst (λ (x : Frame). code.AreActs g.fetched g.unit.types g.unit.blocks (entry g) x.block B.body bodied.body bodied.end) (sym frame_is) bodied.list)
       (subst (λ (x : Frame). ActsFit g.unit.types g.unit.blocks g.fits.headings x.block B.body) (sym frame_is) (g.fits.fits_blocks n c.known).statements)
       (subst (λ (x : Frame). Room g x (acts_height g.unit.types g.unit.blocks x.block B.body)) (sym frame_is) (omega (arith, enough g long zeros s F w m h n parent cells c))) (

@@ -38,7 +38,7 @@ use Rattle.edi_called.proofs.Cells.{arguments_aligned, all_words}
 use Rattle.edi_called.proofs.Comes.{IsCalled, inst, store', G, grown_by, enough, m', outer_comes}
 
 -- a called block is no branch
-no_branch : (k : BlockKind) → IsTrue (is_called k) → is_branch k ≡ false
+pub no_branch : (k : BlockKind) → IsTrue (is_called k) → is_branch k ≡ false
 no_branch kind.Program h = refl
 no_branch kind.Procedure h = refl
 no_branch kind.Function h = refl

@@ -11,3 +11,5 @@ pub mod Layers
 pub mod Entries
 pub mod Fitting
 pub mod Faultless
+pub mod AwaitLoops
+pub mod StoredLoops

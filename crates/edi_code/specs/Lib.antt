@@ -3,3 +3,4 @@ pub mod Emits
 pub mod Writable
 pub mod InScope
 pub mod Aimed
+pub mod Mapped

@@ -6,6 +6,7 @@ mod expressions;
 mod instructions;
 mod jumps;
 mod lengths;
+mod mapped;
 mod pieces;
 mod program;
 mod quiet;
@@ -14,4 +15,5 @@ mod scope;
 mod statement_lengths;
 mod statements;
 
+pub use mapped::{Mapped, generate_mapped};
 pub use program::{code_words, generate};

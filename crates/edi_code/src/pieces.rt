@@ -156,7 +156,7 @@ pub(crate) fn close_length(closing: Closing, last: bool) -> u32
 // ---- sizes
 
 // The words of a variable.
-fn slot_words(types: &TypeTable, variable: Parameter) -> u32
+pub(crate) fn slot_words(types: &TypeTable, variable: Parameter) -> u32
     ensures exact { result ≡ need.slot_words types.now variable }
     ensures small { result ≤ greatest_size }
 {

@@ -24,7 +24,11 @@ use edi_unit::{Acts, Block, BlockKind, TypeTable, Unit};
 use std::alloc::{AllocError, Global};
 
 // The address where each block begins: behind the blocks of lower numbers.
-fn block_entries(alloc: Global, types: &TypeTable, blocks: &[Block]) -> Result<Vec<u32>, AllocError>
+pub(crate) fn block_entries(
+    alloc: Global,
+    types: &TypeTable,
+    blocks: &[Block],
+) -> Result<Vec<u32>, AllocError>
     requires room { entry types.now (map block_of blocks.now) (length blocks.now) < 2 ^ 32 }
     ensures exact { IfOk result (λ entries. AreEntries types.now (map block_of blocks.now) entries.items) }
 {
@@ -71,7 +75,7 @@ fn return_of(types: &TypeTable, block: &Block) -> Op<'static>
 }
 
 // Whether a block is a branch of a `cobegin`.
-fn is_branch(kind: BlockKind) -> bool
+pub(crate) fn is_branch(kind: BlockKind) -> bool
     ensures exact { result ≡ pieces.is_branch kind }
 {
     matches!(kind, BlockKind::Branch)

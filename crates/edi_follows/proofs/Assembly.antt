@@ -129,7 +129,7 @@ module _ (g : Coded) (choices : Choices) where
           (select g.unit choices n s marks) s p others drawn next) ≡ finished ending end turns d order →
           Ends t past p others drawn ending end turns d
       tested_lands true s next quiet h q e =
-          ends_so none t past p others drawn outcome.standstill ending s.world.system end s.world.turns turns drawn d [] order refl h e
+          ends_so none t past p others drawn outcome.standstill ending s.world.system end s.world.turns turns drawn d [] order refl h.ends e
       tested_lands false s next quiet h q e = next_lands s next quiet h q e
 
     step_lands : (n : ℕ) → Main n → (t : Machine) (past : List State) (p : Name) (others marks : List Name) (drawn : ℕ) (ending : Ending) (end : Traced)

@@ -6,4 +6,6 @@ pub mod Marking
 pub mod Standstills
 pub mod Zeros
 pub mod Start
+pub mod Arrived
+pub mod Arrivals
 pub mod Whole

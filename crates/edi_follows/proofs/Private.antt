@@ -111,7 +111,7 @@ module _ (g : Coded) (outer : ℕ → Type 0) where
     of_tested : (b : Bool) (t : Machine) (past : List State) (marks : List Name) (s : Processes) (next : Next) (quiet : Bool) → Outside g t p outer →
         LandsTested g outer b t past p others marks s next → QueueAfter p others (source.went s next quiet) → (next ≡ stays → Sees s marks) →
         (n : ℕ) (u : Machine) → Onward g.fetched n t p others u → Seen p others t u
-    of_tested true t past marks s next quiet out h q later n u o = of_end t past outcome.standstill s.world.system s.world.turns h n u o
+    of_tested true t past marks s next quiet out h q later n u o = of_end t past outcome.standstill s.world.system s.world.turns h.ends n u o
     of_tested false t past marks s next quiet out h q later n u o = of_next t past marks s next quiet out h q later n u o
 
     -- the step that follows takes a turn or leaves less work

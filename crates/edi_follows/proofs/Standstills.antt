@@ -169,7 +169,7 @@ module _ (g : Coded) (claim : StepClaim g) (cohere : StepsCohere) (queues : Step
         (if b then finished outcome.standstill s.world.system s.world.turns drawn [] else selection.after_next choices
         (select g.unit choices n s marks) s p others drawn next)
         ≡ finished outcome.standstill end turns d order → StandsStill d
-    tested_stands true s next quiet h q good e = stood t past p others drawn d outcome.standstill s.world.system s.world.turns h refl (same_drawn e) r
+    tested_stands true s next quiet h q good e = stood t past p others drawn d outcome.standstill s.world.system s.world.turns h.ends refl (same_drawn e) r
     tested_stands false s next quiet h q good e = next_stands s next quiet h q good e
 
   step_stands : (n : ℕ) → Main n → (t : Machine) (past : List State) (p : Name) (others marks : List Name) (drawn : ℕ) (end : Traced) (turns d : ℕ)

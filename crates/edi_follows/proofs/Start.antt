@@ -44,7 +44,7 @@ use Rattle.edi_spots.specs.Spots.{cell_words, cells_words, Segments, address, bl
 use Rattle.edi_spots.specs.Located.{Matches}
 use Rattle.edi_spots.specs.Related.{Lives, size_in, activity, IsPlaced, Related, MayStep, Queue}
 use Rattle.edi_spots.specs.Lands.{Begins, BeginsNot, StartClaim}
-use Rattle.edi_spots.proofs.Located.{matches_acts}
+use Rattle.edi_spots.proofs.Located.{procedure_listed, matches_acts}
 use Rattle.edi_spots.proofs.Free.{slot_within}
 use Rattle.edi_spots.proofs.Rows.{part_stands, Aligned, aligned_length, aligned_count, aligned_append, row_words}
 use Rattle.edi_follows.proofs.Zeros.{Zeros, zeros_append, zeros_replicate, zeros_behind, of_program, known_right, cells_append}
@@ -323,7 +323,8 @@ module _ (g : Coded) (long : ValuesAreLong) (zeros : ZeroIsZeros) (system : Stat
 
   work_stands : Matches g true 0 (F []) m (body_of g.unit b0 (program_end ∷ [])) stands.body 0
   work_stands =
-      matches_acts g true 0 (F []) m B.body _ 0 (program_end ∷ []) stands.body stands.end 0 stands.list bf.statements (omega (arith, enough)) (
+      matches_acts g true 0 (F []) m B.body _ 0 (program_end ∷ []) stands.body stands.end 0
+      (procedure_listed g b0 no_branch stands) stands.list bf.statements (omega (arith, enough)) (
         0,
         stands.end,
         refl,

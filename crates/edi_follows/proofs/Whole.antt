@@ -21,6 +21,7 @@ use Rattle.edi_kernels.proofs.Forked.{fork_claim}
 use Rattle.edi_kernels.proofs.Leaving.{leave_claim}
 use Rattle.edi_kernels.proofs.Meaning.{steps_cohere, steps_queue}
 use Rattle.edi_follows.specs.Theorem.{SameOutcome, SameMoments, CodeIsPrivate}
+use Rattle.edi_follows.specs.Arrivals.{CodeArrivesAsMeant}
 use Rattle.edi_follows.proofs.Coding as coding
 use Rattle.edi_follows.proofs.Start.{start_claim}
 
@@ -54,3 +55,6 @@ same_moments = coding.same_moments steps starts steps_cohere steps_queue
 
 pub code_private : CodeIsPrivate
 code_private = coding.code_is_private steps starts steps_cohere steps_queue
+
+pub arrives_as_meant : CodeArrivesAsMeant
+arrives_as_meant = coding.code_arrives_as_meant steps starts steps_cohere steps_queue

@@ -12,6 +12,7 @@ ghost use Rattle.edi_follows.specs.Theorem.{
   SameMoments,
   SameOutcome,
 };
+ghost use Rattle.edi_follows.specs.Arrivals.{CodeArrivesAsMeant};
 
 /// Where an execution of the program ends so (the ending with its line, the system, the turns that are left, the choices
 /// drawn), the run of its code ends just so, and the states of the system behind each of its answered calls are, one by one,
@@ -45,4 +46,11 @@ pub fn code_stands_by_marks()
 /// no word of the memory has changed that is none of the process's own: its segment, and the frames of its ancestors.
 pub fn code_is_private()
     ensures law { CodeIsPrivate }
+{}
+
+/// Where an execution of the program ends, the run of its code ends, and up to there it has arrived at `when`s exactly where the
+/// execution has, one arrival after another: each after as many turns, at the address of that `when`, and with the words of the
+/// variables in the memory where the frames say.
+pub fn code_arrives_as_meant()
+    ensures law { CodeArrivesAsMeant }
 {}

@@ -241,6 +241,7 @@ module _ (words : List ℕ) (old mid new : KernelState) (slot left left1 used : 
             turns = sym (ap (λ x. x.turns) e) ∙ sym g.spent;
           },
           left_standing k b (p ∷ k.marks) r e arrival,
+          sym (ap (λ x. x.local.memory) e) ∙ sym same,
         )
         by_marks false h = (
           record {

@@ -62,7 +62,7 @@ module _ (words : List ℕ) (k new : KernelState) (left n : ℕ) (store : new.st
   goes_later (stint_end.Over used (ending.Halted line)) t m p others h = ends used (ending.Halted line) t m p others h
   goes_later (stint_end.Over used (ending.Failed cause line)) t m p others h = ends used (ending.Failed cause line) t m p others h
   goes_later (stint_end.Over used ending.Turns) t m p others h = ends used ending.Turns t m p others h
-  goes_later (stint_end.Over used ending.Standstill) t m p others h = (ends used ending.Standstill t m p others h.0, arrives h.0.machine p h.1)
+  goes_later (stint_end.Over used ending.Standstill) t m p others h = (ends used ending.Standstill t m p others h.0, arrives h.0.machine p h.1, h.2 ∙ sym store)
   goes_later (stint_end.Over used (ending.Bad at)) t m p others h = ends used (ending.Bad at) t m p others h
   goes_later (stint_end.Over used ending.Fault) t m p others h =
       record { steps = h.steps; machine = h.machine; is = h.is; fails = h.fails; turns = h.turns ∙ less used }

@@ -129,7 +129,7 @@ pub record ForksInto (p : Name) (joined : List Name) : Type 0 where
 abbrev pub GoesTo : List ℕ → StintEnd → (left : ℕ) → KernelState → State → Machine → Name → List Name → Type 0
 GoesTo words (stint_end.Over used ending.Fault) left k now m p others = BreaksOff words (left - used) now m p others
 GoesTo words (stint_end.Over used ending.Standstill) left k now m p others =
-    (h : EndsRun words (left - used) ending.Standstill k now m p others) × StandsArrived k h.machine p
+    (h : EndsRun words (left - used) ending.Standstill k now m p others) × StandsArrived k h.machine p × (h.machine.memory ≡ k.store)
 GoesTo words (stint_end.Over used e) left k now m p others = EndsRun words (left - used) e k now m p others
 GoesTo words (stint_end.Arrived used) left k now m p others =
     (h : Switches words (left - used) k now m p others) × StandsArrived k h.machine p

@@ -33,7 +33,7 @@ use Rattle.edi_spots.specs.Spots.{address, block_at, Fine, Holds, Mirrors, Typed
 use Rattle.edi_spots.specs.Located.{frame_of, IsAt, Agrees}
 use Rattle.edi_spots.specs.Related.{Lives, activity, IsPlaced}
 use Rattle.edi_spots.proofs.Places.{roomy}
-use Rattle.edi_spots.proofs.Located.{matches_acts, at_kept}
+use Rattle.edi_spots.proofs.Located.{branch_listed, matches_acts, at_kept}
 use Rattle.edi_spots.proofs.Free.{slot_within}
 use Rattle.edi_kernels.proofs.Settled.{fine_kept}
 use Rattle.edi_kernels.proofs.Moved.{SameSeg, names_with, names-with, address_moved, words_moved}
@@ -303,7 +303,8 @@ module _ (g : Coded) (p : Name) (f limit share : ℕ) (parent : Spot) (first : N
 
   new_at : IsAt g false at one_frame t'.memory source.ready q_new.work (entry g n) 0
   new_at =
-      matches_acts g false at one_frame t'.memory (block g n).body _ 0 (branch_end ∷ []) (entry g n) branch.end 0 branch.list bf.statements
+      matches_acts g false at one_frame t'.memory (block g n).body _ 0 (branch_end ∷ []) (entry g n) branch.end 0
+      (branch_listed g n (ap is_branch fit.1)) branch.list bf.statements
       (omega (arith, enough))
       (0, branch.end, refl, (branch.after, branch.exits, refl, refl))
 

@@ -238,16 +238,19 @@ again_claim g cs position true ws w outer s t p others marks k out q x of cohere
     tested : (v : Bool) → all_marked (p ∷ marks) (p ∷ others) ≡ v → LandsTested g outer v t s.world.system.past p others (p ∷ marks)
         (source.back s p (record q { work = ws; standing = at_when cs position }) w) (joins (p ∷ []))
     tested true e = record {
-      steps = there.steps;
-      before = there.machine;
-      since = h.comes_there.at.system.past;
-      passes = there.passes;
-      machine = now;
-      is = is true e;
-      adds = adds_after g outer s t p others marks k out q x (turn.again true) cs position ws w true h;
-      keeps = keeps_after g outer s t p others marks k out q x (turn.again true) cs position ws w true h (p ∷ there.machine.marks);
-      system_is = refl;
-      turns_are = refl;
+      ends = record {
+        steps = there.steps;
+        before = there.machine;
+        since = h.comes_there.at.system.past;
+        passes = there.passes;
+        machine = now;
+        is = is true e;
+        adds = adds_after g outer s t p others marks k out q x (turn.again true) cs position ws w true h;
+        keeps = keeps_after g outer s t p others marks k out q x (turn.again true) cs position ws w true h (p ∷ there.machine.marks);
+        system_is = refl;
+        turns_are = refl;
+      };
+      related = related_after g outer s t p others marks k out q x (turn.again true) cs position ws w true h (p ∷ there.machine.marks);
     }
     tested false e =
         hands_over g outer s t p others marks k out q x (turn.again true) cs position ws w true h (p ∷ there.machine.marks) (p ∷ marks) both coherent

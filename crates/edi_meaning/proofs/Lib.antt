@@ -26,3 +26,4 @@ pub mod Levels
 pub mod NeverBad
 pub mod Branching
 pub mod Someone
+pub mod Arrivals

@@ -4,6 +4,7 @@ pub mod Evaluation
 pub mod Whole
 pub mod Step
 pub mod Select
+pub mod Arrivals
 pub mod Laws
 pub mod Attempts
 pub mod Spent

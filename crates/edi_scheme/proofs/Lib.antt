@@ -11,3 +11,6 @@ pub mod Calls
 pub mod Checked
 pub mod Worded
 pub mod WordedBlocks
+pub mod Sites
+pub mod Awaits
+pub mod Apart

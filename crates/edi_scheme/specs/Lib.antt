@@ -5,6 +5,8 @@ pub mod Stands
 pub mod Lines
 pub mod Laws
 pub mod Sides
+pub mod Sites
+pub mod Awaits
 pub mod Programs
 pub mod ProcessPrograms
 pub mod Rows

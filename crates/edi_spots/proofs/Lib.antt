@@ -1,4 +1,5 @@
 pub mod Places
+pub mod Long
 pub mod Located
 pub mod Doing
 pub mod Free

@@ -5,7 +5,7 @@ use Rattle.edi_unit.specs.Tree.{Block, ProgramUnit}
 use Rattle.edi_unit.specs.Need as need
 use Rattle.edi_unit.specs.Need.{slots, slot_words, slot_type, variable_words, link_words}
 use Rattle.edi_unit.specs.Fits.{Heading, Fits}
-use Rattle.edi_target.specs.Op.{Instruction}
+use Rattle.edi_target.specs.Op.{Instruction, words_of}
 use Rattle.edi_segments.proofs.Keeping.{Allows}
 use Rattle.edi_scheme.specs.Pieces as pieces
 use Rattle.edi_scheme.specs.Code as scheme
@@ -21,6 +21,8 @@ pub record Coded : Type 0 where
   pub parts : HaveParts unit.types
   pub stands : AreBlocks fetched unit.types unit.blocks (scheme.entry unit.types unit.blocks)
   pub rises : (at : ℕ) (found : Instruction × ℕ) → fetched at ≡ Some found → at < found.1
+  -- and by the words of each instruction
+  pub long : (at : ℕ) (found : Instruction × ℕ) → fetched at ≡ Some found → found.1 ≡ at + length (words_of found.0)
   pub allows : (first last at : ℕ) → Allows first last (fetched at)
   pub low : (n : ℕ) → n < length unit.blocks → scheme.entry unit.types unit.blocks n < 2 ^ 31
 

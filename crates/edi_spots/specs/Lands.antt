@@ -80,12 +80,17 @@ module _ (g : Coded) where
       pub system_is : machine.system ≡ system.now
       pub turns_are : machine.turns ≡ turns
 
+    -- the run ends in a standstill, and the machine there agrees with what the step left
+    pub record StandsStill (t : Machine) (past : List State) (p : Name) (others : List Name) (s : Processes) : Type 0 where
+      pub ends : EndsSo t past p others outcome.standstill s.world.system s.world.turns
+      pub related : Related g s ends.machine
+
     abbrev pub LandsNext : Machine → List State → Name → List Name → List Name → Processes → Next → Type 0
     LandsNext t past p others marks s stays = StillGoes t past p others marks s
     LandsNext t past p others marks s (joins ps) = Switches t past p others marks s ps
 
     abbrev pub LandsTested : Bool → Machine → List State → Name → List Name → List Name → Processes → Next → Type 0
-    LandsTested true t past p others marks s next = EndsSo t past p others outcome.standstill s.world.system s.world.turns
+    LandsTested true t past p others marks s next = StandsStill t past p others s
     LandsTested false t past p others marks s next = LandsNext t past p others marks s next
 
     -- THE STEP LANDS: from t, and this past of the system, the machine comes to what agrees with what the step leaves

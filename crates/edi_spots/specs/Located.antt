@@ -1,15 +1,16 @@
 -- Helper. Where the work that is left to a process stands in the code, and what its frames keep for it.
 use Rattle.std.specs.Prelude.{◌≡◌, ℕ, zero, suc, ◌+◌, ◌<◌, ◌≤◌, Bool, true, false, List, [], ◌∷◌, slice_get, unwrap_or}
-use Rattle.edi_unit.specs.Tree.{while_act}
+use Rattle.edi_unit.specs.Tree.{Act, while_act, when_act, Clauses}
 use Rattle.edi_unit.specs.Need.{act_height, clauses_height}
 use Rattle.edi_unit.specs.Fits.{ActFits, ClausesFit}
 use Rattle.edi_meaning.specs.Store.{Frame, no_frame}
-use Rattle.edi_meaning.specs.Step.{Work, doing, loop_end, procedure_end, branch_end, program_entry, program_end, Standing, ready, at_when, waiting, is_quiet}
+use Rattle.edi_meaning.specs.Step.{Position, Work, doing, loop_end, procedure_end, branch_end, program_entry, program_end, Standing, ready, at_when, waiting, is_quiet}
 use Rattle.edi_target.specs.Op as op
 use Rattle.edi_target.specs.Op.{Instruction, address_of_words}
 use Rattle.edi_target.specs.Memory.{word}
 use Rattle.edi_scheme.specs.Pieces.{released, again_code}
 use Rattle.edi_scheme.specs.Stands as code
+use Rattle.edi_scheme.specs.Sites.{site, statement}
 use Rattle.edi_spots.specs.Coded.{Coded, entry, kept}
 use Rattle.edi_spots.specs.Spots.{frame_start}
 
@@ -27,6 +28,18 @@ module _ (g : Coded) where
   abbrev pub Room : Frame → ℕ → Type 0
   Room f h = kept g f.block + h ≤ f.need
 
+  -- the statement at a position, which is one of the block, stands there
+  pub record Sited (b : ℕ) (position : Position) (a : Act) (at : ℕ) : Type 0 where
+    pub of : position.of ≡ b
+    pub there : site g.unit position ≡ statement a at
+
+  -- a process that stands there stands at the `when` at this position
+  pub record IsAwaited (b : ℕ) (position : Position) (cs : Clauses) (pc : ℕ) : Type 0 where
+    pub line : ℕ
+    pub at : ℕ
+    pub sited : Sited b position (when_act cs line) at
+    pub behind : pc ≡ at + 2
+
   -- frame `suc e` keeps what the procedure's end leaves it by: the base of the frame below, the address behind the call, and
   -- where the operands of the frame below begin. The frames begin at `from`
   pub record Links (from : ℕ) (fs : List Frame) (m : List ℕ) (e back : ℕ) : Type 0 where
@@ -40,12 +53,13 @@ module _ (g : Coded) where
   Item lead from fs m (doing a position) q d rest =
       (to : ℕ) × code.IsAct g.fetched g.unit.types g.unit.blocks (entry g) (frame_of fs d).block a q to
       × ActFits g.unit.types g.unit.blocks g.fits.headings (frame_of fs d).block a
-      × Room (frame_of fs d) (act_height g.unit.types g.unit.blocks (frame_of fs d).block a) × rest to d
+      × Room (frame_of fs d) (act_height g.unit.types g.unit.blocks (frame_of fs d).block a) × Sited (frame_of fs d).block position a q × rest to d
   Item lead from fs m (loop_end cs position) q d rest =
       (top next to : ℕ) × code.InstructionStands g.fetched q (op.loop top) next
       × code.IsAct g.fetched g.unit.types g.unit.blocks (entry g) (frame_of fs d).block (while_act cs) top to
       × ClausesFit g.unit.types g.unit.blocks g.fits.headings (frame_of fs d).block cs
-      × Room (frame_of fs d) (clauses_height g.unit.types g.unit.blocks (frame_of fs d).block cs) × rest to d
+      × Room (frame_of fs d) (clauses_height g.unit.types g.unit.blocks (frame_of fs d).block cs)
+      × Sited (frame_of fs d).block position (while_act cs) top × rest to d
   Item lead from fs m procedure_end q zero rest = ⊥
   Item lead from fs m procedure_end q (suc e) rest =
       (next back : ℕ) × code.InstructionStands g.fetched q (op.return 0 0) next × Links from fs m e back × rest back e
@@ -66,6 +80,7 @@ module _ (g : Coded) where
       × code.AreInstructions g.fetched (again_code (is_quiet cs) pc) again to
       × ClausesFit g.unit.types g.unit.blocks g.fits.headings (frame_of fs d).block cs
       × Room (frame_of fs d) (clauses_height g.unit.types g.unit.blocks (frame_of fs d).block cs)
+      × IsAwaited (frame_of fs d).block position cs pc
       × Matches lead from fs m ws to d
 
   -- frames and control words are the same up to a depth

@@ -17,6 +17,8 @@ use Rattle.edi_target.specs.Memory.{word}
 use Rattle.edi_target.specs.Effect as effect
 use Rattle.edi_scheme.specs.Pieces.{ClauseKind, close_code}
 use Rattle.edi_scheme.specs.Stands as code
+use Rattle.edi_scheme.proofs.Lengths.{close_length}
+use Rattle.edi_scheme.specs.Sites.{Site, statements, nth_list}
 use Rattle.edi_worded.specs.Words.{IsTable, value_words}
 use Rattle.edi_worded.proofs.Lengths.{values_are_long}
 use Rattle.edi_operated.proofs.Alone.{truth_is_word}
@@ -29,6 +31,7 @@ use Rattle.edi_spots.specs.Instructions.{Instructed}
 use Rattle.edi_spots.proofs.Doing.{give, bind, stands_after}
 use Rattle.edi_spots.proofs.Knot.{expression_does, run_does}
 use Rattle.edi_spots.proofs.Rises.{one_up, acts_up, codes_up}
+use Rattle.edi_spots.proofs.Long.{one_long, codes_long, expression_long, acts_long}
 
 word_of_truth : (b : Bool) → nat_eq (effect.truth b) 0 ≡ not b
 word_of_truth true = refl
@@ -42,7 +45,8 @@ pub record Went (g : Coded) (s : Scene) (F : Shape) (Q : Option (Acts × ℕ) �
 module _ (g : Coded) (s : Scene) (all : Constructs g s) (i : Instructed g s) (F : Shape) (kind : ClauseKind) (target to height : ℕ)
     (Q : Option (Acts × ℕ) → ℕ → Type 0)
     (none : Q None to)
-    (some : (list : Acts) (n pc end next : ℕ) (rest : Clauses) → code.AreActs g.fetched g.unit.types g.unit.blocks (entry g) (here g s F) list pc end →
+    (place : ℕ → Site)
+    (some : (list : Acts) (n pc end next : ℕ) (rest : Clauses) → place n ≡ statements list pc → code.AreActs g.fetched g.unit.types g.unit.blocks (entry g) (here g s F) list pc end →
     code.AreInstructions g.fetched (close_code kind target rest) end next →
     code.AreClauses g.fetched g.unit.types g.unit.blocks (entry g) (here g s F) kind target rest next to →
     ActsFit g.unit.types g.unit.blocks g.fits.headings (here g s F) list →
@@ -89,23 +93,48 @@ module _ (g : Coded) (s : Scene) (all : Constructs g s) (i : Instructed g s) (F 
       give g s F pc' top' base 0 u m' (Tested at) (is_true v) (stands_after g s F w u m m' base c able.stands after) le within
       (tested (expression_type g.unit.types g.unit.blocks (here g s F) e) at v m' pc' top' fits.0 post))
 
+  -- the clauses from number n on stand where they are to stand
+  abbrev pub Placed : Clauses → (n pc : ℕ) → Type 0
+  Placed cs n pc = (k j : ℕ) → j ≡ n + k → place j ≡ nth_list g.unit.types g.unit.blocks (here g s F) kind cs pc k
+
+  -- the list of the first, and the clauses behind it
+  first_placed : (e : Expression) (list : Acts) (cs : Clauses) (n pc end next : ℕ) → Placed (tree.clause_then (tree.clause e list) cs) n pc →
+      (c : code.IsClause g.fetched g.unit.types g.unit.blocks (entry g) (here g s F) (tree.clause e list) next pc end) → place n ≡ statements list c.1
+  first_placed e list cs n pc end next h c =
+      h 0 n (omega arith)
+      ∙ ap (statements list) (omega (arith, expression_long g (here g s F) e pc c.0 c.2, one_long g c.0 (op.false_ next) c.1 c.3))
+
+  rest_placed : (e : Expression) (list : Acts) (cs : Clauses) (n pc end next : ℕ) → Placed (tree.clause_then (tree.clause e list) cs) n pc →
+      code.IsClause g.fetched g.unit.types g.unit.blocks (entry g) (here g s F) (tree.clause e list) next pc end →
+      code.AreInstructions g.fetched (close_code kind target cs) end next → Placed cs (suc n) next
+  rest_placed e list cs n pc end next h c close k j is =
+      h (suc k) j (omega (arith, is))
+      ∙ ap (λ x. nth_list g.unit.types g.unit.blocks (here g s F) kind cs x k) (omega (
+        arith,
+        expression_long g (here g s F) e pc c.0 c.2,
+        one_long g c.0 (op.false_ next) c.1 c.3,
+        acts_long g (here g s F) list c.1 end c.4,
+        codes_long g (close_code kind target cs) end next close,
+        (close_length kind target cs).is,
+      ))
+
   -- the clauses, numbered from n
-  pub choice_does : (cs : Clauses) (n pc : ℕ) (w : World) (m : List ℕ) →
+  pub choice_does : (cs : Clauses) (n pc : ℕ) (w : World) (m : List ℕ) → Placed cs n pc →
       code.AreClauses g.fetched g.unit.types g.unit.blocks (entry g) (here g s F) kind target cs pc to →
       ClausesFit g.unit.types g.unit.blocks g.fits.headings (here g s F) cs →
       clauses_height g.unit.types g.unit.blocks (here g s F) cs ≤ height →
       Able g s F w m base (clauses_height g.unit.types g.unit.blocks (here g s F) cs) 0 →
       Does g s F pc base base 0 w m (Went g s F Q) (chosen g.unit s.name (s.size s.name) cs n w)
-  choice_does tree.no_clause n pc w m st fits fit able =
+  choice_does tree.no_clause n pc w m placed st fits fit able =
       give g s F pc base base 0 w m (Went g s F Q) None able.stands (omega arith) (omega (arith, able.high))
       (record { top_is = refl; so = subst (Q None) (sym st) none })
-  choice_does (tree.clause_then (tree.clause e list) cs) n pc w m st fits fit able =
+  choice_does (tree.clause_then (tree.clause e list) cs) n pc w m placed st fits fit able =
       bind g s F pc base base 0 w m (Tested st.2.0) (Went g s F Q) (whole_condition g.unit s.name (s.size s.name) e w)
       (λ holds u. if holds then gives (Some (list, n)) u else chosen g.unit s.name (s.size s.name) cs (suc n) u)
       (condition e pc st.2.0 w m st.2.2 (fits.0.0, fits.0.1)
       (i.able_above F w m base _ base (expression_height g.unit.types g.unit.blocks (here g s F) e) 0 able (omega arith) (omega arith)))
       (λ holds u m' pc' top' c le within after post. tests holds u m' pc' top' c after post
-      (choice_does cs (suc n) st.1 u m' st.4 fits.1 (omega (arith, fit))
+      (choice_does cs (suc n) st.1 u m' (rest_placed e list cs n pc st.0 st.1 placed st.2 st.3) st.4 fits.1 (omega (arith, fit))
       (i.able_then F w u m m' base _ base (clauses_height g.unit.types g.unit.blocks (here g s F) cs) base 0 c able after (omega arith) (omega arith))))
     where
       tests : (holds : Bool) (u : World) (m' : List ℕ) (pc' top' : ℕ) (c : Bool) → After g s F w u m m' base c → Tested st.2.0 holds m' pc' top' →
@@ -135,5 +164,5 @@ module _ (g : Coded) (s : Scene) (all : Constructs g s) (i : Instructed g s) (F 
           both true rest =
               give g s F st.2.1 base base 0 u m' (Went g s F Q) (Some (list, n)) (stands_after g s F w u m m' base c able.stands after) (omega arith)
               (omega (arith, able.high))
-              (record { top_is = refl; so = some list n st.2.1 st.0 st.1 cs st.2.4 st.3 st.4 fits.0.2 (omega (arith, fit)) })
+              (record { top_is = refl; so = some list n st.2.1 st.0 st.1 cs (first_placed e list cs n pc st.0 st.1 placed st.2) st.2.4 st.3 st.4 fits.0.2 (omega (arith, fit)) })
           both false rest = rest

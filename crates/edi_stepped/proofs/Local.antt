@@ -30,6 +30,7 @@ use Rattle.edi_spots.specs.Follows.{Stretch, Follows, resting, matches}
 use Rattle.edi_spots.specs.Related.{Related}
 use Rattle.edi_spots.specs.Lands.{Stepping, scene}
 use Rattle.edi_spots.proofs.Places.{start_later, control_other, roomy}
+use Rattle.edi_spots.proofs.Long.{one_long}
 use Rattle.edi_spots.proofs.Located.{matches_kept}
 use Rattle.edi_spots.proofs.Doing.{moves_goes, gets_none, gets_one, gets_then, stops_then, give, stops_by, stops_fails, moves_by, comes_by}
 use Rattle.edi_spots.proofs.Free.{now_ends}
@@ -166,7 +167,7 @@ module _ (g : Coded) (s : Processes) (t : Machine) (p : Name) (q : Process) (x :
   assign_step claim v e position ws pc h =
       goes_on ws pc h.1 h.3.0 h.0 _ h.2
       (claim v e F h.1 h.3.0 base 0 s.world t.memory (omega arith) h.3.1 h.3.2
-      (able _ 0 h.3.3 (omega arith))) h.3.4
+      (able _ 0 h.3.3 (omega arith))) h.3.5
 
   -- ---- the pieces of work that are one instruction, or none
 
@@ -218,7 +219,7 @@ module _ (g : Coded) (s : Processes) (t : Machine) (p : Name) (q : Process) (x :
       Follows g sc s.world.store t.memory (at_pc pc) (work_step g.unit p (sc.size p) (doing tree.skip position ∷ ws) s.world)
   skip_step position ws pc h =
       goes_on ws pc h.1 h.3.0 h.0 (gives tt s.world) h.2
-      (give g sc F h.1 base base 0 s.world t.memory (Ran g sc h.3.0 base) tt stands (omega arith) within (record { pc_is = h.3.1; top_is = refl })) h.3.4
+      (give g sc F h.1 base base 0 s.world t.memory (Ran g sc h.3.0 base) tt stands (omega arith) within (record { pc_is = h.3.1; top_is = refl })) h.3.5
     where
       within : base ≤ frames_end sc.first F p
       within = omega (
@@ -257,7 +258,16 @@ module _ (g : Coded) (s : Processes) (t : Machine) (p : Name) (q : Process) (x :
             (ap (λ k. target.turn_from k turn.arriving (at_pc h.3.1.0).local (plain (at_pc h.1))) e) refl (λ a o. refl);
         still = λ z. refl;
         stretch = still n (omega (arith, e));
-        at = (h.3.1.1, h.3.0, h.3.1.3, h.3.1.4, h.3.2, h.3.3, h.3.4);
+        at = (
+          h.3.1.1,
+          h.3.0,
+          h.3.1.3,
+          h.3.1.4,
+          h.3.2,
+          h.3.3,
+          record { line = line; at = h.1; sited = h.3.4; behind = one_long g h.1 (op.when line) h.3.1.0 h.3.1.2 },
+          h.3.5,
+        );
       }
 
   pub cobegin_step : (bs : List ℕ) (line : ℕ) (position : Position) (ws : List Work) (pc : ℕ) → work_here (doing (tree.cobegin bs line) position ∷ ws) pc →
@@ -270,7 +280,7 @@ module _ (g : Coded) (s : Processes) (t : Machine) (p : Name) (q : Process) (x :
     gets_there = hops_get h.0 pc h.1 base 0 s.world t.memory h.2;
     stands = h.3.1;
     stretch = still s.world.turns (omega arith);
-    at = h.3.4;
+    at = h.3.5;
     some = h.3.2.0;
     fit = h.3.2.2;
   }
@@ -300,7 +310,7 @@ module _ (g : Coded) (s : Processes) (t : Machine) (p : Name) (q : Process) (x :
                 (moves_by g.fetched (length t.activities) (is_first p) (Outer sc) (at_pc h.1) there (due turn.looping (at_pc h.3.0).local) true is
                 (ap (λ k. onward (target.turn_from k turn.looping (at_pc h.3.0).local (plain (at_pc h.1)))) e) refl (λ a o. refl)));
             stretch = still n (omega (arith, e));
-            at = (0, h.3.0, refl, (h.3.2, h.3.4, h.3.5, h.3.6, h.3.7));
+            at = (0, h.3.0, refl, (h.3.2, h.3.4, h.3.5, h.3.6, h.3.7, h.3.8));
           }
 
   -- a process in its first frame is where its segment begins

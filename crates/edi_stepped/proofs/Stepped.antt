@@ -22,6 +22,7 @@ use Rattle.edi_target.specs.Moments.{news_of_effect}
 use Rattle.edi_scheme.specs.Code.{call_code}
 use Rattle.edi_scheme.specs.Stands as code
 use Rattle.edi_scheme.specs.Pieces.{ClauseKind, once, repeated, close_code, released, again_code}
+use Rattle.edi_scheme.specs.Sites.{Site, statements, into, nth_list, site}
 use Rattle.edi_spots.specs.Coded.{Coded, entry}
 use Rattle.edi_spots.specs.Located.{Matches, IsAt, frame_of, Hops, Room}
 use Rattle.edi_spots.specs.Walks.{Walker, Gets, plain, Moves, Adds}
@@ -35,7 +36,7 @@ use Rattle.edi_spots.specs.Related.{no_process, standing_of, Related}
 use Rattle.edi_spots.specs.Lands.{Stepping, taken_as, pc_of, LocalClaim}
 use Rattle.edi_spots.specs.Spots.{bottom}
 use Rattle.edi_spots.proofs.Doing.{gets_then, stops_then, stands_after, moves_by, gets_one}
-use Rattle.edi_spots.proofs.Located.{matches_kept, matches_acts, matches_jump, at_kept}
+use Rattle.edi_spots.proofs.Located.{Listed, listed_from, led_on, matches_kept, matches_acts, matches_jump, at_kept}
 use Rattle.edi_spots.proofs.Rises.{clauses_rise, one_up, clauses_up}
 use Rattle.edi_spots.proofs.Knot.{arguments_do, assign_does, first_does, run_does}
 use Rattle.edi_stepped.proofs.Local.{sc, F, d, base, stands, able, agrees, hops_get, assign_step, now_shape, stretched, rest_matches, skip_step, halt_step}
@@ -122,7 +123,7 @@ module _ (g : Coded) (s : Processes) (t : Machine) (p : Name) (q : Process) (x :
           gets_there = subst (λ z. getting start z (y.cleared || true)) (rests y.memory y.cleared w y.after so.2.0 y.up y.post.top_is) there;
           stretch = stretched g s t p q x r w y.memory y.cleared y.after;
           at = matches_jump g (is_first p) (r.first p) (shape w.store p) y.memory ws so.2.0 h.1 so.1 (length (shape w.store p) - 1) so.2.2 ahead
-              (rest_matches g s t p q x r w y.memory y.cleared y.after ws h.1 h.6);
+              (rest_matches g s t p q x r w y.memory y.cleared y.after ws h.1 h.7);
         }
       where
         up : h.0 < h.1
@@ -238,7 +239,7 @@ module _ (g : Coded) (s : Processes) (t : Machine) (p : Name) (q : Process) (x :
           (sym y.is.post.pc_is) h.3.1.2)
           h.3.2.0 h.3.2.1 (stands_after g S G s.world v m y.is.memory low y.is.cleared (stands g s t p q x r) y.is.after)
           (record { pc_is = refl; top_is = refl; words = y.is.post.words; cells_fit = y.is.post.cells_fit })
-          (matches_kept g (is_first p) (r.first p) (G p) (G p) m y.is.memory ws h.3.0 depth (agrees g s t p q x r v y.is.memory y.is.cleared y.is.after) h.3.4)
+          (matches_kept g (is_first p) (r.first p) (G p) (G p) m y.is.memory ws h.3.0 depth (agrees g s t p q x r v y.is.memory y.is.cleared y.is.after) h.3.5)
           (subst (λ top. Gets g.fetched (length t.activities) (is_first p) (Outer S) (at_pc pc) (alone S G y.is.memory y.is.to top 0 v)
           (false || y.is.cleared)) y.is.post.top_is
           (gets_then g.fetched (length t.activities) (is_first p) (Outer S) (at_pc pc) (at_pc h.1)
@@ -251,6 +252,17 @@ module _ (g : Coded) (s : Processes) (t : Machine) (p : Name) (q : Process) (x :
   -- what is chosen comes first
   module _ (position : Position) (after ws : List Work) (kind : ClauseKind) (target to : ℕ) (cs : Clauses)
       (room : Room g (frame_of (G p) depth) (clauses_height g.unit.types g.unit.blocks (here g S G) cs)) where
+    -- where clause k of the statement stands
+    abbrev place : ℕ → Site
+    place k = into g.unit.types g.unit.blocks (here g S G) (site g.unit position) k
+
+    numbered : (k j : ℕ) → j ≡ 0 + k → j ≡ k
+    numbered k j is = omega (arith, is)
+
+    listed : position.of ≡ here g S G → (list : Acts) (k pc : ℕ) → place k ≡ statements list pc → Listed g (here g S G) (inside position k) list pc 0
+    listed of list k pc there = listed_from g (here g S G) (inside position k) list pc of
+        (led_on g position k ∙ ap (λ c. into g.unit.types g.unit.blocks c (site g.unit position) k) of ∙ there)
+
     abbrev Chosen : Option (Acts × ℕ) → ℕ → Type 0
     Chosen c pc = work_here (with_chosen position c after ws) pc
 
@@ -277,34 +289,37 @@ module _ (g : Coded) (s : Processes) (t : Machine) (p : Name) (q : Process) (x :
         (hops_get g s t p q x r n pc at low 0 s.world m hops) h.is)
 
     chosen_step : (n pc at : ℕ) → Hops g n pc at → code.AreClauses g.fetched g.unit.types g.unit.blocks (entry g) (here g S G) kind target cs at to →
-        ClausesFit g.unit.types g.unit.blocks g.fits.headings (here g S G) cs → work_here ws to →
+        ClausesFit g.unit.types g.unit.blocks g.fits.headings (here g S G) cs → work_here ws to → position.of ≡ here g S G →
+        ((k : ℕ) → place k ≡ nth_list g.unit.types g.unit.blocks (here g S G) kind cs at k) →
         ((rest : Clauses) (end next : ℕ) → code.AreInstructions g.fetched (close_code kind target rest) end next →
         code.AreClauses g.fetched g.unit.types g.unit.blocks (entry g) (here g S G) kind target rest next to → work_here (after ++ ws) end) →
         Follows g S s.world.store m (at_pc pc) (chosen g.unit p (S.size p) cs 0 s.world >>= λ c w. gives (goes (with_chosen position c after ws)) w)
-    chosen_step n pc at hops st fits rest behind =
+    chosen_step n pc at hops st fits rest of placed behind =
         goes_so (chosen g.unit p (S.size p) cs 0 s.world) n pc at hops
-        (choice_does g S all i G kind target to (clauses_height g.unit.types g.unit.blocks (here g S G) cs) Chosen rest
-        (λ list k pc end next others acts close clauses fit le.
-        matches_acts g (is_first p) (r.first p) (G p) m list (inside position k) 0 (after ++ ws) pc end depth acts fit (omega (arith, room, le))
+        (choice_does g S all i G kind target to (clauses_height g.unit.types g.unit.blocks (here g S G) cs) Chosen rest place
+        (λ list k pc end next others there acts close clauses fit le.
+        matches_acts g (is_first p) (r.first p) (G p) m list (inside position k) 0 (after ++ ws) pc end depth (listed of list k pc there) acts fit (omega (arith, room, le))
         (behind others end next close clauses))
-        cs 0 at s.world m st fits (omega arith) (able g s t p q x r _ 0 room (omega arith)))
+        cs 0 at s.world m (λ k j is. ap place (numbered k j is) ∙ placed k) st fits (omega arith) (able g s t p q x r _ 0 room (omega arith)))
 
   if_step : (cs : Clauses) (position : Position) (ws : List Work) (pc : ℕ) → work_here (doing (tree.if_act cs) position ∷ ws) pc →
       Follows g S s.world.store m (at_pc pc) (work_step g.unit p (S.size p) (doing (tree.if_act cs) position ∷ ws) s.world)
-  if_step cs position ws pc h = chosen_step position [] ws once h.3.0 h.3.0 cs h.3.3 h.0 pc h.1 h.2 h.3.1 h.3.2 h.3.4 behind
+  if_step cs position ws pc h = chosen_step position [] ws once h.3.0 h.3.0 cs h.3.3 h.0 pc h.1 h.2 h.3.1 h.3.2 h.3.5
+      h.3.4.of (λ k. ap (λ x. into g.unit.types g.unit.blocks (here g S G) x k) h.3.4.there) behind
     where
       behind : (rest : Clauses) (end next : ℕ) → code.AreInstructions g.fetched (close_code once h.3.0 rest) end next →
           code.AreClauses g.fetched g.unit.types g.unit.blocks (entry g) (here g S G) once h.3.0 rest next h.3.0 → work_here ws end
-      behind no_clause end next close clauses = subst (work_here ws) (sym (close ∙ clauses)) h.3.4
+      behind no_clause end next close clauses = subst (work_here ws) (sym (close ∙ clauses)) h.3.5
       behind (clause_then c cs) end next close clauses =
           matches_jump g (is_first p) (r.first p) (G p) m ws end h.3.0 next depth close
-          (omega (arith, one_up g end _ next close, clauses_up g (here g S G) once h.3.0 (clause_then c cs) next h.3.0 clauses)) h.3.4
+          (omega (arith, one_up g end _ next close, clauses_up g (here g S G) once h.3.0 (clause_then c cs) next h.3.0 clauses)) h.3.5
 
   while_step : (cs : Clauses) (position : Position) (ws : List Work) (pc : ℕ) → work_here (doing (tree.while_act cs) position ∷ ws) pc →
       Follows g S s.world.store m (at_pc pc) (work_step g.unit p (S.size p) (doing (tree.while_act cs) position ∷ ws) s.world)
   while_step cs position ws pc h =
-      chosen_step position (loop_end cs position ∷ []) ws repeated h.1 h.3.0 cs h.3.3 h.0 pc h.1 h.2 h.3.1 h.3.2 h.3.4
-      (λ rest end next close clauses. (0, end, refl, (h.1, next, h.3.0, close, h.3.1, h.3.2, h.3.3, h.3.4)))
+      chosen_step position (loop_end cs position ∷ []) ws repeated h.1 h.3.0 cs h.3.3 h.0 pc h.1 h.2 h.3.1 h.3.2 h.3.5
+      h.3.4.of (λ k. ap (λ x. into g.unit.types g.unit.blocks (here g S G) x k) h.3.4.there)
+      (λ rest end next close clauses. (0, end, refl, (h.1, next, h.3.0, close, h.3.1, h.3.2, h.3.3, h.3.4, h.3.5)))
 
   -- ---- any piece of work
 

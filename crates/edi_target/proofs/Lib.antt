@@ -12,3 +12,4 @@ pub mod Histories
 pub mod Limited
 pub mod Spent
 pub mod Starting
+pub mod Arrivals

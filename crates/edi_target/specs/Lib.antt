@@ -10,6 +10,7 @@ pub mod Effect
 pub mod Perform
 pub mod Mach
 pub mod Moments
+pub mod Arrivals
 pub mod Laws
 pub mod Starts
 pub mod Rows
