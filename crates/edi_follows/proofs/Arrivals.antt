@@ -22,10 +22,10 @@ use Rattle.edi_meaning.proofs.Selections.{same_ending, same_drawn, stepped_befor
 use Rattle.edi_meaning.proofs.Work.{Falls, standing_size, work_size, step_falls}
 use Rattle.edi_target.specs.Mach as target
 use Rattle.edi_target.specs.Mach.{Activity, Machine}
-use Rattle.edi_spots.specs.Coded.{Coded}
-use Rattle.edi_spots.specs.Related.{standing_of, activity, IsPlaced, Related, MayStep}
-use Rattle.edi_spots.specs.Lands.{step, Passes, EndsSo, StandsStill, LandsNext, LandsTested, Lands, Taken, StepClaim, StepsCohere, QueueAfter, StepsQueue, StartClaim}
-use Rattle.edi_spots.specs.Lands.{Begins, BeginsNot}
+use Rattle.edi_follows.specs.places.Coded.{Coded}
+use Rattle.edi_follows.specs.places.Related.{standing_of, activity, IsPlaced, Related, MayStep}
+use Rattle.edi_follows.specs.places.Lands.{step, Passes, EndsSo, StandsStill, LandsNext, LandsTested, Lands, Taken, StepClaim, StepsCohere, QueueAfter, StepsQueue, StartClaim}
+use Rattle.edi_follows.specs.places.Lands.{Begins, BeginsNot}
 use Rattle.edi_meaning.specs.Arrivals.{Arrival, arrival_as, arrival_of, arrival_after, arrivals}
 use Rattle.edi_meaning.specs.Arrivals as meant
 use Rattle.edi_target.specs.Arrivals.{Arrived, arrived_as, arrived_in, arrived_at_end, arrived_after, arrived_on, arrived_next, arrived, arrived_from_start}

@@ -25,24 +25,24 @@ use Rattle.edi_meaning.proofs.Parents.{waiting_does_not_run}
 use Rattle.edi_target.specs.Memory.{word, level}
 use Rattle.edi_target.specs.Mach as target
 use Rattle.edi_target.specs.Mach.{Activity, Machine, is_first}
-use Rattle.edi_worded.specs.Words.{value_words, IsTable}
-use Rattle.edi_worded.proofs.Lengths.{values_are_long}
-use Rattle.edi_worded.proofs.Portions.{parts_stand}
-use Rattle.edi_operated.specs.Operated.{word_of, IsAlone}
-use Rattle.edi_operated.proofs.Alone.{elementary_is_alone}
-use Rattle.edi_spots.specs.Coded.{Coded, slot_in, slots_of, words_in, heading_of}
-use Rattle.edi_spots.specs.Spots.{address, block_at, Holds, Leads, slot_address, location_address, cell_words}
-use Rattle.edi_spots.specs.Located.{IsAt, IsAwaited}
-use Rattle.edi_spots.specs.Scene.{Scene, Stands}
-use Rattle.edi_spots.specs.Instructions.{IsPart, Reaches}
-use Rattle.edi_spots.specs.Related.{standing_of, activity, Lives, IsPlaced, Related}
-use Rattle.edi_spots.specs.Lands.{Stepping, scene}
-use Rattle.edi_spots.proofs.Places.{reached_live, level_is}
-use Rattle.edi_instructed.proofs.Slots.{slot_is_in, HasValue, value_cell, HasLocation, location_cell}
-use Rattle.edi_instructed.proofs.Effects.{word_is}
-use Rattle.edi_instructed.proofs.Variables.{levels_reach}
-use Rattle.edi_instructed.proofs.Stores.{parts_are_there}
-use Rattle.edi_stepped.proofs.Local.{stands}
+use Rattle.edi_follows.specs.values.Words.{value_words, IsTable}
+use Rattle.edi_follows.proofs.values.Lengths.{values_are_long}
+use Rattle.edi_follows.proofs.values.Portions.{parts_stand}
+use Rattle.edi_follows.specs.values.Operated.{word_of, IsAlone}
+use Rattle.edi_follows.proofs.values.Alone.{elementary_is_alone}
+use Rattle.edi_follows.specs.places.Coded.{Coded, slot_in, slots_of, words_in, heading_of}
+use Rattle.edi_follows.specs.places.Spots.{address, block_at, Holds, Leads, slot_address, location_address, cell_words}
+use Rattle.edi_follows.specs.places.Located.{IsAt, IsAwaited}
+use Rattle.edi_follows.specs.places.Scene.{Scene, Stands}
+use Rattle.edi_follows.specs.places.Instructions.{IsPart, Reaches}
+use Rattle.edi_follows.specs.places.Related.{standing_of, activity, Lives, IsPlaced, Related}
+use Rattle.edi_follows.specs.places.Lands.{Stepping, scene}
+use Rattle.edi_follows.proofs.places.Places.{reached_live, level_is}
+use Rattle.edi_follows.proofs.places.Slots.{slot_is_in, HasValue, value_cell, HasLocation, location_cell}
+use Rattle.edi_follows.proofs.places.Effects.{word_is}
+use Rattle.edi_follows.proofs.places.Variables.{levels_reach}
+use Rattle.edi_follows.proofs.places.Stores.{parts_are_there}
+use Rattle.edi_follows.proofs.steps.Local.{stands}
 use Rattle.edi_scheme.specs.Sites.{site, statement, body_site}
 use Rattle.edi_scheme.specs.Awaits.{await_number, await_address, await_paths, block_awaits, place_of, variable_offset}
 use Rattle.edi_scheme.proofs.Awaits.{await_stands}

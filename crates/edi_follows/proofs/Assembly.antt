@@ -15,9 +15,9 @@ use Rattle.edi_meaning.proofs.Selections.{same_ending, same_system, same_turns, 
 use Rattle.edi_target.specs.Mach as target
 use Rattle.edi_target.specs.Mach.{Machine}
 use Rattle.edi_target.specs.Moments.{news_at, history_on, history_after, history}
-use Rattle.edi_spots.specs.Coded.{Coded}
-use Rattle.edi_spots.specs.Related.{Related, Kept, MayStep}
-use Rattle.edi_spots.specs.Lands.{step, Passes, EndsSo, LandsNext, LandsTested, Lands, Taken, StepClaim, StepsCohere, QueueAfter, StepsQueue}
+use Rattle.edi_follows.specs.places.Coded.{Coded}
+use Rattle.edi_follows.specs.places.Related.{Related, Kept, MayStep}
+use Rattle.edi_follows.specs.places.Lands.{step, Passes, EndsSo, LandsNext, LandsTested, Lands, Taken, StepClaim, StepsCohere, QueueAfter, StepsQueue}
 
 module _ (g : Coded) (choices : Choices) where
   abbrev Run : ℕ → Machine → Name → List Name → ℕ → target.MachineRun

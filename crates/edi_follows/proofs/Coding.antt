@@ -15,9 +15,9 @@ use Rattle.edi_segments.proofs.Reaching.{allowed_at}
 use Rattle.edi_scheme.specs.Code.{entry, code_of}
 use Rattle.edi_scheme.proofs.Blocks.{code_stands, code_is_long}
 use Rattle.edi_scheme.proofs.WordedBlocks.{code_is_words}
-use Rattle.edi_spots.specs.Coded.{Coded}
+use Rattle.edi_follows.specs.places.Coded.{Coded}
 use Rattle.edi_follows.specs.Theorem.{CanBeCoded, SameOutcome, SameMoments, CodeEndsAsMeant, CodeIsNeverBad, CodeIsPrivate, CodeStandsByMarks}
-use Rattle.edi_spots.specs.Lands.{StepClaim, StepsCohere, StepsQueue, StartClaim}
+use Rattle.edi_follows.specs.places.Lands.{StepClaim, StepsCohere, StepsQueue, StartClaim}
 use Rattle.edi_follows.specs.Arrivals.{CodeArrivesAsMeant}
 use Rattle.edi_follows.proofs.Arrivals.{code_arrives}
 use Rattle.edi_follows.proofs.Private.{private_words}

@@ -1,3 +1,7 @@
+pub mod calls
+pub mod kernel
+pub mod places
+pub mod steps
 pub mod Assembly
 pub mod Wholes
 pub mod Coding

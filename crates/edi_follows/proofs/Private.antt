@@ -18,10 +18,10 @@ use Rattle.edi_target.specs.Mach as target
 use Rattle.edi_target.specs.Mach.{Machine, OwnWords}
 use Rattle.edi_target.specs.Moments.{news_at}
 use Rattle.edi_segments.specs.Nested.{machine_after}
-use Rattle.edi_spots.specs.Coded.{Coded}
-use Rattle.edi_spots.specs.Related.{Related, Kept, MayStep, Queue}
-use Rattle.edi_spots.specs.Lands.{step, Keeps, Passes, EndsSo, LandsNext, LandsTested, Lands, Taken, Outside, StepClaim, StepsCohere, QueueAfter, StepsQueue}
-use Rattle.edi_spots.specs.Lands.{StartClaim, Begins, BeginsNot}
+use Rattle.edi_follows.specs.places.Coded.{Coded}
+use Rattle.edi_follows.specs.places.Related.{Related, Kept, MayStep, Queue}
+use Rattle.edi_follows.specs.places.Lands.{step, Keeps, Passes, EndsSo, LandsNext, LandsTested, Lands, Taken, Outside, StepClaim, StepsCohere, QueueAfter, StepsQueue}
+use Rattle.edi_follows.specs.places.Lands.{StartClaim, Begins, BeginsNot}
 use Rattle.edi_follows.specs.Theorem.{Onward, IsTaken, at_start, after_switch}
 
 went_machine : {m t : Machine} {a b : Next} → target.went m a ≡ target.went t b → m ≡ t

@@ -24,9 +24,9 @@ use Rattle.edi_target.specs.Mach as target
 use Rattle.edi_target.specs.Mach.{Machine, Mach}
 use Rattle.edi_target.specs.Op.{Instruction}
 use Rattle.edi_target.proofs.Runs.{same_end}
-use Rattle.edi_spots.specs.Coded.{Coded}
-use Rattle.edi_spots.specs.Related.{MayStep}
-use Rattle.edi_spots.specs.Lands.{Passes, EndsSo, LandsNext, LandsTested, Lands, Taken, StepClaim, StepsCohere, QueueAfter, StepsQueue, StartClaim, Begins}
+use Rattle.edi_follows.specs.places.Coded.{Coded}
+use Rattle.edi_follows.specs.places.Related.{MayStep}
+use Rattle.edi_follows.specs.places.Lands.{Passes, EndsSo, LandsNext, LandsTested, Lands, Taken, StepClaim, StepsCohere, QueueAfter, StepsQueue, StartClaim, Begins}
 use Rattle.edi_follows.specs.Theorem.{Onward, IsTaken, at_start, after_switch, StandsByMarks}
 use Rattle.edi_follows.proofs.Marking.{standstill_marks}
 use Rattle.edi_follows.proofs.Wholes.{to_meaning}

@@ -37,16 +37,16 @@ use Rattle.edi_scheme.proofs.Known.{words_sum}
 use Rattle.edi_scheme.specs.Pieces as pieces
 use Rattle.edi_scheme.specs.Pieces.{is_branch, function_flag, entry_of, return_of}
 use Rattle.edi_scheme.specs.Stands as code
-use Rattle.edi_worded.specs.Words.{value_words, IsTable, ValuesAreLong, ZeroIsZeros}
-use Rattle.edi_called.proofs.Cells.{HoldAll, hold_append, hold_at, zeros_hold}
-use Rattle.edi_spots.specs.Coded.{Coded, block, entry, slot_in, slots_of, words_in, offset, kept, heading_of}
-use Rattle.edi_spots.specs.Spots.{cell_words, cells_words, Segments, address, block_at, Fine, Layout, Mirrors, Typed, Holds}
-use Rattle.edi_spots.specs.Located.{Matches}
-use Rattle.edi_spots.specs.Related.{Lives, size_in, activity, IsPlaced, Related, MayStep, Queue}
-use Rattle.edi_spots.specs.Lands.{Begins, BeginsNot, StartClaim}
-use Rattle.edi_spots.proofs.Located.{procedure_listed, matches_acts}
-use Rattle.edi_spots.proofs.Free.{slot_within}
-use Rattle.edi_spots.proofs.Rows.{part_stands, Aligned, aligned_length, aligned_count, aligned_append, row_words}
+use Rattle.edi_follows.specs.values.Words.{value_words, IsTable, ValuesAreLong, ZeroIsZeros}
+use Rattle.edi_follows.proofs.calls.Cells.{HoldAll, hold_append, hold_at, zeros_hold}
+use Rattle.edi_follows.specs.places.Coded.{Coded, block, entry, slot_in, slots_of, words_in, offset, kept, heading_of}
+use Rattle.edi_follows.specs.places.Spots.{cell_words, cells_words, Segments, address, block_at, Fine, Layout, Mirrors, Typed, Holds}
+use Rattle.edi_follows.specs.places.Located.{Matches}
+use Rattle.edi_follows.specs.places.Related.{Lives, size_in, activity, IsPlaced, Related, MayStep, Queue}
+use Rattle.edi_follows.specs.places.Lands.{Begins, BeginsNot, StartClaim}
+use Rattle.edi_follows.proofs.places.Located.{procedure_listed, matches_acts}
+use Rattle.edi_follows.proofs.places.Free.{slot_within}
+use Rattle.edi_follows.proofs.places.Rows.{part_stands, Aligned, aligned_length, aligned_count, aligned_append, row_words}
 use Rattle.edi_follows.proofs.Zeros.{Zeros, zeros_append, zeros_replicate, zeros_behind, of_program, known_right, cells_append}
 
 module _ (g : Coded) (long : ValuesAreLong) (zeros : ZeroIsZeros) (system : State) (n : ℕ) where

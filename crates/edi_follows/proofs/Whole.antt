@@ -1,25 +1,25 @@
 -- THE WHOLE: the lemmas for the constructs, calls, steps and kernels, tied together.
-use Rattle.edi_worded.proofs.Lengths.{values_are_long}
-use Rattle.edi_worded.proofs.Zeros.{zero_is_zeros}
-use Rattle.edi_spots.specs.Coded.{Coded}
-use Rattle.edi_spots.specs.Scene.{Scene}
-use Rattle.edi_spots.specs.Constructs.{Constructs}
-use Rattle.edi_spots.specs.Lands.{LocalClaim, StepClaim, StartClaim}
-use Rattle.edi_instructed.proofs.Instructed.{instructed}
-use Rattle.edi_operands.proofs.Operands.{operands_do}
-use Rattle.edi_placed.proofs.Placed.{places}
-use Rattle.edi_called.proofs.Calls.{calls}
-use Rattle.edi_called.proofs.CalledStep.{called_claim}
-use Rattle.edi_called.proofs.ReturnedStep.{returned_claim}
-use Rattle.edi_asked.proofs.Asked.{system_does}
-use Rattle.edi_phases.proofs.Phases.{statements}
-use Rattle.edi_stepped.proofs.Stepped.{local_claim}
-use Rattle.edi_kernels.proofs.Steps.{step_claim}
-use Rattle.edi_kernels.proofs.Kernels.{ends_claim}
-use Rattle.edi_kernels.proofs.Going.{goes_claim, arrives_claim, again_claim}
-use Rattle.edi_kernels.proofs.Forked.{fork_claim}
-use Rattle.edi_kernels.proofs.Leaving.{leave_claim}
-use Rattle.edi_kernels.proofs.Meaning.{steps_cohere, steps_queue}
+use Rattle.edi_follows.proofs.values.Lengths.{values_are_long}
+use Rattle.edi_follows.proofs.values.Zeros.{zero_is_zeros}
+use Rattle.edi_follows.specs.places.Coded.{Coded}
+use Rattle.edi_follows.specs.places.Scene.{Scene}
+use Rattle.edi_follows.specs.places.Constructs.{Constructs}
+use Rattle.edi_follows.specs.places.Lands.{LocalClaim, StepClaim, StartClaim}
+use Rattle.edi_follows.proofs.places.Instructed.{instructed}
+use Rattle.edi_follows.proofs.values.Operands.{operands_do}
+use Rattle.edi_follows.proofs.places.Placed.{places}
+use Rattle.edi_follows.proofs.calls.Calls.{calls}
+use Rattle.edi_follows.proofs.calls.CalledStep.{called_claim}
+use Rattle.edi_follows.proofs.calls.ReturnedStep.{returned_claim}
+use Rattle.edi_follows.proofs.calls.Asked.{system_does}
+use Rattle.edi_follows.proofs.steps.Phases.{statements}
+use Rattle.edi_follows.proofs.steps.Stepped.{local_claim}
+use Rattle.edi_follows.proofs.kernel.Steps.{step_claim}
+use Rattle.edi_follows.proofs.kernel.Kernels.{ends_claim}
+use Rattle.edi_follows.proofs.kernel.Going.{goes_claim, arrives_claim, again_claim}
+use Rattle.edi_follows.proofs.kernel.Forked.{fork_claim}
+use Rattle.edi_follows.proofs.kernel.Leaving.{leave_claim}
+use Rattle.edi_follows.proofs.kernel.Meaning.{steps_cohere, steps_queue}
 use Rattle.edi_follows.specs.Theorem.{SameOutcome, SameMoments, CodeIsPrivate}
 use Rattle.edi_follows.specs.Arrivals.{CodeArrivesAsMeant}
 use Rattle.edi_follows.proofs.Coding as coding

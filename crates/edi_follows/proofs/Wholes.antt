@@ -14,8 +14,8 @@ use Rattle.edi_target.specs.Mach.{Machine, Mach}
 use Rattle.edi_target.specs.Moments.{history_after, history, EndsThrough, ComesThrough}
 use Rattle.edi_target.proofs.Runs.{runs_are_determined}
 use Rattle.edi_target.proofs.Histories.{comes_through_its_past}
-use Rattle.edi_spots.specs.Coded.{Coded}
-use Rattle.edi_spots.specs.Lands.{StepClaim, StepsCohere, StepsQueue, StartClaim, Begins, BeginsNot}
+use Rattle.edi_follows.specs.places.Coded.{Coded}
+use Rattle.edi_follows.specs.places.Lands.{StepClaim, StepsCohere, StepsQueue, StartClaim, Begins, BeginsNot}
 use Rattle.edi_follows.proofs.Assembly.{main, Ends}
 
 module _ (g : Coded) (claim : StepClaim g) (start : StartClaim g) (cohere : StepsCohere) (queues : StepsQueue) where

@@ -18,8 +18,8 @@ use Rattle.edi_unit.specs.Tree.{Block}
 use Rattle.edi_unit.specs.Fits.{KindFits, SlotIsKnown}
 use Rattle.edi_meaning.specs.Store.{Cell, Shape}
 use Rattle.edi_scheme.specs.Pieces.{is_branch}
-use Rattle.edi_spots.specs.Coded.{Coded}
-use Rattle.edi_spots.specs.Spots.{cell_words, cells_words}
+use Rattle.edi_follows.specs.places.Coded.{Coded}
+use Rattle.edi_follows.specs.places.Spots.{cell_words, cells_words}
 
 -- ---- zeros
 

@@ -1,2 +1,4 @@
+pub mod places
+pub mod values
 pub mod Theorem
 pub mod Arrivals

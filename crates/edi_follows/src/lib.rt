@@ -4,6 +4,8 @@
 //! scheme (`code_of`), the meaning is `Select`, and the machine that runs the code is `Mach`.
 #![tactic(auto)]
 
+pub mod values;
+
 ghost use Rattle.edi_follows.specs.Theorem.{
   CodeEndsAsMeant,
   CodeIsNeverBad,

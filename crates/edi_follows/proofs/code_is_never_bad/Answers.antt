@@ -1,5 +1,5 @@
 -- The law as proved.
-use Rattle.edi_kernels.proofs.Meaning.{steps_cohere, steps_queue}
+use Rattle.edi_follows.proofs.kernel.Meaning.{steps_cohere, steps_queue}
 use Rattle.edi_follows.proofs.Coding as coding
 use Rattle.edi_follows.proofs.Whole.{steps, starts}
 use Rattle.edi_follows.proofs.code_is_never_bad.Goals as goal

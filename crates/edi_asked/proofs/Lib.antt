@@ -1,4 +1,0 @@
-pub mod Fed
-pub mod Asking
-pub mod Answered
-pub mod Asked

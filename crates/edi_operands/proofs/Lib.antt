@@ -1,9 +1,0 @@
-pub mod Constants
-pub mod Unary
-pub mod Operations
-pub mod Chains
-pub mod Rows
-pub mod Texts
-pub mod Members
-pub mod Makes
-pub mod Operands

@@ -1,5 +1,0 @@
-pub mod Alone
-pub mod Ints
-pub mod Operators
-pub mod Checks
-pub mod Given

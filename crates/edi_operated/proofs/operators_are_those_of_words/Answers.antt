@@ -1,7 +1,0 @@
--- The law as proved.
-use Rattle.edi_operated.proofs.Alone.{truth_is_word, truth_is_tested}
-use Rattle.edi_operated.proofs.Operators.{operators_follow, decided_is_result, sign_follows, negation_follows}
-use Rattle.edi_operated.proofs.operators_are_those_of_words.Goals as goal
-
-pub returns : goal.returns
-returns c = assumption (operators_follow, decided_is_result, sign_follows, negation_follows, truth_is_word, truth_is_tested)

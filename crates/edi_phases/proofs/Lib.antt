@@ -1,4 +1,0 @@
-pub mod Passing
-pub mod Clauses
-pub mod Loops
-pub mod Phases

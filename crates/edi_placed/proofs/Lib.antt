@@ -1,9 +1,0 @@
-pub mod Pointing
-pub mod Whole
-pub mod Roots
-pub mod PartSteps
-pub mod Elements
-pub mod Arguments
-pub mod Passing
-pub mod Procedures
-pub mod Placed

@@ -1,9 +1,0 @@
-pub mod Places
-pub mod Long
-pub mod Located
-pub mod Doing
-pub mod Free
-pub mod Rows
-pub mod Nested
-pub mod Knot
-pub mod Rises
