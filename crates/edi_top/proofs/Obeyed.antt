@@ -16,9 +16,9 @@ use Rattle.edi_statuses.specs.Outside.{Outside, KernelLeft, Lent}
 use Rattle.edi_told.specs.Told.{WhereTold}
 use Rattle.edi_statuses.proofs.EachLeft.{each_same}
 use Rattle.edi_statuses.proofs.Silent.{idle, nothing_shown}
-use Rattle.edi_disk_commands.specs.OnDisk.{MeansOnDisk, RestStays}
-use Rattle.edi_run_commands.specs.RunMeans.{replaying}
-use Rattle.edi_run_commands.proofs.Meaning.{replayed}
+use Rattle.edi_commands.specs.disk.OnDisk.{MeansOnDisk, RestStays}
+use Rattle.edi_commands.specs.run.RunMeans.{replaying}
+use Rattle.edi_commands.proofs.run.Meaning.{replayed}
 use Rattle.edi_top.specs.Built.{built}
 use Rattle.edi_statuses.specs.Lines.{text_of}
 use Rattle.edi_statuses.specs.EachObject.{CountsBlocks, CountsNew, FitsCount, FitsGet, Handed, KeepsImage, LeavesEach, UnusedStay, comes_to, formats, handed, stops_first}

@@ -5,8 +5,8 @@ ghost use Rattle.std.specs.String.{string_bytes};
 ghost use Rattle.edi_told.specs.Faults.{CountRose};
 ghost use Rattle.edi_words.specs.Words.{command_of, newdisk};
 ghost use Rattle.edi_words.specs.View.{options_of, view, IsInRange};
-ghost use Rattle.edi_run_commands.specs.RunMeans.{replaying};
-ghost use Rattle.edi_disk_commands.specs.OnDisk.{HasCauseOnDisk, MeansOnDisk};
+ghost use Rattle.edi_commands.specs.run.RunMeans.{replaying};
+ghost use Rattle.edi_commands.specs.disk.OnDisk.{HasCauseOnDisk, MeansOnDisk};
 ghost use Rattle.edi_top.specs.Built.{built};
 ghost use Rattle.edi_statuses.specs.Outside.{lent, outside_of, Shows};
 ghost use Rattle.edi_statuses.specs.Counts.{counts_of, HasCause, NoneFalls};
@@ -14,15 +14,15 @@ ghost use Rattle.edi_statuses.specs.EachObject.{command_does, handed, is_before_
 ghost use Rattle.edi_statuses.specs.EachObject.{CountsBlocks, CountsNew, LeavesEach, UnusedStay};
 ghost use Rattle.edi_statuses.specs.Means.{Came, EndsWith};
 
-use edi_boot::boot;
-use edi_code_commands::list;
-use edi_disk_commands::{get, new_disk, new_disk_from, put};
+use edi_commands::boot::boot;
+use edi_commands::code::list;
+use edi_commands::disk::{get, new_disk, new_disk_from, put};
+use edi_commands::run::Form::{Code, Text};
+use edi_commands::run::{demonstrate, run_file};
+use edi_commands::text::compile_file;
 use edi_host::{Drive, Files, Sink, Source};
 use edi_kernel::Kernel;
-use edi_run_commands::Form::{Code, Text};
-use edi_run_commands::{demonstrate, run_file};
 use edi_statuses::{Ended, Status, show_status};
-use edi_text_commands::compile_file;
 use edi_words::{ChoicesFrom, Command, Options, command};
 use std::alloc::Global;
 

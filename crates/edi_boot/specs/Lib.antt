@@ -1,2 +1,0 @@
-pub mod OnObjects
-pub mod SessionCame

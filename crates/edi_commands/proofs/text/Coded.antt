@@ -1,0 +1,48 @@
+-- From what the compiler and a fetch answer to the steps of `compile`.
+use Rattle.std.proofs.Common.{◌≡◌, inl, inr, ℕ, List, take, Result, Ok, Err, subst}
+use Rattle.edi_target.specs.Check.{CodeParts}
+use Rattle.edi_target.specs.File.{code_bytes}
+use Rattle.edi_lex.specs.Limit.{most_fetched}
+use Rattle.edi_texts.specs.Texts.{IsRefused}
+use Rattle.edi_texts.specs.Answers.{TextAnswers}
+use Rattle.edi_texts.specs.Fetched.{Tells}
+use Rattle.edi_texts.proofs.Same.{fetched_bytes_decide}
+use Rattle.edi_texts.specs.Run.{IsCodeFor}
+use Rattle.edi_statuses.specs.declared.status.Status.{Status}
+use Rattle.edi_statuses.specs.Outside.{Outside}
+use Rattle.edi_statuses.specs.Steps.{goes, Fetches}
+use Rattle.edi_commands.specs.steps.OnFiles.{FetchStep}
+use Rattle.edi_commands.proofs.steps.OnFilesLemmas.{fetch_stopped}
+use Rattle.edi_commands.proofs.steps.Units.{unit_there}
+use Rattle.edi_commands.specs.text.TextCommands.{CodesText, CodesFile}
+
+pub coded : {V : Type 0} (items : V → List ℕ) (text : List ℕ) (code : CodeParts) (v : V) → TextAnswers (IsCodeFor text) text (Ok code)
+    → items v ≡ code_bytes code → CodesText items text (Ok v)
+coded items text code v answers bytes =
+    let unit = unit_there (IsCodeFor text) text code answers in
+    (unit.0, unit.1, code, answers.gives, bytes)
+
+-- nothing was fetched
+pub not_fetched : {V W : Type 0} (items : V → List ℕ) (others : W → List ℕ) (o : Outside) (name : List ℕ) (limit : ℕ) (s : Status)
+    → FetchStep items o name limit (Err s) → CodesFile others o name (Err s)
+not_fetched items others o name limit s h = elim (fetch_stopped items o name limit s h) [
+  | inl none ↦ inl none
+  | inr more ↦
+      elim more [
+        | inl failed ↦ inr (inl failed)
+        | inr absent ↦ inr (inr (inl absent))
+      ]
+]
+
+-- the first bytes of a file decide
+pub file_coded : {V : Type 0} (items : V → List ℕ) (o : Outside) (name bytes text : List ℕ) (r : Result V Status) → Fetches o name (goes text)
+    → bytes ≡ take most_fetched text → CodesText items bytes r → CodesFile items o name r
+file_coded items o name bytes text (Ok v) fetched front codes =
+    let so = subst (λ t. CodesText items t (Ok v)) front codes in
+    let tells : Tells (take most_fetched text) text = fetched_bytes_decide.there text in
+    (text, fetched, (so.0, tells.unit so.0 so.1, so.2, tells.code so.2 so.3, so.4))
+file_coded items o name bytes text (Err s) fetched front (inl none) = inl none
+file_coded items o name bytes text (Err s) fetched front (inr refused) =
+    let tells : Tells (take most_fetched text) text = fetched_bytes_decide.there text in
+    let first = subst (λ t. IsRefused t refused.0 refused.1) front refused.3 in
+    inr (inr (inr (text, fetched, inl (refused.0, refused.1, refused.2, (first.0, tells.fault first.0 refused.0 refused.1 first.1)))))

@@ -1,0 +1,3 @@
+-- Helper. The files of `boot`.
+pub mod OnObjects
+pub mod SessionCame

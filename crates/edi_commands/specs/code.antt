@@ -1,0 +1,2 @@
+-- Helper. The files of `code`.
+pub mod CodeCommands

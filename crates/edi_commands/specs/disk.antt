@@ -1,0 +1,3 @@
+-- Helper. The files of `disk`.
+pub mod OnDisk
+pub mod OnDrive

@@ -1,0 +1,4 @@
+-- Helper. The files of `steps`.
+pub mod Loaded
+pub mod NotMounted
+pub mod OnFiles

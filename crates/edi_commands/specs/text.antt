@@ -1,0 +1,2 @@
+-- Helper. The files of `text`.
+pub mod TextCommands

@@ -1,0 +1,6 @@
+//! The command on a code that is not run: `list CODEFILE`.
+
+mod lists;
+mod loading;
+
+pub use lists::list;

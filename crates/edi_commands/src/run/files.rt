@@ -1,0 +1,133 @@
+//! The commands that run the program of a file: `run`, and `replay`, that of a text, `exec` that of a code file.
+
+ghost use Rattle.std.specs.Prelude.{◌≡◌, true, Some};
+ghost use Rattle.edi_words.specs.View.{options_of};
+ghost use Rattle.edi_statuses.specs.EachObject.{DevicesStay, FitsCount, handed, is_before_drive};
+ghost use Rattle.edi_statuses.specs.Outside.{lent, outside_of};
+ghost use Rattle.edi_statuses.specs.Counts.{counts_of, HasCause, NoneFalls};
+ghost use Rattle.edi_statuses.specs.Means.{Came};
+ghost use Rattle.edi_commands.specs.run.CodeRan.{refusal_status};
+ghost use Rattle.edi_commands.specs.run.FileSteps.{CodeStep, CompileStep, command_with, limit_of};
+
+use crate::run::code::run_code;
+use crate::steps::{fetch, load_code, read_from, stopped};
+use edi_compile::{Refusal, compile};
+use edi_host::{Drive, Files, Sink, Source};
+use edi_kernel::Kernel;
+use edi_statuses::{Ended, Status};
+use edi_target::Code;
+use edi_words::Options;
+use std::alloc::Global;
+
+/// The form in which a file has its program.
+#[derive(Clone, Copy, Drop)]
+pub enum Form {
+    /// A text.
+    Text,
+    /// A code file.
+    Code,
+}
+
+/// As many bytes as decide what a file is.
+fn limit_of(form: Form) -> usize
+    ensures exact { result ≡ limit_of form }
+{
+    match form {
+        Form::Text => 262_145,
+        Form::Code => 8_388_641,
+    }
+}
+
+/// The status of a command whose text is refused.
+pub(crate) fn refusal_status(refusal: Refusal) -> Status
+    ensures exact { result ≡ refusal_status refusal }
+{
+    match refusal {
+        Refusal::At { kind, line, .. } => Status::Refused(kind, line),
+        Refusal::NoMemory => Status::NoMemory,
+    }
+}
+
+/// The code of a text, or why the command stops there.
+fn compile_text(alloc: Global, bytes: &[u8]) -> Result<Code, Status>
+    ensures compiles { CompileStep bytes.now result }
+{
+    match compile(alloc, bytes) {
+        Ok(code) => Ok(code),
+        Err(refusal) => Err(refusal_status(refusal)),
+    }
+}
+
+/// The code of the bytes of a file, or why the command stops there.
+fn code_of(alloc: Global, form: Form, bytes: &[u8]) -> Result<Code, Status>
+    ensures gives { CodeStep form bytes.now result }
+{
+    match form {
+        Form::Text => compile_text(alloc, bytes),
+        Form::Code => load_code(alloc, bytes),
+    }
+}
+
+/// `run FILE`, or `exec CODEFILE` where the file has code: fetches the file, reads the choices, compiles the text or loads the code,
+/// mounts the drive, runs, and keeps the record, in this order.
+///
+/// The kernel may have run anything before; it is left alone where nothing is run. What the status means, and how all that is
+/// outside stands behind the call, is told by `Came`: the first step that stops decides. Want of memory comes only before the first
+/// effect, or where the record is to be kept; the fault of an object only where its count rose. `replay FILE CHOICES` is `run` with
+/// the choices of that file and without a record (`replaying`).
+pub fn run_file<F: Files, D: Drive, S: Source, T: Sink, P: Sink>(
+    alloc: Global,
+    form: Form,
+    file: &str,
+    options: Options<'_>,
+    files: &mut F,
+    drive: &mut D,
+    input: &mut S,
+    terminal: &mut T,
+    printer: &mut P,
+    kernel: &mut Kernel,
+) -> Ended
+    ensures came { Came result.status result.due (Some (command_with form file.now (options_of options.entry)))
+        (outside_of F.contents D.contents S.left T.taken P.taken files.old drive.old input.old terminal.old printer.old)
+        (outside_of F.contents D.contents S.left T.taken P.taken files.new drive.new input.new terminal.new printer.new)
+        (lent kernel.old.store kernel.old.used kernel.new.store kernel.new.used) }
+    ensures cause { HasCause result.status
+        (counts_of F.faults D.faults S.faults T.faults P.faults files.old drive.old input.old terminal.old printer.old)
+        (counts_of F.faults D.faults S.faults T.faults P.faults files.new drive.new input.new terminal.new printer.new) }
+    ensures later { NoneFalls
+        (counts_of F.faults D.faults S.faults T.faults P.faults files.old drive.old input.old terminal.old printer.old)
+        (counts_of F.faults D.faults S.faults T.faults P.faults files.new drive.new input.new terminal.new printer.new) }
+    // The status fits the number of blocks, which stays, whatever the drive tells; and where the drive is not asked, no object but the
+    // files is touched.
+    ensures size { D.count drive.new ≡ D.count drive.old }
+    ensures fits { FitsCount result.status (D.count drive.old) }
+    ensures early { is_before_drive result.status ≡ true
+        → DevicesStay (handed files.old drive.old input.old terminal.old printer.old kernel.old)
+        (handed files.new drive.new input.new terminal.new printer.new kernel.new) }
+{
+    let bytes = match fetch(alloc, files, file, limit_of(form)) {
+        Ok(bytes) => bytes,
+        Err(status) => return stopped(status),
+    };
+    let mut choices = match read_from(alloc, files, options.choices) {
+        Ok(choices) => choices,
+        Err(status) => return stopped(status),
+    };
+    let code = match code_of(alloc, form, &bytes) {
+        Ok(code) => code,
+        Err(status) => return stopped(status),
+    };
+    run_code(
+        alloc,
+        &code,
+        options.turns,
+        options.record_file,
+        &mut choices,
+        files,
+        drive,
+        input,
+        terminal,
+        printer,
+        kernel,
+    )
+}

@@ -1,2 +1,0 @@
-pub mod OnDisk
-pub mod OnDrive

@@ -1,5 +1,0 @@
-pub mod CodeRan
-pub mod Demonstrated
-pub mod FileSteps
-pub mod OnMounted
-pub mod RunMeans

@@ -1,3 +1,0 @@
-pub mod Loaded
-pub mod NotMounted
-pub mod OnFiles
