@@ -14,8 +14,8 @@ use Rattle.edi_session.specs.Files.{stores}
 use Rattle.edi_session.specs.Session.{AfterLine, goes, closes, shell_in, StoresText, BehindTaken}
 use Rattle.edi_session.specs.Shell.{Shell, Taken, took, ended, limited, shell_of, limit, state_in, took_byte, ends_text, text_with, line_with, take_text, next_text}
 use Rattle.edi_session.proofs.Later.{Later, answered_on, take_text_on}
-use Rattle.edi_shell_calls.specs.Standing.{At, StandsIn, IsFault, IsLeft, Leads}
-use Rattle.edi_shell_calls.proofs.Faulted.{of_fault}
+use Rattle.edi_shell_io.specs.calls.Standing.{At, StandsIn, IsFault, IsLeft, Leads}
+use Rattle.edi_shell_io.proofs.calls.Faulted.{of_fault}
 use Rattle.edi_shell.specs.Rows.{LineBreaks, LineCloses, LineDoesOrEnds, LineEnds, EntersFile}
 use Rattle.edi_shell.specs.Taking.{GivesNone, GivesText, IsSoFar, Stops}
 use Rattle.edi_shell.proofs.Keeping.{TakingKeeps, itself, one_keeps, taking_behind, took_keeps}

@@ -9,7 +9,7 @@ use Rattle.std.proofs.lemmas.Bool.{eqb-true, ne_eqb}
 use Rattle.std.proofs.lemmas.List.{length-append, take_all}
 use Rattle.std.specs.Prelude.{Ok, IfNone, IfSome}
 use Rattle.edi_session.proofs.Later.{Later, take_line_on}
-use Rattle.edi_shell_calls.specs.Standing.{At, StandsIn, IsFault}
+use Rattle.edi_shell_io.specs.calls.Standing.{At, StandsIn, IsFault}
 use Rattle.edi_shell.specs.Taking.{GivesNone, GivesLine, Stops}
 use Rattle.edi_shell.proofs.Standing.{stands_later, fault_stops, nothing_stops}
 

@@ -13,7 +13,7 @@ use Rattle.edi_session.specs.Files.{with_file, with_text}
 use Rattle.edi_session.specs.Shell.{Shell, says, shown_by}
 use Rattle.edi_session.specs.Texts.{about}
 use Rattle.edi_session.proofs.Later.{Later}
-use Rattle.edi_shell_calls.specs.Standing.{At, StandsIn, Leads}
+use Rattle.edi_shell_io.specs.calls.Standing.{At, StandsIn, Leads}
 use Rattle.edi_shell.specs.Files.{wrong, refused, refused_kind, IsOpened, WasRefused, Reads}
 use Rattle.edi_shell.proofs.Standing.{stands_later}
 

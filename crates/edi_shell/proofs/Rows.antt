@@ -10,7 +10,7 @@ use Rattle.edi_session.specs.declared.end.SessionEnd.{SessionEnd}
 use Rattle.edi_session.specs.Files.{answered}
 use Rattle.edi_session.specs.Session.{AfterLine, goes, ExecutesFile, ExecutesKind}
 use Rattle.edi_session.specs.Shell.{Shell, says}
-use Rattle.edi_shell_calls.specs.Standing.{Leads}
+use Rattle.edi_shell_io.specs.calls.Standing.{Leads}
 use Rattle.edi_shell.specs.Files.{wrong, refused, refused_kind, IsOpened}
 use Rattle.edi_shell.specs.Rows.{IsLike, LineDoes}
 use Rattle.edi_shell.proofs.Opening.{some_same}

@@ -19,8 +19,8 @@ use Rattle.edi_session.specs.Session.{goes, ExecutesBytes, ExecutesCode, Execute
 use Rattle.edi_session.specs.Shell.{Shell, says, shown_by, on_fresh_line}
 use Rattle.edi_session.specs.Texts.{ending_line}
 use Rattle.edi_session.proofs.Later.{ends_on, says_on}
-use Rattle.edi_shell_lines.specs.Endings.{line_for}
-use Rattle.edi_shell_calls.specs.Standing.{At, StandsIn, Leads, HasRun, RunsTo, RunBreaks}
+use Rattle.edi_shell_io.specs.lines.Endings.{line_for}
+use Rattle.edi_shell_io.specs.calls.Standing.{At, StandsIn, Leads, HasRun, RunsTo, RunBreaks}
 use Rattle.edi_shell.specs.Rows.{IsLike, LineGoesOn, LineBreaks, LineDoes}
 use Rattle.edi_shell.specs.Files.{Reads, code_refusal}
 use Rattle.edi_shell.proofs.Rows.{does_by, execute_refused, execute_opened, leads_does, like_says}

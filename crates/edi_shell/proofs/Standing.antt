@@ -6,8 +6,8 @@ use Rattle.edi_session.specs.declared.end.SessionEnd.{SessionEnd}
 use Rattle.edi_session.specs.declared.end.SessionEnd.TheVariants as end
 use Rattle.edi_session.specs.Shell.{Shell, Taken, limited, shell_of, limit}
 use Rattle.edi_session.proofs.Later.{Later}
-use Rattle.edi_shell_calls.specs.Standing.{StandsIn, IsFault}
-use Rattle.edi_shell_calls.proofs.Faulted.{of_fault}
+use Rattle.edi_shell_io.specs.calls.Standing.{StandsIn, IsFault}
+use Rattle.edi_shell_io.proofs.calls.Faulted.{of_fault}
 use Rattle.edi_shell.specs.Taking.{GivesNone, Stops}
 
 module _ {C : Type 0} (stands : C → State → Type 0) where

@@ -10,7 +10,7 @@ use Rattle.edi_target.specs.declared.code_fault.CodeFault.TheVariants as code
 use Rattle.edi_session.specs.declared.end.SessionEnd.{SessionEnd}
 use Rattle.edi_session.specs.Shell.{Shell, says}
 use Rattle.edi_session.specs.Texts.{about, file_line}
-use Rattle.edi_shell_calls.specs.Standing.{At, StandsIn}
+use Rattle.edi_shell_io.specs.calls.Standing.{At, StandsIn}
 
 -- the line of a slot in the list of the files
 abbrev pub slot_line : Option File → List ℕ

@@ -5,7 +5,7 @@ use Rattle.edi_session.specs.declared.end.SessionEnd.{SessionEnd}
 use Rattle.edi_session.specs.declared.end.SessionEnd.TheVariants as end
 use Rattle.edi_session.specs.Session.{AfterLine, goes, closes, shell_in, StoresText, BehindTaken}
 use Rattle.edi_session.specs.Shell.{Shell, next_text}
-use Rattle.edi_shell_calls.specs.Standing.{At, StandsIn}
+use Rattle.edi_shell_io.specs.calls.Standing.{At, StandsIn}
 
 -- the row of `enter f`
 abbrev pub EntersFile : (f : List ℕ) → Shell → AfterLine → Type 0

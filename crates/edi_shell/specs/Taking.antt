@@ -5,7 +5,7 @@ use Rattle.edi_calls.specs.State.{State}
 use Rattle.edi_session.specs.declared.end.SessionEnd.{SessionEnd}
 use Rattle.edi_session.specs.declared.end.SessionEnd.TheVariants as end
 use Rattle.edi_session.specs.Shell.{Shell, Taken, took, ended, limited, shell_of, limit, state_in, took_byte, ends_text, take_line}
-use Rattle.edi_shell_calls.specs.Standing.{At, StandsIn, failed_by}
+use Rattle.edi_shell_io.specs.calls.Standing.{At, StandsIn, failed_by}
 
 -- So many bytes of a text have been taken, so many of them are its whole lines, and this tells whether the line behind them is the
 -- one that ends it.

@@ -4,12 +4,12 @@ ghost use Rattle.std.specs.Prelude.{◌≡◌};
 ghost use Rattle.edi_calls.specs.State.{slot_at};
 ghost use Rattle.edi_session.specs.Shell.{Shell, shown_by, state_in};
 ghost use Rattle.edi_session.specs.Texts.{catalogue_text};
-ghost use Rattle.edi_shell_calls.specs.Standing.{At, IsLeft, Leads};
+ghost use Rattle.edi_shell_io.specs.calls.Standing.{At, IsLeft, Leads};
 ghost use Rattle.edi_shell.specs.Files.{slot_line};
 
 use crate::saying::say;
-use edi_shell_calls::{OrEnd, ShellCalls};
-use edi_shell_lines::{entry_line, free_line};
+use edi_shell_io::calls::{OrEnd, ShellCalls};
+use edi_shell_io::lines::{entry_line, free_line};
 
 /// The slots of a catalogue.
 const SLOTS: usize = 256;

@@ -6,7 +6,7 @@ ghost use Rattle.edi_calls.specs.State.{most_bytes};
 ghost use Rattle.edi_calls.specs.declared.kinds.FileKind.TheVariants.{Text};
 ghost use Rattle.edi_session.specs.Files.{file_in, stores};
 ghost use Rattle.edi_session.specs.Shell.{Shell, line_with, next_text, text_with};
-ghost use Rattle.edi_shell_calls.specs.Standing.{At, IsLeft, Leads};
+ghost use Rattle.edi_shell_io.specs.calls.Standing.{At, IsLeft, Leads};
 ghost use Rattle.edi_shell.specs.Rows.{LineDoesOrEnds, EntersFile};
 ghost use Rattle.edi_shell.specs.Taking.{GivesText, IsLeftSo, IsSoFar};
 
@@ -17,7 +17,7 @@ use edi_calls::FileKind;
 use edi_catalog::CatEnd;
 use edi_image::Title;
 use edi_session::SessionEnd;
-use edi_shell_calls::{OrEnd, ShellCalls};
+use edi_shell_io::calls::{OrEnd, ShellCalls};
 
 const LINE_FEED: u8 = 10;
 

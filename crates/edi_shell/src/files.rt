@@ -3,12 +3,12 @@
 ghost use Rattle.std.specs.Prelude.{◌≡◌, ◌<◌, ◌^◌, length};
 ghost use Rattle.edi_session.specs.Files.{deletes, protects, renames, stores};
 ghost use Rattle.edi_session.specs.Shell.{Shell};
-ghost use Rattle.edi_shell_calls.specs.Standing.{At, IsLeft, Leads};
+ghost use Rattle.edi_shell_io.specs.calls.Standing.{At, IsLeft, Leads};
 
 use crate::saying::answer;
 use edi_calls::FileKind;
 use edi_image::Title;
-use edi_shell_calls::{OrEnd, ShellCalls};
+use edi_shell_io::calls::{OrEnd, ShellCalls};
 
 /// Stores bytes as a file, or shows why not.
 pub fn store_file<C: ShellCalls>(

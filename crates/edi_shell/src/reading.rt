@@ -4,7 +4,7 @@ ghost use Rattle.std.specs.Prelude.{◌≡◌, ◌≤◌, length, IfOk, IfSome, 
 ghost use Rattle.edi_calls.specs.State.{most_bytes};
 ghost use Rattle.edi_session.specs.Files.{copies_to, file_in, with_file, with_text};
 ghost use Rattle.edi_session.specs.Shell.{Shell, on_fresh_line, printed_by, shown_by};
-ghost use Rattle.edi_shell_calls.specs.Standing.{At, IsLeft, Leads};
+ghost use Rattle.edi_shell_io.specs.calls.Standing.{At, IsLeft, Leads};
 ghost use Rattle.edi_shell.specs.Files.{Opens, Reads, wrong};
 
 use crate::files::store_file;
@@ -12,8 +12,8 @@ use crate::saying::say;
 use edi_calls::FileKind;
 use edi_catalog::Entry;
 use edi_image::Title;
-use edi_shell_calls::{OrEnd, ShellCalls};
-use edi_shell_lines::about;
+use edi_shell_io::calls::{OrEnd, ShellCalls};
+use edi_shell_io::lines::about;
 
 // What is said of a file of another kind than the one that is asked for, if one is.
 fn wrong(wanted: Option<FileKind>, kind: FileKind) -> Option<&'static str>

@@ -6,13 +6,13 @@ ghost use Rattle.std.specs.Prelude.{Option, List};
 ghost use Rattle.edi_calls.specs.State.{File};
 ghost use Rattle.edi_session.specs.Files.{answered};
 ghost use Rattle.edi_session.specs.Shell.{Shell, says, shown_by};
-ghost use Rattle.edi_shell_calls.specs.Standing.{Answers, At, IsLeft, IsLeftBy, Leads};
+ghost use Rattle.edi_shell_io.specs.calls.Standing.{Answers, At, IsLeft, IsLeftBy, Leads};
 
 use edi_catalog::CatEnd;
 use edi_image::Title;
 use edi_session::SessionEnd;
-use edi_shell_calls::{OrEnd, ShellCalls};
-use edi_shell_lines::{Shown, change_refusal};
+use edi_shell_io::calls::{OrEnd, ShellCalls};
+use edi_shell_io::lines::{Shown, change_refusal};
 
 /// Shows a line with its line feed.
 pub fn say<C: ShellCalls>(calls: &mut C, line: &Shown) -> OrEnd<()>

@@ -2,12 +2,12 @@
 
 ghost use Rattle.std.specs.Prelude.{◌≡◌, ◌≤◌, ◌<◌, ◌+◌, ◌++◌, ◌∷◌, ◌==◌, ℕ, IfOk, IfSome, IfNone, List, [], length, take, true, false};
 ghost use Rattle.edi_session.specs.Shell.{Shell, Taken, echoed, next_line};
-ghost use Rattle.edi_shell_calls.specs.Standing.{At, IsLeft, Leads};
+ghost use Rattle.edi_shell_io.specs.calls.Standing.{At, IsLeft, Leads};
 ghost use Rattle.edi_shell.specs.Taking.{GivesByte, GivesLine, GivesMore, IsLeftSo, LineUnderway};
 
 use arrayvec::ArrayVec;
 use edi_session::SessionEnd;
-use edi_shell_calls::{OrEnd, ShellCalls};
+use edi_shell_io::calls::{OrEnd, ShellCalls};
 
 /// The most bytes that the shell takes in a session.
 pub const LIMIT: u32 = 4_194_304;

@@ -25,7 +25,7 @@ use Rattle.edi_session.specs.Files.{stores}
 use Rattle.edi_session.specs.Shell.{Shell, says, shown_by, state_in}
 use Rattle.edi_session.specs.Texts.{about, on_line, with_number}
 use Rattle.edi_session.proofs.Later.{says_on}
-use Rattle.edi_shell_calls.specs.Standing.{StandsIn, Leads, HasRead}
+use Rattle.edi_shell_io.specs.calls.Standing.{StandsIn, Leads, HasRead}
 use Rattle.edi_shell.specs.Files.{IsOpened, WasRefused, RefusalBroke, refused, refused_kind, wrong}
 use Rattle.edi_shell.proofs.Opening.{some_same}
 use Rattle.edi_shell.specs.Rows.{IsLike, LineGoesOn, LineBreaks, LineDoes}

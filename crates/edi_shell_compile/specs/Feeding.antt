@@ -5,7 +5,7 @@ use Rattle.edi_compile.specs.Taken.{HasTaken}
 use Rattle.edi_compile.specs.declared.intake.Intake.{Intake}
 use Rattle.edi_session.specs.declared.end.SessionEnd.{SessionEnd}
 use Rattle.edi_session.specs.Shell.{Shell}
-use Rattle.edi_shell_calls.specs.Standing.{At, StandsIn}
+use Rattle.edi_shell_io.specs.calls.Standing.{At, StandsIn}
 
 module _ {C : Type 0} (at : C → State → ℕ → Type 0) (stands : C → State → Type 0) where
   -- the whole file was taken, or memory ran out

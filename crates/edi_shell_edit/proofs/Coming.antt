@@ -17,7 +17,7 @@ use Rattle.edi_session.specs.Session.{AfterLine, BeginsEditing, EditsFile, Edits
 use Rattle.edi_session.specs.Shell.{Shell, commanding, editing, says, shown_by}
 use Rattle.edi_session.specs.Texts.{about}
 use Rattle.edi_shell.proofs.Opening.{some_same}
-use Rattle.edi_shell_calls.specs.Standing.{At, IsFault, IsLeft, Leads, ReadsFile, StandsIn}
+use Rattle.edi_shell_io.specs.calls.Standing.{At, IsFault, IsLeft, Leads, ReadsFile, StandsIn}
 use Rattle.edi_shell_edit.proofs.Chains.{chain_by, chain_on}
 use Rattle.edi_shell_edit.proofs.Rows.{broke}
 use Rattle.edi_shell_edit.specs.Chain.{Chain, LinesCome}

@@ -20,8 +20,8 @@ use Rattle.edi_session.specs.Files.{answered, why_line}
 use Rattle.edi_session.specs.Session.{AfterLine, ChangesLine, TakesBack, Writes, edit_refusal, edits_on, leaves, says_no_memory, written_back}
 use Rattle.edi_session.specs.Shell.{Shell, says, shown_by, state_in}
 use Rattle.edi_session.specs.declared.end.SessionEnd.{SessionEnd}
-use Rattle.edi_shell_calls.specs.Standing.{Answers, At, IsFault, IsLeft, StandsIn, with_slots}
-use Rattle.edi_shell_calls.proofs.Faulted.{of_fault}
+use Rattle.edi_shell_io.specs.calls.Standing.{Answers, At, IsFault, IsLeft, StandsIn, with_slots}
+use Rattle.edi_shell_io.proofs.calls.Faulted.{of_fault}
 use Rattle.edi_shell_edit.specs.Rows.{EditingBreaks, Edits, IsBehindLine, SaysOn, EditingStops}
 use Rattle.std.proofs.lemmas.List.Sums.{sum_by-cons}
 

@@ -15,7 +15,7 @@ use Rattle.edi_session.specs.Shell.{Shell, Taken, took, ended, limited, shell_of
 use Rattle.edi_session.specs.Words.{edit_line, kept_line}
 use Rattle.edi_shell.proofs.Standing.{stands_later}
 use Rattle.edi_shell.specs.Taking.{GivesLine, Stops}
-use Rattle.edi_shell_calls.specs.Standing.{At, StandsIn}
+use Rattle.edi_shell_io.specs.calls.Standing.{At, StandsIn}
 use Rattle.edi_shell.proofs.Keeping.{TakingKeeps, taking_behind}
 use Rattle.edi_shell_edit.proofs.Chains.{line_keeps}
 use Rattle.edi_shell_edit.specs.Rows.{EditingBreaks, Edits, IsBehindLine, EditingStops, puts}

@@ -6,7 +6,7 @@ use Rattle.edi_session.specs.declared.end.SessionEnd.{SessionEnd}
 use Rattle.edi_session.specs.declared.end.SessionEnd.TheVariants as end
 use Rattle.edi_session.specs.Session.{AfterLine, goes, closes, shell_in, Goes}
 use Rattle.edi_session.specs.Shell.{Shell, Mode, commanding, editing}
-use Rattle.edi_shell_calls.specs.Standing.{At, StandsIn}
+use Rattle.edi_shell_io.specs.calls.Standing.{At, StandsIn}
 
 abbrev pub IsEditing : Mode → Type 0
 IsEditing commanding = ⊥

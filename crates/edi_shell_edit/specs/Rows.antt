@@ -9,7 +9,7 @@ use Rattle.edi_session.specs.declared.line.EditLine.{EditLine}
 use Rattle.edi_session.specs.declared.line.EditLine.TheVariants as edit
 use Rattle.edi_session.specs.Session.{AfterLine, BeginsEditing, EditsFile, closes, edits_on, goes, leaves, shell_in}
 use Rattle.edi_session.specs.Shell.{Shell, shown_by}
-use Rattle.edi_shell_calls.specs.Standing.{At, StandsIn}
+use Rattle.edi_shell_io.specs.calls.Standing.{At, StandsIn}
 use Rattle.edi_shell.specs.Rows.{IsLike}
 
 -- the line with a further line that replaces line n, or is inserted

@@ -12,8 +12,8 @@ use crate::looking::say_on;
 use crate::taking::{MOST_KEPT, take_line};
 use edi_edit::{EditEnd, Text};
 use edi_shell::LIMIT;
-use edi_shell_calls::{OrEnd, ShellCalls};
-use edi_shell_lines::{Shown, plain, with_number};
+use edi_shell_io::calls::{OrEnd, ShellCalls};
+use edi_shell_io::lines::{Shown, plain, with_number};
 use std::alloc::Global;
 
 // Why line `n` is not changed.

@@ -13,8 +13,8 @@ use edi_edit::Text;
 use edi_image::Title;
 use edi_session::EditLine;
 use edi_shell::LIMIT;
-use edi_shell_calls::{OrEnd, ShellCalls};
-use edi_shell_words::edit_line;
+use edi_shell_io::calls::{OrEnd, ShellCalls};
+use edi_shell_io::words::edit_line;
 use std::alloc::Global;
 
 // Does what a line says, and tells whether the editing is left. A further line is taken into `line`.

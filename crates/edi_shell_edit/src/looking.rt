@@ -5,8 +5,8 @@ ghost use Rattle.edi_shell_edit.specs.Prelude.{Editing, EditsBy, Shell, At, IsLe
 ghost use Rattle.edi_session.specs.declared.line.EditLine.TheVariants as edit;
 
 use edi_edit::Text;
-use edi_shell_calls::{OrEnd, ShellCalls};
-use edi_shell_lines::with_number;
+use edi_shell_io::calls::{OrEnd, ShellCalls};
+use edi_shell_io::lines::with_number;
 
 /// Shows these bytes, and tells that the editing is not left.
 pub(crate) fn say_on<C: ShellCalls>(calls: &mut C, bytes: &[u8]) -> OrEnd<bool>

@@ -14,8 +14,8 @@ use edi_calls::FileKind;
 use edi_edit::Text;
 use edi_image::Title;
 use edi_shell::LIMIT;
-use edi_shell_calls::{OrEnd, ShellCalls};
-use edi_shell_lines::about;
+use edi_shell_io::calls::{OrEnd, ShellCalls};
+use edi_shell_io::lines::about;
 use std::alloc::Global;
 
 // Reads the text of the file `f` into `room`, and gives the number of its bytes, 0 where there is no such file; where the file is

@@ -7,7 +7,7 @@ ghost use Rattle.edi_session.specs.Shell.{next_line};
 ghost use Rattle.edi_shell.specs.Taking.{GivesLine};
 
 use edi_shell::{LIMIT, next_of_line};
-use edi_shell_calls::{OrEnd, ShellCalls};
+use edi_shell_io::calls::{OrEnd, ShellCalls};
 
 /// So many bytes of a line of an editing are kept, one more than a text may have.
 pub(crate) const MOST_KEPT: usize = 261_121;

@@ -10,8 +10,8 @@ use edi_catalog::CatEnd;
 use edi_edit::Text;
 use edi_image::Title;
 use edi_session::SessionEnd;
-use edi_shell_calls::{OrEnd, ShellCalls};
-use edi_shell_lines::change_refusal;
+use edi_shell_io::calls::{OrEnd, ShellCalls};
+use edi_shell_io::lines::change_refusal;
 use std::alloc::Global;
 
 /// `w`: stores the text as the file `f`, or shows why not; and tells whether it is stored, so that the editing is left.

@@ -10,7 +10,7 @@ use Rattle.edi_session.specs.declared.line.Line.{Line}
 use Rattle.edi_session.specs.declared.line.Line.TheVariants as line
 use Rattle.edi_session.specs.Session.{ActsBy, AfterLine, goes, closes}
 use Rattle.edi_session.specs.Shell.{Shell}
-use Rattle.edi_shell_calls.specs.Standing.{IsLeft, Leads}
+use Rattle.edi_shell_io.specs.calls.Standing.{IsLeft, Leads}
 use Rattle.edi_shell.specs.Rows.{LineDoes, LineDoesOrEnds}
 use Rattle.edi_shell_edit.specs.Chain.{LinesCome}
 use Rattle.edi_shell_sessions.specs.Ends.{Awaits}

@@ -14,8 +14,8 @@ use Rattle.edi_execute.proofs.Executing.{run_keeps}
 use Rattle.edi_system.specs.Ends.{Blames, Keeps}
 use Rattle.edi_system.specs.State.{failed_in, faults_of}
 use Rattle.edi_system.specs.declared.system.System.{System}
-use Rattle.edi_shell_calls.specs.OnSystem.{SystemLasts}
-use Rattle.edi_shell_calls.specs.Standing.{failed_by}
+use Rattle.edi_shell_io.specs.calls.OnSystem.{SystemLasts}
+use Rattle.edi_shell_io.specs.calls.Standing.{failed_by}
 use Rattle.edi_shell.specs.Taking.{Stays}
 use Rattle.edi_shell_sessions.specs.Ends.{SessionEnds, SessionHasEnded, SessionHasFailed, ends_by_fault}
 use Rattle.edi_shell_sessions.proofs.Failing.{otherwise}

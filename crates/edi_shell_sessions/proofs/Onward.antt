@@ -7,8 +7,8 @@ use Rattle.edi_session.specs.declared.end.SessionEnd.{SessionEnd}
 use Rattle.edi_session.specs.declared.end.SessionEnd.TheVariants as end
 use Rattle.edi_session.specs.Session.{AfterLine, goes, closes, ComesTo, Goes}
 use Rattle.edi_session.specs.Shell.{Shell}
-use Rattle.edi_shell_calls.specs.Standing.{IsFault}
-use Rattle.edi_shell_calls.proofs.Faulted.{of_fault}
+use Rattle.edi_shell_io.specs.calls.Standing.{IsFault}
+use Rattle.edi_shell_io.proofs.calls.Faulted.{of_fault}
 use Rattle.edi_shell_edit.specs.Chain.{LinesBreakOff, LinesClose, LinesCome}
 use Rattle.edi_shell_edit.proofs.Chains.{chain_by}
 

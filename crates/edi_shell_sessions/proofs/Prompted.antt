@@ -11,7 +11,7 @@ use Rattle.edi_session.specs.Shell.{Shell, commanding, state_in, Taken, took, en
 use Rattle.edi_session.specs.Words.{command_line}
 use Rattle.edi_session.proofs.Later.{Later, shown_on, take_line_on}
 use Rattle.edi_session.proofs.Total.{acts}
-use Rattle.edi_shell_calls.specs.Standing.{At, IsFault, StandsIn}
+use Rattle.edi_shell_io.specs.calls.Standing.{At, IsFault, StandsIn}
 use Rattle.edi_shell.specs.Taking.{GivesLine, Stops}
 use Rattle.edi_shell.proofs.Standing.{stands_later}
 use Rattle.edi_shell_edit.specs.Chain.{LinesBreakOff, LinesClose, LinesCome}

@@ -8,8 +8,8 @@ use Rattle.edi_session.specs.declared.end.SessionEnd.{SessionEnd}
 use Rattle.edi_session.specs.declared.end.SessionEnd.TheVariants as end
 use Rattle.edi_session.specs.Session.{goes, closes, ComesTo, Goes}
 use Rattle.edi_session.specs.Shell.{Shell, on_fresh_line}
-use Rattle.edi_shell_calls.specs.Standing.{At, IsFault, StandsIn}
-use Rattle.edi_shell_calls.proofs.Faulted.{of_fault}
+use Rattle.edi_shell_io.specs.calls.Standing.{At, IsFault, StandsIn}
+use Rattle.edi_shell_io.proofs.calls.Faulted.{of_fault}
 use Rattle.edi_shell_edit.specs.Chain.{LinesBreakOff, LinesClose, LinesCome}
 use Rattle.edi_shell_sessions.specs.Ends.{Awaits, ends_by_fault, SessionEnds, SessionHasEnded, SessionHasFailed, SessionIsToEnd, SessionStops}
 use Rattle.edi_shell_sessions.proofs.Failing.{by_end, by_fault, ended_so, failed_so}

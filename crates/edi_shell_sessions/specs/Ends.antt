@@ -6,7 +6,7 @@ use Rattle.edi_session.specs.declared.end.SessionEnd.{SessionEnd}
 use Rattle.edi_session.specs.declared.end.SessionEnd.TheVariants as end
 use Rattle.edi_session.specs.Session.{closes, ComesTo, Goes, IsMomentOfSession, Session}
 use Rattle.edi_session.specs.Shell.{Shell, commanding}
-use Rattle.edi_shell_calls.specs.Standing.{At}
+use Rattle.edi_shell_io.specs.calls.Standing.{At}
 
 -- a command line is awaited; so many bytes have been taken and choices drawn
 pub record Awaits {C : Type 0} (at : C → State → ℕ → Type 0) (s : Shell) (taken drawn : ℕ) (c : C) : Type 0 where

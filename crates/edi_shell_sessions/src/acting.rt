@@ -3,7 +3,7 @@
 ghost use Rattle.std.specs.Prelude.{◌≡◌, ◌≤◌, ◌<◌, ◌+◌, ◌^◌, length};
 ghost use Rattle.edi_shell_sessions.specs.Prelude.{most_bytes, Shell, IsLeftSo, LinesCome, Awaits};
 ghost use Rattle.edi_session.specs.Session.{ActsBy};
-ghost use Rattle.edi_shell_calls.specs.Standing.{At, IsLeft, Leads};
+ghost use Rattle.edi_shell_io.specs.calls.Standing.{At, IsLeft, Leads};
 ghost use Rattle.edi_shell_sessions.specs.Done.{done_by};
 
 use edi_kernel::Kernel;
@@ -12,9 +12,9 @@ use edi_shell::{
     LIMIT, copy_file, delete_file, enter_file, execute_file, list_files, print_file, protect_file,
     rename_file, show_file,
 };
-use edi_shell_calls::{OrEnd, ShellCalls};
 use edi_shell_compile::compile_file;
 use edi_shell_edit::edit_file;
+use edi_shell_io::calls::{OrEnd, ShellCalls};
 use edi_trace::Choices;
 use std::alloc::Global;
 

@@ -9,8 +9,8 @@ use crate::acting::act;
 use edi_kernel::Kernel;
 use edi_session::SessionEnd;
 use edi_shell::{LIMIT, LineBytes, take_command};
-use edi_shell_calls::{OrEnd, ShellCalls};
-use edi_shell_words::command_line;
+use edi_shell_io::calls::{OrEnd, ShellCalls};
+use edi_shell_io::words::command_line;
 use edi_trace::Choices;
 use std::alloc::Global;
 

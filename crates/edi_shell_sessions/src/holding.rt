@@ -7,7 +7,7 @@ use crate::commanding::{close, command};
 use edi_kernel::Kernel;
 use edi_session::SessionEnd;
 use edi_shell::LIMIT;
-use edi_shell_calls::ShellCalls;
+use edi_shell_io::calls::ShellCalls;
 use edi_trace::Choices;
 use std::alloc::Global;
 

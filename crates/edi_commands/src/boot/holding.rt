@@ -7,7 +7,7 @@ ghost use Rattle.edi_calls.specs.State.{most_bytes};
 ghost use Rattle.edi_catalog.specs.Taken.{IsOfCount};
 ghost use Rattle.edi_image.specs.Finds.{IsFirst};
 ghost use Rattle.edi_image.specs.Image.{mount_fault_of};
-ghost use Rattle.edi_shell_calls.specs.Standing.{failed_by};
+ghost use Rattle.edi_shell_io.specs.calls.Standing.{failed_by};
 ghost use Rattle.edi_statuses.specs.EachObject.{MayBeImage};
 ghost use Rattle.edi_execute.specs.Objects.{FailedIs, NoneFalls, faults_in, objects};
 ghost use Rattle.edi_commands.specs.boot.OnObjects.{SessionLeft};

@@ -3,7 +3,7 @@ use Rattle.std.proofs.Common.{◌≡◌, ◌<◌, ◌+◌, ◌∙◌, sym, subst
 use Rattle.std.proofs.lemmas.Result.{err_from_is_err_and}
 use Rattle.edi_session.specs.Shell.{shown_by, state_in}
 use Rattle.edi_session.specs.Texts.{catalogue_text}
-use Rattle.edi_shell_calls.specs.Standing.{At, Leads, StandsIn}
+use Rattle.edi_shell_io.specs.calls.Standing.{At, Leads, StandsIn}
 use Rattle.edi_shell.proofs.SlotLines.{behind_all, behind_slot, first_lines, part_on}
 use Rattle.edi_shell.proofs.Standing.{stands_later}
 use Rattle.edi_shell.proofs.catalogue.list_files.Goals as goal

@@ -1,5 +1,5 @@
 use Rattle.edi_session.specs.Shell.{Shell, shown_by, state_in}
-use Rattle.edi_shell_calls.specs.Standing.{At}
+use Rattle.edi_shell_io.specs.calls.Standing.{At}
 use Rattle.edi_shell.proofs.SlotLines.{first_lines}
 use Rattle.edi_shell.proofs.catalogue.list_files.Given as goal
 

@@ -2,7 +2,7 @@
 use Rattle.std.proofs.Common.{sym, subst}
 use Rattle.edi_calls.specs.State.{slot_at}
 use Rattle.edi_session.specs.Shell.{shown_by, state_in}
-use Rattle.edi_shell_calls.specs.Standing.{Leads}
+use Rattle.edi_shell_io.specs.calls.Standing.{Leads}
 use Rattle.edi_shell.proofs.SlotLines.{entry_is, none_is}
 use Rattle.edi_shell.proofs.catalogue.list_slot.Goals as goal
 

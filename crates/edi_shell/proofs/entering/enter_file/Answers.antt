@@ -4,7 +4,7 @@ use Rattle.std.proofs.lemmas.Result.{err_from_is_err_and}
 use Rattle.edi_calls.specs.declared.kinds.FileKind.TheVariants as file_kind
 use Rattle.edi_session.specs.Files.{stores}
 use Rattle.edi_session.specs.Shell.{next_text}
-use Rattle.edi_shell_calls.specs.Standing.{Leads}
+use Rattle.edi_shell_io.specs.calls.Standing.{Leads}
 use Rattle.edi_shell.proofs.Entered.{all_kept, enter_stops, enter_stores, text_taken}
 use Rattle.edi_shell.proofs.entering.enter_file.Goals as goal
 

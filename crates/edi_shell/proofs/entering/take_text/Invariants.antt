@@ -1,6 +1,6 @@
 use Rattle.std.proofs.Common.{◌≡◌, ◌-◌, ◌≤◌, length}
 use Rattle.edi_session.specs.Shell.{Shell, next_text}
-use Rattle.edi_shell_calls.specs.Standing.{At}
+use Rattle.edi_shell_io.specs.calls.Standing.{At}
 use Rattle.edi_shell.proofs.Entered.{TextUnderway}
 use Rattle.edi_shell.proofs.entering.take_text.Given as goal
 

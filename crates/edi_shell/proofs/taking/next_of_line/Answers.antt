@@ -3,7 +3,7 @@ use Rattle.std.proofs.Common.{◌≡◌, ◌==◌, ◌∷◌, ◌++◌, ◌+◌,
 use Rattle.std.specs.Prelude.{Ok, IfSome, IfNone}
 use Rattle.std.proofs.lemmas.Result.{err_from_is_err_and}
 use Rattle.edi_session.specs.Shell.{echoed, took_byte}
-use Rattle.edi_shell_calls.specs.Standing.{At}
+use Rattle.edi_shell_io.specs.calls.Standing.{At}
 use Rattle.edi_shell.specs.Taking.{GivesByte}
 use Rattle.edi_shell.proofs.Lines.{byte_breaks, echoed_taken, ends_empty, fed_is, gives_line, keeps_still, last_is, line_breaks, more_is, no_bytes, none_stops}
 use Rattle.edi_shell.proofs.Lines.{same_empty, some_bytes}

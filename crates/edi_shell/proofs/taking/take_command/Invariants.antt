@@ -1,6 +1,6 @@
 use Rattle.std.proofs.Common.{◌≡◌, ◌-◌, true}
 use Rattle.edi_session.specs.Shell.{Shell, next_line}
-use Rattle.edi_shell_calls.specs.Standing.{At}
+use Rattle.edi_shell_io.specs.calls.Standing.{At}
 use Rattle.edi_shell.specs.Taking.{LineUnderway}
 use Rattle.edi_shell.proofs.Lines.{TakesOn}
 use Rattle.edi_shell.proofs.taking.take_command.Given as goal

@@ -3,7 +3,7 @@ use Rattle.std.proofs.Common.{◌≡◌, ◌*◌, rules, subst, take}
 use Rattle.std.specs.Prelude.{Ok}
 use Rattle.std.proofs.lemmas.Result.{err_from_is_err_and}
 use Rattle.edi_session.specs.Files.{file_in}
-use Rattle.edi_shell_calls.specs.Standing.{ReadsPage}
+use Rattle.edi_shell_io.specs.calls.Standing.{ReadsPage}
 use Rattle.edi_shell_compile.proofs.Compiles.{next_page, whole_file}
 use Rattle.edi_shell_compile.proofs.compiling.feed_file.Goals as goal
 

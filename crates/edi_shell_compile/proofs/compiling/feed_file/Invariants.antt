@@ -3,7 +3,7 @@ use Rattle.edi_calls.specs.State.{File}
 use Rattle.edi_compile.specs.Taken.{HasTaken}
 use Rattle.edi_session.specs.Files.{file_in}
 use Rattle.edi_session.specs.Shell.{Shell}
-use Rattle.edi_shell_calls.specs.Standing.{At}
+use Rattle.edi_shell_io.specs.calls.Standing.{At}
 use Rattle.edi_shell_compile.proofs.compiling.feed_file.Given as goal
 
 abbrev pub invariant-loop-i : goal.invariant-loop-i

@@ -2,7 +2,7 @@ use Rattle.std.proofs.Common.{◌≡◌, ℕ, ◌-◌, ◌≤◌}
 use Rattle.std.specs.Prelude.{vec_capacity}
 use Rattle.edi_calls.specs.Choice.{Choices}
 use Rattle.edi_session.specs.Shell.{Shell, editing}
-use Rattle.edi_shell_calls.specs.Standing.{At}
+use Rattle.edi_shell_io.specs.calls.Standing.{At}
 use Rattle.edi_shell_edit.proofs.Coming.{Underway}
 use Rattle.edi_shell_edit.proofs.editing.edit_lines.Given as goal
 

@@ -2,7 +2,7 @@ use Rattle.std.proofs.Common.{◌≡◌, ◌-◌, ◌≤◌, false, length}
 use Rattle.std.specs.Prelude.{vec_capacity}
 use Rattle.edi_edit.specs.Lines.{has_feed}
 use Rattle.edi_session.specs.Shell.{Shell, next_line}
-use Rattle.edi_shell_calls.specs.Standing.{At}
+use Rattle.edi_shell_io.specs.calls.Standing.{At}
 use Rattle.edi_shell.specs.Taking.{LineUnderway}
 use Rattle.edi_shell.proofs.Lines.{TakesOn}
 use Rattle.edi_shell_edit.proofs.taking.take_line.Given as goal

@@ -8,7 +8,7 @@ use Rattle.edi_catalog.specs.declared.ends.CatEnd.{CatEnd}
 use Rattle.edi_session.specs.Files.{why_line}
 use Rattle.edi_session.specs.Session.{Writes}
 use Rattle.edi_session.specs.Shell.{state_in}
-use Rattle.edi_shell_calls.specs.Standing.{Answers}
+use Rattle.edi_shell_io.specs.calls.Standing.{Answers}
 use Rattle.edi_shell_edit.proofs.Rows.{not_stored, said, store_broke, stored}
 use Rattle.edi_shell_edit.proofs.writing.write_text.Goals as goal
 

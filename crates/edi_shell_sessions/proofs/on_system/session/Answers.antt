@@ -2,13 +2,13 @@
 use Rattle.std.proofs.Common.{sym, subst, refl}
 use Rattle.std.specs.Prelude.{IsSome}
 use Rattle.edi_session.specs.Shell.{session_on}
-use Rattle.edi_shell_calls.specs.OnSystem.{HasState, StandsAt}
+use Rattle.edi_shell_io.specs.calls.OnSystem.{HasState, StandsAt}
 use Rattle.edi_system.specs.State.{failed_in, state_of, IsReady}
 use Rattle.edi_shell_sessions.specs.Ends.{IsFreshly, IsFreshlySince}
 use Rattle.edi_system.proofs.Chained.{told_behind}
 use Rattle.edi_system.proofs.Lasting.{valid_ready}
 use Rattle.edi_shell_sessions.proofs.OnSystem.{ends_otherwise, failed_so, keeps_all, told_both}
-use Rattle.edi_shell_calls.specs.Lasting.{told_before}
+use Rattle.edi_shell_io.specs.calls.Lasting.{told_before}
 use Rattle.edi_shell_sessions.proofs.on_system.session.Goals as goal
 
 pub returns-clause-exact : goal.returns-clause-exact

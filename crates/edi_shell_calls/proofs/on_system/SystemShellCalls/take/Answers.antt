@@ -1,8 +1,0 @@
-use Rattle.edi_shell_calls.proofs.Told.{takes}
-use Rattle.edi_shell_calls.proofs.on_system.SystemShellCalls.take.Goals as goal
-
-pub returns-clause-exact : goal.returns-clause-exact
-returns-clause-exact g c = λ s at tells.
-    rw c.taken_by.ensures
-    (takes g.D.Drive.contents g.S.Source.left g.T.Sink.taken g.P.Sink.taken c.args.self.now c.take.new.self s at tells c.take.ensures.due
-    c.take.result c.take.ensures.exact)

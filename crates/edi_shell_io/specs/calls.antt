@@ -1,0 +1,4 @@
+-- Helper. The files of `calls`.
+pub mod Standing
+pub mod OnSystem
+pub mod Lasting

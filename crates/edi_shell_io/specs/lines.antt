@@ -1,0 +1,2 @@
+-- Helper. The files of `lines`.
+pub mod Endings

@@ -1,0 +1,2 @@
+-- Helper. The files of `words`.
+pub mod Operands

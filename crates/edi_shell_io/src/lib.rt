@@ -1,0 +1,6 @@
+//! edi_shell_io: calls, lines, words.
+#![tactic(auto)]
+
+pub mod calls;
+pub mod lines;
+pub mod words;
