@@ -1,3 +1,4 @@
-pub mod Taking
-pub mod Files
-pub mod Rows
+pub mod commands
+pub mod compile
+pub mod edit
+pub mod sessions

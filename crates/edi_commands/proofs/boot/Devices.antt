@@ -7,8 +7,8 @@ use Rattle.edi_image.specs.Image.{mount_fault_of}
 use Rattle.edi_session.specs.declared.end.SessionEnd.{SessionEnd}
 use Rattle.edi_session.specs.Session.{IsMomentOfSession}
 use Rattle.edi_session.specs.Shell.{session_on, state_in}
-use Rattle.edi_shell_sessions.specs.Ends.{ends_by_fault, SessionHasEnded, SessionHasFailed}
-use Rattle.edi_shell_sessions.proofs.Failing.{ended_so, failed_so}
+use Rattle.edi_shell.specs.sessions.Ends.{ends_by_fault, SessionHasEnded, SessionHasFailed}
+use Rattle.edi_shell.proofs.sessions.Failing.{ended_so, failed_so}
 use Rattle.edi_trace.specs.Drawn.{Drawn}
 use Rattle.edi_statuses.specs.Executions.{StandsAt}
 use Rattle.edi_statuses.specs.Outside.{DevicesAreAt}

@@ -9,7 +9,7 @@ use Rattle.edi_image.specs.declared.faults.MountFault.{MountFault}
 use Rattle.edi_session.specs.declared.end.SessionEnd.{SessionEnd}
 use Rattle.edi_session.specs.declared.end.SessionEnd.TheVariants as end
 use Rattle.edi_session.specs.Session.{IsMomentOfSession}
-use Rattle.edi_shell_sessions.specs.Ends.{ends_by_fault}
+use Rattle.edi_shell.specs.sessions.Ends.{ends_by_fault}
 use Rattle.edi_trace.specs.Drawn.{Drawn}
 use Rattle.edi_words.specs.Words as words
 use Rattle.edi_words.specs.Words.{ChoicesFrom, Options, nowhere, file, seed}

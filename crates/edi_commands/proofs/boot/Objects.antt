@@ -8,8 +8,8 @@ use Rattle.edi_calls.specs.declared.ends.Outside.TheVariants as outside
 use Rattle.edi_calls.specs.State.{State}
 use Rattle.edi_session.specs.declared.end.SessionEnd.{SessionEnd}
 use Rattle.edi_session.specs.Shell.{session_on}
-use Rattle.edi_shell_sessions.specs.Ends.{IsFreshly, IsFreshlySince, SessionEnds, SessionLeaves}
-use Rattle.edi_shell_sessions.proofs.OnSystem.{ends_otherwise}
+use Rattle.edi_shell.specs.sessions.Ends.{IsFreshly, IsFreshlySince, SessionEnds, SessionLeaves}
+use Rattle.edi_shell.proofs.sessions.OnSystem.{ends_otherwise}
 use Rattle.edi_system.specs.AsCalls.{IsDueFrom, IsDueSince, KeepsDue}
 use Rattle.edi_system.specs.Ends.{Blames}
 use Rattle.edi_system.specs.Parts.{due_after, KeepsTold, SystemBegins}

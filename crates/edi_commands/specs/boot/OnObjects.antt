@@ -5,7 +5,7 @@ use Rattle.edi_calls.specs.State.{State}
 use Rattle.edi_execute.specs.Objects.{Contents, Objects, Show, contents_of, system_on}
 use Rattle.edi_session.specs.declared.end.SessionEnd.{SessionEnd}
 use Rattle.edi_session.specs.Shell.{session_on}
-use Rattle.edi_shell_sessions.specs.Ends.{SessionEnds}
+use Rattle.edi_shell.specs.sessions.Ends.{SessionEnds}
 use Rattle.edi_system.specs.Parts.{due_after, ToldStays}
 use Rattle.edi_trace.specs.Drawn.{Drawn}
 use Rattle.edi_commands.specs.declared.boot.holding.SessionExit.{SessionExit}

@@ -17,7 +17,7 @@ use crate::steps::{end_with_record, mount_status, read_from, stopped};
 use edi_host::{Drive, Files, Sink, Source};
 use edi_kernel::Kernel;
 use edi_session::SessionEnd;
-use edi_shell_sessions::ends_by_fault;
+use edi_shell::sessions::ends_by_fault;
 use edi_statuses::{Ended, Status};
 use edi_trace::Choices;
 use edi_words::Options;

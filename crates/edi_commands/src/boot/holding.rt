@@ -17,7 +17,7 @@ use edi_disk::Disk;
 use edi_host::{Drive, Sink, Source};
 use edi_kernel::Kernel;
 use edi_session::SessionEnd;
-use edi_shell_sessions::session;
+use edi_shell::sessions::session;
 use edi_system::{Buffer, System};
 use edi_trace::Choices;
 use std::alloc::{AllocError, Global};

@@ -1,6 +1,6 @@
 -- The exits of a session on the objects of a command.
 use Rattle.std.proofs.Common.{rules, ◌≡◌, ◌∙◌, ◌+◌, ◌*◌, ◌<◌, ◌^◌, true, false, option_map, arith, refl, sym, subst, ap}
-use Rattle.edi_shell_sessions.specs.Ends.{ends_by_fault}
+use Rattle.edi_shell.specs.sessions.Ends.{ends_by_fault}
 use Rattle.edi_statuses.specs.Counts.{Counts, HasCause, counts_of}
 use Rattle.edi_statuses.specs.Outside.{kernel_of}
 use Rattle.edi_commands.proofs.run.Counted.{none_falls, record_cause}

@@ -3,7 +3,7 @@ use Rattle.std.proofs.Common.{rules}
 use Rattle.edi_disk.specs.Shown.{drive_of}
 use Rattle.edi_execute.proofs.Runs.{mounted_run, none_falls, only_read}
 use Rattle.edi_shell_io.specs.calls.Standing.{failed_by}
-use Rattle.edi_shell_sessions.specs.Ends.{ends_by_fault}
+use Rattle.edi_shell.specs.sessions.Ends.{ends_by_fault}
 use Rattle.edi_statuses.proofs.EachLeft.{mounted_image}
 use Rattle.edi_commands.proofs.boot.Objects.{blamed, session_left}
 use Rattle.edi_commands.proofs.boot.holding.hold_on.Goals as goal

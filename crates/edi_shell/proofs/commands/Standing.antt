@@ -1,0 +1,31 @@
+-- Where an object stands after a fault, told of a later shell.
+use Rattle.std.proofs.Common.{◌≡◌, ℕ, true, subst, sym}
+use Rattle.std.specs.Prelude.{nat_le}
+use Rattle.edi_calls.specs.State.{State}
+use Rattle.edi_session.specs.declared.end.SessionEnd.{SessionEnd}
+use Rattle.edi_session.specs.declared.end.SessionEnd.TheVariants as end
+use Rattle.edi_session.specs.Shell.{Shell, Taken, limited, shell_of, limit}
+use Rattle.edi_session.proofs.Later.{Later}
+use Rattle.edi_shell_io.specs.calls.Standing.{StandsIn, IsFault}
+use Rattle.edi_shell_io.proofs.calls.Faulted.{of_fault}
+use Rattle.edi_shell.specs.commands.Taking.{GivesNone, Stops}
+
+module _ {C : Type 0} (stands : C → State → Type 0) where
+  pub stands_later : (s t : Shell) (c : C) → Later s t → StandsIn stands s c → StandsIn stands t c
+  stands_later s t c on st = record { moment = st.moment; there = on st.moment st.there; is = st.is }
+
+-- no line is taken where an object has failed on the way to it
+pub fault_stops : {C : Type 0} (at : C → State → ℕ → Type 0) (stands : C → State → Type 0) (e : SessionEnd) (taken : Taken) (c : C)
+    → IsFault e → StandsIn stands (shell_of taken) c → Stops at stands e taken c
+fault_stops at stands e taken c fault st = of_fault (λ x. Stops at stands x taken c) st st st st e fault
+
+-- no byte is taken, and so neither a line nor a text
+pub nothing_stops : {C : Type 0} (at : C → State → ℕ → Type 0) (stands : C → State → Type 0) (s : Shell) (taken : Taken) (e : SessionEnd) (c : C)
+    → (nat_le limit s.taken ≡ true → taken ≡ limited s) → Later s (shell_of taken) → GivesNone at stands e s c → Stops at stands e taken c
+nothing_stops at stands s taken end.Halted c full on none = absurd none
+nothing_stops at stands s taken end.InputEnd c full on none = absurd none
+nothing_stops at stands s taken end.Limit c full on none = subst (λ w. Stops at stands end.Limit w c) (sym (full none.0)) none.1
+nothing_stops at stands s taken end.DriveFault c full on st = stands_later stands s (shell_of taken) c on st
+nothing_stops at stands s taken end.InputFault c full on st = stands_later stands s (shell_of taken) c on st
+nothing_stops at stands s taken end.TerminalFault c full on st = stands_later stands s (shell_of taken) c on st
+nothing_stops at stands s taken end.PrinterFault c full on st = stands_later stands s (shell_of taken) c on st

@@ -1,0 +1,2 @@
+-- Helper. The files of `compile`.
+pub mod Feeding

@@ -1,0 +1,4 @@
+-- Helper. The files of `sessions`.
+pub mod Done
+pub mod Ends
+pub mod Prelude
