@@ -1,3 +1,5 @@
+pub mod names
+pub mod nesting
 pub mod Judged
 pub mod Environment
 pub mod Proper

@@ -9,6 +9,8 @@ mod fits;
 mod headings;
 mod known;
 pub mod laws;
+pub mod names;
+pub mod nesting;
 mod operands;
 mod params;
 mod parts;

@@ -16,9 +16,9 @@ use Rattle.edi_static.specs.Expressions.{Reached, Located, args_count, rooted, e
 use Rattle.edi_static.specs.Expressions.{multipliers, multiplier, factor, applied, more_elements, more_arguments, variable_value, variable_place, selectors}
 use Rattle.edi_static.specs.Expressions.{selector, all_arguments}
 use Rattle.edi_static.proofs.Judging.{Gives, bind, behind, ruled, weaker}
-use Rattle.edi_nesting.specs.Nesting.{place_nesting, parts_nesting, arguments_nesting}
-use Rattle.edi_nesting.proofs.Parts.{Within, LinkWithin, LinksWithin, PartWithin, ListWithin, ArgumentWithin, chained_within, operated_within, signed_within}
-use Rattle.edi_nesting.proofs.Parts.{single_within, alone_within, element_within, both_within, constructed_within, argument_within, field_within}
+use Rattle.edi_static.specs.nesting.Nesting.{place_nesting, parts_nesting, arguments_nesting}
+use Rattle.edi_static.proofs.nesting.Parts.{Within, LinkWithin, LinksWithin, PartWithin, ListWithin, ArgumentWithin, chained_within, operated_within, signed_within}
+use Rattle.edi_static.proofs.nesting.Parts.{single_within, alone_within, element_within, both_within, constructed_within, argument_within, field_within}
 
 abbrev pub PartsWithin : ℕ → Reached → Type 0
 PartsWithin most r = parts_nesting r.parts ≤ most

@@ -19,7 +19,7 @@ use Rattle.edi_static.specs.Fitting.{Use, constructs, calls, halts, neither, use
 use Rattle.edi_static.specs.Fitting.{character, single, function_called, expressions_of, made, takes_parts, constructed, is_record, index_of_name}
 use Rattle.edi_static.specs.Expressions.{Parted, field_at, field_of, used_alone, alone, taken, element, procedure_argument, argument}
 use Rattle.edi_static.proofs.Judging.{Gives, bind, behind, ruled}
-use Rattle.edi_nesting.specs.Nesting.{expression_nesting, expressions_nesting, link_nesting, links_nesting, part_nesting, argument_nesting}
+use Rattle.edi_static.specs.nesting.Nesting.{expression_nesting, expressions_nesting, link_nesting, links_nesting, part_nesting, argument_nesting}
 
 abbrev pub Within : ℕ → Typed → Type 0
 Within most v = expression_nesting v.what ≤ most

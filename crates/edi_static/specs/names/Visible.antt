@@ -12,7 +12,7 @@ use Rattle.edi_tree.specs.Tree.{Declarations, no_declaration, next_declaration, 
 use Rattle.edi_tree.specs.Tree.{program}
 use Rattle.edi_static.specs.Headings.{own_name}
 use Rattle.edi_static.specs.Declarations.{procedure_name}
-use Rattle.edi_names.specs.Uses.{NameKnown, ConstantKnown, ListKnown}
+use Rattle.edi_static.specs.names.Uses.{NameKnown, ConstantKnown, ListKnown}
 
 -- ---- the names that a declaration declares
 

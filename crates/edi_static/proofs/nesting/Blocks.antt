@@ -14,9 +14,9 @@ use Rattle.edi_static.specs.Statements.{procedure_called, acts_append, with_stat
 use Rattle.edi_static.proofs.Judging.{Gives, bind, behind, ruled}
 use Rattle.edi_static.proofs.Declared.{Keeping, of_blocks, block_or}
 use Rattle.edi_static.proofs.Lasting.{Said, Lasting, UnitLasts, unit_lasts}
-use Rattle.edi_nesting.specs.Nesting.{IsShallow, UnitsAreShallow, act_nesting, acts_nesting, clause_nesting, clauses_nesting}
-use Rattle.edi_nesting.proofs.Parts.{Within}
-use Rattle.edi_nesting.proofs.Expressions.{PlaceWithin, ArgumentsWithin, expression_within, place_within, arguments_within}
+use Rattle.edi_static.specs.nesting.Nesting.{IsShallow, UnitsAreShallow, act_nesting, acts_nesting, clause_nesting, clauses_nesting}
+use Rattle.edi_static.proofs.nesting.Parts.{Within}
+use Rattle.edi_static.proofs.nesting.Expressions.{PlaceWithin, ArgumentsWithin, expression_within, place_within, arguments_within}
 
 -- ---- statements without statements in them
 

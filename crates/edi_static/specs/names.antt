@@ -1,3 +1,4 @@
+-- Helper. The files of `names`.
 pub mod Uses
 pub mod Visible
 pub mod Rows

@@ -19,8 +19,8 @@ use Rattle.edi_static.specs.Types as types
 use Rattle.edi_static.specs.Expressions as spec
 use Rattle.edi_static.specs.Leaves.{ExprHolds, ComparisonHolds, ExprsHolds, SimpleHolds, AddendsHolds, TermHolds, MultipliersHolds, FactorHolds, ArgsHolds}
 use Rattle.edi_static.specs.Leaves.{VariableHolds, SelectorHolds, SelectorsHolds}
-use Rattle.edi_names.specs.Uses.{is_among, NameKnown, ConstantKnown, RootKnown, known_by}
-use Rattle.edi_names.proofs.Shows.{Shows, always, first, over, two, so}
+use Rattle.edi_static.specs.names.Uses.{is_among, NameKnown, ConstantKnown, RootKnown, known_by}
+use Rattle.edi_static.proofs.names.Shows.{Shows, always, first, over, two, so}
 
 -- every visible name is among these
 abbrev pub Within : (names : List (List ℕ)) → Environment → Type 0

@@ -16,14 +16,14 @@ use Rattle.edi_static.specs.Types.{no_fields, declare_type, type_decl, variables
 use Rattle.edi_static.specs.Headings as headings
 use Rattle.edi_static.specs.Headings.{Listed, Headed, own_name}
 use Rattle.edi_static.proofs.Judging.{Gives, bind, choose, ruled}
-use Rattle.edi_names.specs.Uses.{NameKnown, ConstantKnown}
-use Rattle.edi_names.specs.Visible.{names_in, group_names, groups_names, consts_names, const_list_names, type_names, var_list_names, param_names}
-use Rattle.edi_names.specs.Visible.{more_params_names, params_names, parameter_names, GroupKnown, FieldsKnown, VariablesKnown, ConstsKnown, ConstListKnown}
-use Rattle.edi_names.specs.Visible.{TypeKnown, VarListKnown, ResultKnown, HeadingKnown, ParamsKnown, MoreParamsKnown, ParamKnown}
-use Rattle.edi_names.proofs.Shows.{Shows, first, two}
-use Rattle.edi_names.proofs.UsesExpressions.{Within, type_known, constant_known}
-use Rattle.edi_names.proofs.Scoping.{Adds, exports, none, with_adds, sees_behind}
-use Rattle.edi_names.proofs.Growing.{in_env, in_listed, in_headed, Grows, chain, outer, keep, end, chain_export, shown, pass, so}
+use Rattle.edi_static.specs.names.Uses.{NameKnown, ConstantKnown}
+use Rattle.edi_static.specs.names.Visible.{names_in, group_names, groups_names, consts_names, const_list_names, type_names, var_list_names, param_names}
+use Rattle.edi_static.specs.names.Visible.{more_params_names, params_names, parameter_names, GroupKnown, FieldsKnown, VariablesKnown, ConstsKnown, ConstListKnown}
+use Rattle.edi_static.specs.names.Visible.{TypeKnown, VarListKnown, ResultKnown, HeadingKnown, ParamsKnown, MoreParamsKnown, ParamKnown}
+use Rattle.edi_static.proofs.names.Shows.{Shows, first, two}
+use Rattle.edi_static.proofs.names.UsesExpressions.{Within, type_known, constant_known}
+use Rattle.edi_static.proofs.names.Scoping.{Adds, exports, none, with_adds, sees_behind}
+use Rattle.edi_static.proofs.names.Growing.{in_env, in_listed, in_headed, Grows, chain, outer, keep, end, chain_export, shown, pass, so}
 
 -- nothing is declared
 nothing : (m : Bool) (env : Environment) → Grows in_env (Unit {0}) [] (exports m []) env.scopes (gives env)

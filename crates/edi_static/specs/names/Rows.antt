@@ -2,7 +2,7 @@
 use Rattle.std.specs.Prelude.{◌≡◌, true, false, None}
 use Rattle.edi_tree.specs.Tree.{skip, call, module_with, item_member, no_member, next_member, module_declaration, no_declaration, next_declaration}
 use Rattle.edi_static.specs.Written.{id, only, named, main, one, plain, procedure_of, sets, then, variable_of}
-use Rattle.edi_names.specs.Visible.{NamesAreVisible}
+use Rattle.edi_static.specs.names.Visible.{NamesAreVisible}
 
 -- a name is used before its declaration:
 -- proc main / proc p begin q end / proc q begin skip end / begin p end

@@ -3,7 +3,7 @@ use Rattle.std.specs.Prelude.{◌≡◌, pos, refl}
 use Rattle.edi_unit.specs.declared.expressions.Operator.TheVariants as op
 use Rattle.edi_unit.specs.Types.{int_type}
 use Rattle.edi_unit.specs.Tree.{Expression, constant, sign_of, chain, link, no_link, link_then, place, no_part, Acts, assign, no_act, act_then}
-use Rattle.edi_nesting.specs.Nesting.{acts_nesting}
+use Rattle.edi_static.specs.nesting.Nesting.{acts_nesting}
 
 abbrev one : Expression
 one = constant int_type (pos 1)

@@ -15,9 +15,9 @@ use Rattle.edi_static.specs.Statements.{After, add_statements, close_block, leav
 use Rattle.edi_static.proofs.Judging.{Gives, bind, ruled}
 use Rattle.edi_static.specs.Leaves.{StatementsHolds, StatementHolds, ConditionsHolds, ConditionHolds, ElseHolds, BranchHolds, BranchesHolds}
 use Rattle.edi_static.specs.Leaves.{OptionalArgsHolds, VariableHolds, ExprHolds}
-use Rattle.edi_names.specs.Uses.{is_among, ListKnown, known_by}
-use Rattle.edi_names.proofs.Shows.{Holds, Shows, always, first, over, two}
-use Rattle.edi_names.proofs.UsesExpressions.{Within, look_known, constant_known, expression_known, place_known, all_arguments_known}
+use Rattle.edi_static.specs.names.Uses.{is_among, ListKnown, known_by}
+use Rattle.edi_static.proofs.names.Shows.{Holds, Shows, always, first, over, two}
+use Rattle.edi_static.proofs.names.UsesExpressions.{Within, look_known, constant_known, expression_known, place_known, all_arguments_known}
 
 -- these scopes, before and behind
 module _ (scopes : List Scope) (names : List (List ℕ)) (among : (name : List ℕ) → is_some (visible scopes name) ≡ true → is_among names name ≡ true) where

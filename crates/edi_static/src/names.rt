@@ -1,10 +1,9 @@
 //! Names of sound programs. The function does nothing; its contract is the law, which speaks of all trees.
-#![tactic(auto)]
 
 ghost use Rattle.edi_tree.specs.Tree.{Program};
 ghost use Rattle.edi_unit.specs.Tree.{ProgramUnit};
 ghost use Rattle.edi_static.specs.Programs.{Resolved};
-ghost use Rattle.edi_names.specs.Visible.{NamesAreVisible};
+ghost use Rattle.edi_static.specs.names.Visible.{NamesAreVisible};
 
 /// Each name of a program that breaks no static rule is visible where it is used.
 pub fn names_are_visible()

@@ -18,16 +18,16 @@ use Rattle.edi_static.specs.Declarations.{post_export, block_of, begin_procedure
 use Rattle.edi_static.specs.Programs as programs
 use Rattle.edi_static.specs.Programs.{Resolved, resolve_tree}
 use Rattle.edi_static.proofs.Judging.{Gives, bind, behind, choose, weaker}
-use Rattle.edi_names.specs.Uses.{ListKnown}
-use Rattle.edi_names.specs.Visible.{item_names, exported_names, module_names, members_names, declaration_names, declarations_names, heading_name}
-use Rattle.edi_names.specs.Visible.{parameter_names, HeadingKnown, inside, ProcedureKnown, ItemKnown, ModuleKnown, MembersKnown, DeclarationKnown}
-use Rattle.edi_names.specs.Visible.{DeclarationsKnown, standard_names, global_names, globals_names, GlobalKnown, GlobalsKnown, NamesAreVisible}
-use Rattle.edi_names.proofs.UsesExpressions.{Within}
-use Rattle.edi_names.proofs.UsesStatements.{closed, statements_known}
-use Rattle.edi_names.proofs.Scoping.{Adds, exports, none, behind_same, sees_behind, leaving, exported_adds, Opens, sees_inside, opened, opened_same}
-use Rattle.edi_names.proofs.Scoping.{lookup_among}
-use Rattle.edi_names.proofs.Growing.{in_env, Grows, chain}
-use Rattle.edi_names.proofs.Declared.{declare_grows, const_list_grows, type_grows, var_list_grows, heading_grows}
+use Rattle.edi_static.specs.names.Uses.{ListKnown}
+use Rattle.edi_static.specs.names.Visible.{item_names, exported_names, module_names, members_names, declaration_names, declarations_names, heading_name}
+use Rattle.edi_static.specs.names.Visible.{parameter_names, HeadingKnown, inside, ProcedureKnown, ItemKnown, ModuleKnown, MembersKnown, DeclarationKnown}
+use Rattle.edi_static.specs.names.Visible.{DeclarationsKnown, standard_names, global_names, globals_names, GlobalKnown, GlobalsKnown, NamesAreVisible}
+use Rattle.edi_static.proofs.names.UsesExpressions.{Within}
+use Rattle.edi_static.proofs.names.UsesStatements.{closed, statements_known}
+use Rattle.edi_static.proofs.names.Scoping.{Adds, exports, none, behind_same, sees_behind, leaving, exported_adds, Opens, sees_inside, opened, opened_same}
+use Rattle.edi_static.proofs.names.Scoping.{lookup_among}
+use Rattle.edi_static.proofs.names.Growing.{in_env, Grows, chain}
+use Rattle.edi_static.proofs.names.Declared.{declare_grows, const_list_grows, type_grows, var_list_grows, heading_grows}
 
 -- ---- the name of a procedure
 

@@ -5,8 +5,8 @@ use Rattle.edi_static.specs.Judged.{Judged, gives, faults, ◌>>=◌}
 use Rattle.edi_static.specs.Environment.{Environment}
 use Rattle.edi_static.specs.Headings.{Listed, Headed}
 use Rattle.edi_static.proofs.Judging.{Gives}
-use Rattle.edi_names.proofs.Shows.{Holds, Shows}
-use Rattle.edi_names.proofs.Scoping.{Adds, exports, exports_append, behind, leaving}
+use Rattle.edi_static.proofs.names.Shows.{Holds, Shows}
+use Rattle.edi_static.proofs.names.Scoping.{Adds, exports, exports_append, behind, leaving}
 
 abbrev pub in_env : Environment → List Scope
 in_env env = env.scopes

@@ -7,7 +7,7 @@ use Rattle.std.specs.Option.{option_or}
 use Rattle.std.specs.Str.{bytes_eq}
 use Rattle.edi_scope.specs.declared.entity.Entity.{Entity}
 use Rattle.edi_scope.specs.Scope.{Scope, meaning, declared, visible, outside, entered, with_one, with_name, exported}
-use Rattle.edi_names.specs.Uses.{is_among}
+use Rattle.edi_static.specs.names.Uses.{is_among}
 
 -- ---- tests
 

@@ -1,0 +1,3 @@
+-- Helper. The files of `nesting`.
+pub mod Nesting
+pub mod Rows
