@@ -5,8 +5,8 @@ use Rattle.edi_lex.specs.declared.symbol.Mark.{Mark}
 use Rattle.edi_tree.specs.Spelled.{Spelled, declarations_then, statements_then, list_then}
 use Rattle.edi_tree.specs.Spells.{Spells, StandAsMarks}
 use Rattle.edi_tree.specs.Depth.{depth, declarations_depth, statements_depth}
-use Rattle.edi_derivation.specs.Faults.{IsTheTree}
-use Rattle.edi_derivation.proofs.Programs.{same_program}
+use Rattle.edi_grammar.specs.derivation.Faults.{IsTheTree}
+use Rattle.edi_grammar.proofs.derivation.Programs.{same_program}
 use Rattle.edi_demonstrated.specs.Symbols.{procedures_marks, next_calls_marks, calls_marks, demo_marks}
 use Rattle.edi_demonstrated.specs.Tree.{procedure_trees, next_call_trees, call_trees, demo_tree}
 

@@ -1,3 +1,4 @@
+pub mod derivation
 pub mod Grammar
 pub mod Parser
 pub mod Fair

@@ -2,6 +2,8 @@
 //! decides. The definitions and laws are in `specs/` and `proofs/`; the functions here only state the laws.
 #![tactic(auto)]
 
+pub mod derivation;
+
 ghost use Rattle.std.specs.Prelude.{◌≡◌, ℕ, List, Option, true};
 ghost use Rattle.edi_lex.specs.declared.symbol.Mark.{Mark};
 ghost use Rattle.edi_grammar.specs.Parser.{Stops, Why};

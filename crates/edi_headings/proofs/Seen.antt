@@ -12,8 +12,8 @@ use Rattle.edi_tree.specs.declared.headings.Param.TheVariants.{rolls-Value, roll
 use Rattle.edi_tree.specs.Tree.{Param, Heading}
 use Rattle.edi_tree.specs.View.{group_of, param_step, heading_step, param_of, heading_of, params_of}
 use Rattle.edi_tree.specs.Levels.{Element, level_end, word, named, group_elements, param_elements, params_elements, result_elements}
-use Rattle.edi_derivation.specs.Parts.{head_elements}
-use Rattle.edi_derivation.proofs.Splits.{heading_split}
+use Rattle.edi_grammar.specs.derivation.Parts.{head_elements}
+use Rattle.edi_grammar.proofs.derivation.Splits.{heading_split}
 
 -- a group without `var`
 pub value_seen : (g : code_group.Group) (es : List Element) → group_elements (group_of g) es ≡ param_elements (param_of (code_param.Value g)) es

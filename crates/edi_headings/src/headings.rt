@@ -5,7 +5,7 @@ ghost use Rattle.std.specs.Prelude.{◌≡◌, ◌<◌, ◌≤◌, length, IfOk,
 ghost use Rattle.edi_phrases.specs.Prelude.{front, Passes, HaltsAt};
 ghost use Rattle.edi_tree.specs.View.{heading_of, param_of, params_of};
 ghost use Rattle.edi_tree.specs.Levels.{param_elements, params_elements, result_elements};
-ghost use Rattle.edi_derivation.specs.Parts.{head_elements};
+ghost use Rattle.edi_grammar.specs.derivation.Parts.{head_elements};
 ghost use Rattle.edi_grammar.specs.Kinds as kind;
 ghost use Rattle.edi_grammar.specs.Rules as g;
 

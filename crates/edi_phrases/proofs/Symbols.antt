@@ -3,7 +3,7 @@ use Rattle.std.proofs.Common.{◌≡◌, ℕ, List, [], ◌∷◌, length, Some,
 use Rattle.edi_lex.specs.declared.symbol.Symbol.{Symbol}
 use Rattle.edi_lex.specs.declared.symbol.Symbol.TheVariants as is
 use Rattle.edi_grammar.specs.Kind.{kind_of}
-use Rattle.edi_derivation.proofs.Stands.{of_kind}
+use Rattle.edi_grammar.proofs.derivation.Stands.{of_kind}
 use Rattle.edi_phrases.specs.Words.{is_word}
 
 some_same : (x y : Symbol) → Some x ≡ Some y → x ≡ y

@@ -9,7 +9,7 @@ ghost use Rattle.edi_tree.specs.View.{const_decls, const_list_of};
 ghost use Rattle.edi_tree.specs.Levels.{const_decl_elements, const_decls_elements, const_list_elements, constant_elements};
 ghost use Rattle.edi_grammar.specs.Kinds as kind;
 ghost use Rattle.edi_grammar.specs.Rules as g;
-ghost use Rattle.edi_derivation.specs.Parts.{code_elements};
+ghost use Rattle.edi_grammar.specs.derivation.Parts.{code_elements};
 
 use crate::names::{eat_numeral, parse_name};
 use crate::separated;

@@ -5,7 +5,7 @@ use Rattle.edi_lex.specs.declared.symbol.Mark.{Mark}
 use Rattle.edi_tree.specs.Tree.{Program}
 use Rattle.edi_tree.specs.Spells.{Spells, ProgramBegins}
 use Rattle.edi_tree.specs.Depth.{depth}
-use Rattle.edi_derivation.specs.Faults.{somes, AreShallow, IsMisplaced, IsTooDeepAt}
+use Rattle.edi_grammar.specs.derivation.Faults.{somes, AreShallow, IsMisplaced, IsTooDeepAt}
 use Rattle.edi_syntax.specs.Refusal.{line_of, is_outside, IsWrong, IsSyntaxFault, Refuses}
 use Rattle.edi_syntax.specs.declared.fault.SyntaxFault.{SyntaxFault}
 use Rattle.edi_syntax.specs.declared.fault.SyntaxFault.TheVariants as fault

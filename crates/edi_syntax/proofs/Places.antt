@@ -8,8 +8,8 @@ use Rattle.edi_tree.specs.Spells.{StandsAsMark, StandAsMarks, Spells, to_end, Pr
 use Rattle.edi_tree.specs.Levels.{Element, mark, level_end, marks_among, elements, opens, with_symbol, one_less, level_behind, greatest_level, Level}
 use Rattle.edi_tree.specs.Depth.{depth}
 use Rattle.edi_tree.proofs.Greatest.{greatest_is_depth}
-use Rattle.edi_derivation.specs.Faults.{somes}
-use Rattle.edi_derivation.proofs.Programs.{spelled_elements}
+use Rattle.edi_grammar.specs.derivation.Faults.{somes}
+use Rattle.edi_grammar.proofs.derivation.Programs.{spelled_elements}
 
 pub somes_both : (u v : List Mark) → somes (u ++ v) ≡ somes u ++ somes v
 somes_both [] v = refl

@@ -16,9 +16,9 @@ use Rattle.edi_grammar.specs.Kind.{kind_of}
 use Rattle.edi_grammar.specs.Rules as g
 use Rattle.edi_grammar.specs.Edison.{edison, start}
 use Rattle.edi_grammar.proofs.Start.{first_fault}
-use Rattle.edi_derivation.specs.Faults.{somes, IsTheTree}
-use Rattle.edi_derivation.proofs.Programs.{elements_spelled}
-use Rattle.edi_derivation.proofs.Firsts.{misplaced, too_deep_at, whole_tree}
+use Rattle.edi_grammar.specs.derivation.Faults.{somes, IsTheTree}
+use Rattle.edi_grammar.proofs.derivation.Programs.{elements_spelled}
+use Rattle.edi_grammar.proofs.derivation.Firsts.{misplaced, too_deep_at, whole_tree}
 use Rattle.edi_phrases.specs.declared.stop.Stop.{Stop}
 use Rattle.edi_phrases.specs.declared.stop.Stop.TheVariants as stop
 use Rattle.edi_phrases.specs.Parses.{Passes}

@@ -1,7 +1,7 @@
 -- Words of contracts. Where the parsing of a whole program ends.
 use Rattle.std.specs.Prelude.{◌≡◌, List, [], ◌∷◌, ◌++◌, Option, Some, None}
 use Rattle.edi_lex.specs.declared.symbol.Mark.{Mark}
-use Rattle.edi_derivation.specs.Faults.{IsMisplaced, IsTooDeepAt}
+use Rattle.edi_grammar.specs.derivation.Faults.{IsMisplaced, IsTooDeepAt}
 use Rattle.edi_phrases.specs.declared.stop.Stop.{Stop}
 use Rattle.edi_phrases.specs.declared.stop.Stop.TheVariants as stop
 

@@ -3,7 +3,7 @@ use Rattle.std.specs.Prelude.{◌≡◌, ℕ, Bool, true, false, List, length, O
 use Rattle.edi_lex.specs.declared.symbol.Symbol.{Symbol}
 use Rattle.edi_lex.specs.declared.symbol.Symbol.TheVariants as is
 use Rattle.edi_lex.specs.declared.symbol.Mark.{Mark}
-use Rattle.edi_derivation.specs.Faults.{IsMisplaced, IsTooDeepAt}
+use Rattle.edi_grammar.specs.derivation.Faults.{IsMisplaced, IsTooDeepAt}
 use Rattle.edi_syntax.specs.Inside.{is_in_begin}
 use Rattle.edi_syntax.specs.declared.fault.SyntaxFault.{SyntaxFault}
 use Rattle.edi_syntax.specs.declared.fault.SyntaxFault.TheVariants as fault

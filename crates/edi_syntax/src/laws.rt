@@ -6,7 +6,7 @@ ghost use Rattle.edi_tree.specs.Tree.{Program};
 ghost use Rattle.edi_tree.specs.Spells.{Spells};
 ghost use Rattle.edi_tree.specs.Depth.{depth};
 ghost use Rattle.edi_tree.specs.Scanned.{ScansTo};
-ghost use Rattle.edi_derivation.specs.Faults.{IsTheTree};
+ghost use Rattle.edi_grammar.specs.derivation.Faults.{IsTheTree};
 ghost use Rattle.edi_syntax.specs.Refusal.{IsSyntaxFault};
 ghost use Rattle.edi_syntax.specs.declared.fault.SyntaxFault.{SyntaxFault};
 

@@ -6,7 +6,7 @@ ghost use Rattle.edi_tree.specs.View.{program_with};
 ghost use Rattle.edi_tree.specs.Whole.{program_of};
 ghost use Rattle.edi_tree.specs.Spells.{Spells};
 ghost use Rattle.edi_tree.specs.Depth.{depth};
-ghost use Rattle.edi_derivation.specs.Faults.{IsTheTree};
+ghost use Rattle.edi_grammar.specs.derivation.Faults.{IsTheTree};
 ghost use Rattle.edi_syntax.specs.Ends.{EndsAt, EndsDeep, EndsWrong};
 ghost use Rattle.edi_syntax.specs.Refusal.{IsSyntaxFault, Refuses};
 

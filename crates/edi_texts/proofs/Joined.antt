@@ -8,7 +8,7 @@ use Rattle.edi_syntax.specs.Refusal as syntax_fault
 use Rattle.edi_syntax.specs.declared.fault.SyntaxFault.{SyntaxFault}
 use Rattle.edi_syntax.specs.declared.fault.SyntaxFault.TheVariants as syntax
 use Rattle.edi_tree.specs.Tree.{Program}
-use Rattle.edi_derivation.specs.Faults.{IsTheTree}
+use Rattle.edi_grammar.specs.derivation.Faults.{IsTheTree}
 use Rattle.edi_static.specs.Programs as tree_fault
 use Rattle.edi_static.specs.declared.faults.StaticFault.{StaticFault}
 use Rattle.edi_static.specs.declared.faults.StaticFault.TheVariants as broken

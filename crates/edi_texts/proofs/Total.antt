@@ -13,9 +13,9 @@ use Rattle.edi_grammar.specs.Parser.{Stops, complete}
 use Rattle.edi_grammar.specs.Edison.{edison, start}
 use Rattle.edi_grammar.specs.Grammar.{plain}
 use Rattle.edi_grammar.proofs.Start.{first_fault}
-use Rattle.edi_derivation.specs.Faults.{IsMisplaced, IsTheTree}
-use Rattle.edi_derivation.proofs.Programs.{elements_spelled, marks_of, program_of_text}
-use Rattle.edi_derivation.proofs.Firsts.{misplaced, too_deep_at, whole_tree}
+use Rattle.edi_grammar.specs.derivation.Faults.{IsMisplaced, IsTheTree}
+use Rattle.edi_grammar.proofs.derivation.Programs.{elements_spelled, marks_of, program_of_text}
+use Rattle.edi_grammar.proofs.derivation.Firsts.{misplaced, too_deep_at, whole_tree}
 use Rattle.edi_syntax.proofs.Stopping.{same_marks}
 use Rattle.edi_syntax.specs.Refusal.{is_outside, line_of, IsSyntaxFault}
 use Rattle.edi_syntax.specs.declared.fault.SyntaxFault.{SyntaxFault}

@@ -5,7 +5,7 @@ use Rattle.edi_lex.specs.declared.symbol.Mark.{Mark}
 use Rattle.edi_lex.specs.declared.fault.LexFault.{LexFault}
 use Rattle.edi_lex.specs.Symbols.{symbols_of}
 use Rattle.edi_tree.specs.Tree.{Program}
-use Rattle.edi_derivation.specs.Faults.{IsTheTree}
+use Rattle.edi_grammar.specs.derivation.Faults.{IsTheTree}
 use Rattle.edi_syntax.specs.Refusal.{IsSyntaxFault}
 use Rattle.edi_syntax.specs.declared.fault.SyntaxFault.{SyntaxFault}
 use Rattle.edi_static.specs.declared.faults.StaticKind.{StaticKind}

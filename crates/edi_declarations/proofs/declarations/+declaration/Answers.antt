@@ -13,7 +13,7 @@ use Rattle.edi_grammar.specs.Kinds as kind
 use Rattle.edi_grammar.specs.Kind.{front}
 use Rattle.edi_grammar.specs.Rules as g
 use Rattle.edi_grammar.specs.Edison.{edison}
-use Rattle.edi_derivation.proofs.Splits.{heading_split}
+use Rattle.edi_grammar.proofs.derivation.Splits.{heading_split}
 use Rattle.edi_phrases.specs.Words.{at_line}
 use Rattle.edi_phrases.specs.Parses.{Goes, Passes}
 use Rattle.edi_phrases.proofs.Moves.{at_exit, waits, over_mark, over_end, over_part, into, written, lacks, refused, halts, alone_halts, alone_passes}

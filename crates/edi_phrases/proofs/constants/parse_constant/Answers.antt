@@ -13,7 +13,7 @@ use Rattle.edi_phrases.specs.Words.{at_line}
 use Rattle.edi_phrases.proofs.Moves.{at_exit, waits, over_mark, over_part, into, written, lacks, halts}
 use Rattle.std.proofs.lemmas.Int.{to_z-of_z}
 use mir.Syntax.{w16}
-use Rattle.edi_derivation.proofs.Splits.{constant_split}
+use Rattle.edi_grammar.proofs.derivation.Splits.{constant_split}
 use Rattle.edi_phrases.proofs.constants.parse_constant.Goals as goal
 
 pub returns-in-Some-clause-passes : goal.returns-in-Some-clause-passes

@@ -1,7 +1,6 @@
 //! Syntax trees and derivations of the grammar are the same: each tree is derived from what it spells, and what is derived is
 //! spelled by a tree. So the place where the predictive parser stops is the first fault, in the words of trees alone. The
-//! definitions and proofs are in `specs/` and `proofs/`; the functions here only state the laws.
-#![tactic(auto)]
+//! definitions and proofs are in `specs/derivation/` and `proofs/derivation/`; the functions here only state the laws.
 
 ghost use Rattle.std.specs.Prelude.{◌≡◌, ◌∷◌, ◌++◌, [], ℕ, List, Option, Some};
 ghost use Rattle.edi_lex.specs.declared.symbol.Mark.{Mark};
@@ -9,7 +8,7 @@ ghost use Rattle.edi_tree.specs.Tree.{Program};
 ghost use Rattle.edi_tree.specs.Spells.{Spells, to_end};
 ghost use Rattle.edi_grammar.specs.Parser.{Stops, complete, too_deep, wrong};
 ghost use Rattle.edi_grammar.specs.Edison.{edison, start};
-ghost use Rattle.edi_derivation.specs.Faults.{IsMisplaced, IsTheTree, IsTooDeepAt, somes};
+ghost use Rattle.edi_grammar.specs.derivation.Faults.{IsMisplaced, IsTheTree, IsTooDeepAt, somes};
 
 /// No two programs spell the same marks.
 pub fn programs_are_spelled_once()

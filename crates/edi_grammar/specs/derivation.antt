@@ -1,3 +1,4 @@
+-- Helper. The files of `derivation`.
 pub mod Parts
 pub mod Fits
 pub mod Faults

@@ -20,11 +20,11 @@ use Rattle.edi_tree.specs.Levels.{exprs_elements, factor_elements, multiplier_el
 use Rattle.edi_tree.specs.Levels.{sign_elements, simple_elements, term_elements}
 use Rattle.edi_grammar.specs.Kind.{kind_of}
 use Rattle.edi_grammar.specs.Rules as g
-use Rattle.edi_derivation.specs.Parts.{with_args, selected, relation_elements, addition_elements, multiplication_elements}
-use Rattle.edi_derivation.specs.Fits.{Items, Fit}
-use Rattle.edi_derivation.proofs.Builds.{value_of, line_in, couple, factor_with}
-use Rattle.edi_derivation.proofs.Stands.{name_is, chars_is, chars_on}
-use Rattle.edi_derivation.proofs.Reading.{done, past, past_end, past_part, takes, takes_parts, takes_behind, takes_kept, takes_within, Takes}
+use Rattle.edi_grammar.specs.derivation.Parts.{with_args, selected, relation_elements, addition_elements, multiplication_elements}
+use Rattle.edi_grammar.specs.derivation.Fits.{Items, Fit}
+use Rattle.edi_grammar.proofs.derivation.Builds.{value_of, line_in, couple, factor_with}
+use Rattle.edi_grammar.proofs.derivation.Stands.{name_is, chars_is, chars_on}
+use Rattle.edi_grammar.proofs.derivation.Reading.{done, past, past_end, past_part, takes, takes_parts, takes_behind, takes_kept, takes_within, Takes}
 
 pub relation_takes : (t : Relation × ℕ) (es : List Element) (items : Items) → Fit (relation_elements t es) items → Takes g.Relation t es items
 relation_takes (relation.Equal, line) es items h = takes_kept g.Relation 0 h.2 h.3 h.4 (couple relation.Equal) (λ P made. ((Some h.0, tt), refl, made))

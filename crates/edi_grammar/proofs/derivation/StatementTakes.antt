@@ -9,14 +9,14 @@ use Rattle.edi_tree.specs.Levels.{Element, level_end, word, kept, branch_element
 use Rattle.edi_tree.specs.Levels.{list_elements, statement_elements, statements_elements}
 use Rattle.edi_grammar.specs.Kind.{kind_of}
 use Rattle.edi_grammar.specs.Rules as g
-use Rattle.edi_derivation.specs.Parts.{After, called, assigned, alone, after_elements, open_branches}
-use Rattle.edi_derivation.specs.Fits.{Items, Fit}
-use Rattle.edi_derivation.proofs.Builds.{name_in, statement_with}
-use Rattle.edi_derivation.proofs.Stands.{name_is}
-use Rattle.edi_derivation.proofs.Splits.{branches_split}
-use Rattle.edi_derivation.proofs.Reading.{done, past, past_end, past_part, takes, takes_part, takes_parts, takes_behind, Takes}
-use Rattle.edi_derivation.proofs.SmallTakes.{constant_takes}
-use Rattle.edi_derivation.proofs.ExprTakes.{expr_takes, args_takes, selectors_takes}
+use Rattle.edi_grammar.specs.derivation.Parts.{After, called, assigned, alone, after_elements, open_branches}
+use Rattle.edi_grammar.specs.derivation.Fits.{Items, Fit}
+use Rattle.edi_grammar.proofs.derivation.Builds.{name_in, statement_with}
+use Rattle.edi_grammar.proofs.derivation.Stands.{name_is}
+use Rattle.edi_grammar.proofs.derivation.Splits.{branches_split}
+use Rattle.edi_grammar.proofs.derivation.Reading.{done, past, past_end, past_part, takes, takes_part, takes_parts, takes_behind, Takes}
+use Rattle.edi_grammar.proofs.derivation.SmallTakes.{constant_takes}
+use Rattle.edi_grammar.proofs.derivation.ExprTakes.{expr_takes, args_takes, selectors_takes}
 
 pub after_takes : (t : After) (es : List Element) (items : Items) → Fit (after_elements t es) items → Takes g.After t es items
 after_takes (called a) es items h = takes_part g.After 0 (args_takes a es items h) (λ P made. ((a, tt), refl, made))

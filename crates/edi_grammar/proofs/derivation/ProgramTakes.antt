@@ -9,11 +9,11 @@ use Rattle.edi_tree.specs.Levels.{Element, level_end, word, kept, declaration_el
 use Rattle.edi_tree.specs.Levels.{item_elements, list_elements, member_elements, members_elements, module_elements, procedure_elements, program_elements}
 use Rattle.edi_grammar.specs.Kind.{kind_of}
 use Rattle.edi_grammar.specs.Rules as g
-use Rattle.edi_derivation.specs.Fits.{Items, Fit}
-use Rattle.edi_derivation.proofs.Splits.{heading_split}
-use Rattle.edi_derivation.proofs.Reading.{done, past, past_end, past_part, takes, takes_part, takes_parts, Takes}
-use Rattle.edi_derivation.proofs.SmallTakes.{const_list_takes, type_decl_takes, var_list_takes, head_takes}
-use Rattle.edi_derivation.proofs.StatementTakes.{list_takes}
+use Rattle.edi_grammar.specs.derivation.Fits.{Items, Fit}
+use Rattle.edi_grammar.proofs.derivation.Splits.{heading_split}
+use Rattle.edi_grammar.proofs.derivation.Reading.{done, past, past_end, past_part, takes, takes_part, takes_parts, Takes}
+use Rattle.edi_grammar.proofs.derivation.SmallTakes.{const_list_takes, type_decl_takes, var_list_takes, head_takes}
+use Rattle.edi_grammar.proofs.derivation.StatementTakes.{list_takes}
 
 mutual
   pub procedure_takes : (t : Procedure) (es : List Element) (items : Items) → Fit (procedure_elements t es) items → Takes g.Procedure t es items

@@ -11,9 +11,9 @@ use Rattle.edi_grammar.specs.Trees.{join, Built, Reads}
 use Rattle.edi_grammar.specs.Kind.{kind_of}
 use Rattle.edi_grammar.specs.Rules.{Sort, rules}
 use Rattle.edi_grammar.specs.Edison.{edison}
-use Rattle.edi_derivation.specs.Parts.{Tree}
-use Rattle.edi_derivation.specs.Fits.{Items, Fit}
-use Rattle.edi_derivation.proofs.Builds.{Ts, build}
+use Rattle.edi_grammar.specs.derivation.Parts.{Tree}
+use Rattle.edi_grammar.specs.derivation.Fits.{Items, Fit}
+use Rattle.edi_grammar.proofs.derivation.Builds.{Ts, build}
 
 -- these parts may be these items with these trees
 pub record Read (x : List (Part Sort)) (items : Items) (ts : Ts x) : Type 0 where

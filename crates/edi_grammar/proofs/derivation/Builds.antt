@@ -25,7 +25,7 @@ use Rattle.edi_grammar.specs.Grammar.{Part}
 use Rattle.edi_grammar.specs.Trees.{Trees, Builders}
 use Rattle.edi_grammar.specs.Rules as g
 use Rattle.edi_grammar.specs.Rules.{Sort, rules}
-use Rattle.edi_derivation.specs.Parts.{After, called, assigned, alone, Behind, with_args, selected, Tree}
+use Rattle.edi_grammar.specs.derivation.Parts.{After, called, assigned, alone, Behind, with_args, selected, Tree}
 
 abbrev pub text_of : Symbol → List ℕ
 text_of (is.Name text) = text

@@ -20,10 +20,10 @@ use Rattle.edi_grammar.specs.Edison.{edison, start}
 use Rattle.edi_grammar.proofs.EdisonIsFair.{fair}
 use Rattle.edi_grammar.proofs.Open.{open_is_ending}
 use Rattle.edi_grammar.proofs.Start.{first_fault}
-use Rattle.edi_derivation.specs.Fits.{Items, Fit}
-use Rattle.edi_derivation.specs.Faults.{somes, AreShallow, IsMisplaced, IsTooDeepAt, IsTheTree}
-use Rattle.edi_derivation.proofs.Programs.{items_for, marks_of, spelled_elements, elements_spelled, program_derived, program_of_text, same_program, opens_in}
-use Rattle.edi_derivation.proofs.Programs.{counted, cut_at, parted, level_with, open_with}
+use Rattle.edi_grammar.specs.derivation.Fits.{Items, Fit}
+use Rattle.edi_grammar.specs.derivation.Faults.{somes, AreShallow, IsMisplaced, IsTooDeepAt, IsTheTree}
+use Rattle.edi_grammar.proofs.derivation.Programs.{items_for, marks_of, spelled_elements, elements_spelled, program_derived, program_of_text, same_program, opens_in}
+use Rattle.edi_grammar.proofs.derivation.Programs.{counted, cut_at, parted, level_with, open_with}
 
 cons_not_nil : {A : Type 0} (u : List A) (a : A) (v : List A) → u ++ a ∷ v ≡ [] → ⊥
 cons_not_nil [] a v e = cc

@@ -13,11 +13,11 @@ use Rattle.edi_grammar.specs.Kinds as kind
 use Rattle.edi_grammar.specs.Rules as g
 use Rattle.edi_grammar.specs.Rules.{Sort, rules}
 use Rattle.edi_grammar.specs.Edison.{edison}
-use Rattle.edi_derivation.specs.Parts.{Tree, elements_of}
-use Rattle.edi_derivation.specs.Fits.{Items, Fit}
-use Rattle.edi_derivation.proofs.Builds.{line_in, name_in, value_in, char_in, chars_in, Ts, build}
-use Rattle.edi_derivation.proofs.Stands.{StandsAt, IsOnly, word_at, kept_at, name_at, numeral_at, char_at, short_string_at, long_string_at, put}
-use Rattle.edi_derivation.proofs.Splits.{constant_split, heading_split, statement_split, factor_split, branches_split}
+use Rattle.edi_grammar.specs.derivation.Parts.{Tree, elements_of}
+use Rattle.edi_grammar.specs.derivation.Fits.{Items, Fit}
+use Rattle.edi_grammar.proofs.derivation.Builds.{line_in, name_in, value_in, char_in, chars_in, Ts, build}
+use Rattle.edi_grammar.proofs.derivation.Stands.{StandsAt, IsOnly, word_at, kept_at, name_at, numeral_at, char_at, short_string_at, long_string_at, put}
+use Rattle.edi_grammar.proofs.derivation.Splits.{constant_split, heading_split, statement_split, factor_split, branches_split}
 
 -- the tree has the elements between these items and those
 abbrev pub Span : (k : Sort) → Tree k → Items → Items → Type 0

@@ -13,12 +13,12 @@ use Rattle.edi_tree.specs.Levels.{group_elements, groups_elements, more_params_e
 use Rattle.edi_tree.specs.Levels.{type_decl_elements, var_list_elements}
 use Rattle.edi_grammar.specs.Kind.{kind_of}
 use Rattle.edi_grammar.specs.Rules as g
-use Rattle.edi_derivation.specs.Parts.{head_elements, code_elements}
-use Rattle.edi_derivation.specs.Fits.{Items, Fit}
-use Rattle.edi_derivation.proofs.Builds.{value_of, line_in, name_in}
-use Rattle.edi_derivation.proofs.Stands.{name_is, char_is}
-use Rattle.edi_derivation.proofs.Splits.{heading_split}
-use Rattle.edi_derivation.proofs.Reading.{done, past, past_end, past_part, takes, takes_part, takes_behind, takes_within, Takes}
+use Rattle.edi_grammar.specs.derivation.Parts.{head_elements, code_elements}
+use Rattle.edi_grammar.specs.derivation.Fits.{Items, Fit}
+use Rattle.edi_grammar.proofs.derivation.Builds.{value_of, line_in, name_in}
+use Rattle.edi_grammar.proofs.derivation.Stands.{name_is, char_is}
+use Rattle.edi_grammar.proofs.derivation.Splits.{heading_split}
+use Rattle.edi_grammar.proofs.derivation.Reading.{done, past, past_end, past_part, takes, takes_part, takes_behind, takes_within, Takes}
 
 pub names_takes : (t : Names) (es : List Element) (items : Items) → Fit (names_elements t es) items → Takes g.Names t es items
 names_takes (next_name n ns) es items h = let p1 = names_takes ns es h.4.1 h.4.4 in

@@ -19,14 +19,14 @@ use Rattle.edi_grammar.specs.Edison.{edison, start}
 use Rattle.edi_grammar.proofs.EdisonIsFair.{fair}
 use Rattle.edi_grammar.proofs.Start.{good}
 use Rattle.edi_grammar.proofs.Trees.{forget, trees_of, same_trees}
-use Rattle.edi_derivation.specs.Parts.{Tree}
-use Rattle.edi_derivation.specs.Fits.{Items, Fit}
-use Rattle.edi_derivation.specs.Faults.{somes}
-use Rattle.edi_derivation.proofs.Builds.{Ts, build}
-use Rattle.edi_derivation.proofs.Stands.{none_at}
-use Rattle.edi_derivation.proofs.Closes.{sound}
-use Rattle.edi_derivation.proofs.Reading.{Read}
-use Rattle.edi_derivation.proofs.ProgramTakes.{program_takes}
+use Rattle.edi_grammar.specs.derivation.Parts.{Tree}
+use Rattle.edi_grammar.specs.derivation.Fits.{Items, Fit}
+use Rattle.edi_grammar.specs.derivation.Faults.{somes}
+use Rattle.edi_grammar.proofs.derivation.Builds.{Ts, build}
+use Rattle.edi_grammar.proofs.derivation.Stands.{none_at}
+use Rattle.edi_grammar.proofs.derivation.Closes.{sound}
+use Rattle.edi_grammar.proofs.derivation.Reading.{Read}
+use Rattle.edi_grammar.proofs.derivation.ProgramTakes.{program_takes}
 
 -- marks as elements say give items, and items give marks
 pub items_for : (es : List Element) (marks : List Mark) → StandAsMarks (marks_among es) marks → (items : Items) × Fit es items × (plain items ≡ to_end marks)

@@ -12,8 +12,8 @@ use Rattle.edi_tree.specs.Levels.{Element, mark}
 use Rattle.edi_grammar.specs.Grammar as item
 use Rattle.edi_grammar.specs.Kinds as kind
 use Rattle.edi_grammar.specs.Kind.{kind_of, kind_at, symbols_with, symbol_no}
-use Rattle.edi_derivation.specs.Fits.{Items, Fit}
-use Rattle.edi_derivation.proofs.Builds.{text_of, value_of, first_of, line_in, name_in, value_in, char_in, chars_in}
+use Rattle.edi_grammar.specs.derivation.Fits.{Items, Fit}
+use Rattle.edi_grammar.proofs.derivation.Builds.{text_of, value_of, first_of, line_in, name_in, value_in, char_in, chars_in}
 
 -- a symbol is the one of its kind with its values
 symbol_at : (s : Symbol) → Some s ≡ symbol_no (symbols_with (text_of s) (first_of (text_of s)) (value_of s)) (kind_of s)

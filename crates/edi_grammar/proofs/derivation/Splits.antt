@@ -6,9 +6,9 @@ use Rattle.edi_tree.specs.declared.constants.Constant.TheVariants as constant
 use Rattle.edi_tree.specs.Tree.{Heading, heading, Branches, no_branch, next_branch}
 use Rattle.edi_tree.specs.Levels.{Element, level_end, word, kept, named, branch_elements, branches_elements, constant_elements, factor_elements}
 use Rattle.edi_tree.specs.Levels.{heading_elements, statement_elements}
-use Rattle.edi_derivation.specs.Parts.{After, called, assigned, alone, Behind, with_args, selected, head_elements, code_elements, after_elements}
-use Rattle.edi_derivation.specs.Parts.{behind_elements, open_branches}
-use Rattle.edi_derivation.proofs.Builds.{statement_with, factor_with}
+use Rattle.edi_grammar.specs.derivation.Parts.{After, called, assigned, alone, Behind, with_args, selected, head_elements, code_elements, after_elements}
+use Rattle.edi_grammar.specs.derivation.Parts.{behind_elements, open_branches}
+use Rattle.edi_grammar.proofs.derivation.Builds.{statement_with, factor_with}
 
 pub constant_split : (n : Name) (o : Option ℤ) (more : List Element) → constant_elements (constant.Name n o) more ≡ named n ∷ code_elements o more
 constant_split n None more = refl
