@@ -1,3 +1,4 @@
+pub mod migrate
 pub mod Build
 pub mod Bytes
 pub mod Entries

@@ -8,6 +8,7 @@ mod entries;
 mod faults;
 mod fields;
 pub mod laws;
+pub mod migrate;
 mod pages;
 mod stored;
 mod title;

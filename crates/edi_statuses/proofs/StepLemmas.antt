@@ -3,7 +3,7 @@
 use Rattle.std.proofs.Common.{◌≡◌, ◌∙◌, ℕ, Bool, true≢false, List, Option, Some, None, IsSome, IfSome}
 use Rattle.std.proofs.Common.{unwrap_or, option_map, refl, sym, ap, subst, inl, inr}
 use Rattle.std.specs.Prelude.{⊤}
-use Rattle.edi_migrate.specs.OldImage.{old_fault_of}
+use Rattle.edi_image.specs.migrate.OldImage.{old_fault_of}
 use Rattle.edi_words.specs.Words.{ChoicesFrom, nowhere, file, seed}
 use Rattle.edi_trace.specs.Lines.{Reading, values, bad_line, read_of}
 use Rattle.edi_unit.specs.Tree.{ProgramUnit}

@@ -7,7 +7,7 @@ use Rattle.edi_calls.specs.Choice.{Choices}
 use Rattle.edi_calls.specs.Outcome.{Ending}
 use Rattle.edi_calls.specs.State as state
 use Rattle.edi_calls.specs.State.{State}
-use Rattle.edi_migrate.specs.OldImage.{old_slots_of}
+use Rattle.edi_image.specs.migrate.OldImage.{old_slots_of}
 use Rattle.edi_target.specs.Check.{CodeParts}
 use Rattle.edi_trace.specs.Lines.{read_of}
 use Rattle.edi_unit.specs.Tree.{ProgramUnit}

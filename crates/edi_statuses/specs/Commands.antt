@@ -15,8 +15,8 @@ use Rattle.edi_catalog.specs.Changes.{slots_changed, file_protected}
 use Rattle.edi_catalog.specs.Storing.{slots_stored}
 use Rattle.edi_image.specs.Formatted.{no_files}
 use Rattle.edi_image.specs.Image.{Holds, slots_of}
-use Rattle.edi_migrate.specs.OldImage.{old_slots_of}
-use Rattle.edi_migrate.specs.OldFiles.{migrated_slots}
+use Rattle.edi_image.specs.migrate.OldImage.{old_slots_of}
+use Rattle.edi_image.specs.migrate.OldFiles.{migrated_slots}
 use Rattle.edi_target.specs.Check.{CodeParts}
 use Rattle.edi_target.specs.File.{code_bytes}
 use Rattle.edi_unit.specs.Tree.{ProgramUnit}

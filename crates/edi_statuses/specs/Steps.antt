@@ -7,7 +7,7 @@ use Rattle.edi_host.specs.Blocks.{blocks_of}
 use Rattle.edi_image.specs.declared.faults.MountFault.{MountFault}
 use Rattle.edi_image.specs.declared.faults.MountFault.TheVariants as mount
 use Rattle.edi_image.specs.Image.{mount_fault_of}
-use Rattle.edi_migrate.specs.OldImage.{old_fault_of}
+use Rattle.edi_image.specs.migrate.OldImage.{old_fault_of}
 use Rattle.edi_target.specs.declared.code_fault.CodeFault.{CodeFault}
 use Rattle.edi_target.specs.Check.{CodeParts}
 use Rattle.edi_target.specs.File.{code_fault_of, code_of}

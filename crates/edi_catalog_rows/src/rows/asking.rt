@@ -6,7 +6,7 @@ use edi_calls::FileKind;
 use edi_catalog::{CatEnd, Catalog, Entry, FormatEnd, MountFault, Title, check, format, mount};
 use edi_disk::Disk;
 use edi_host::Drive;
-use edi_migrate::{MigrateEnd, migrate};
+use edi_image::migrate::{MigrateEnd, migrate};
 use std::alloc::Global;
 use std::process::Abort;
 

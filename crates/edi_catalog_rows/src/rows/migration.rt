@@ -5,7 +5,7 @@ use crate::rows::images::{failing, filled, put, sevens};
 use edi_calls::FileKind;
 use edi_catalog::{Entry, Title};
 use edi_host::SteadyDrive;
-use edi_migrate::{MigrateEnd, MountFault};
+use edi_image::migrate::{MigrateEnd, MountFault};
 use std::alloc::{AllocError, Global};
 use std::test::Fail;
 

@@ -10,12 +10,12 @@ use Rattle.edi_host.specs.Files.{Contents}
 use Rattle.edi_calls.specs.State as calls
 use Rattle.edi_image.specs.declared.faults.MountFault.{MountFault}
 use Rattle.edi_image.specs.declared.faults.MountFault.TheVariants as mount
-use Rattle.edi_migrate.proofs.Limited.{first_bytes_decide}
-use Rattle.edi_migrate.specs.Limit.{FirstBytesDecide, most_fetched}
-use Rattle.edi_migrate.specs.Migrated.{MigrateAnswers, MigrateLeaves, is_image_fault}
-use Rattle.edi_migrate.specs.OldImage.{old_fault_of, old_slots_of}
-use Rattle.edi_migrate.specs.declared.migrating.MigrateEnd.{MigrateEnd}
-use Rattle.edi_migrate.specs.declared.migrating.MigrateEnd.TheVariants as end
+use Rattle.edi_image.proofs.migrate.Limited.{first_bytes_decide}
+use Rattle.edi_image.specs.migrate.Limit.{FirstBytesDecide, most_fetched}
+use Rattle.edi_image.specs.migrate.Migrated.{MigrateAnswers, MigrateLeaves, is_image_fault}
+use Rattle.edi_image.specs.migrate.OldImage.{old_fault_of, old_slots_of}
+use Rattle.edi_image.specs.declared.migrate.migrating.MigrateEnd.{MigrateEnd}
+use Rattle.edi_image.specs.declared.migrate.migrating.MigrateEnd.TheVariants as end
 use Rattle.edi_words.specs.Words.{newdisk}
 use Rattle.edi_statuses.specs.declared.status.Status.{Status}
 use Rattle.edi_statuses.specs.declared.status.Status.TheVariants as status

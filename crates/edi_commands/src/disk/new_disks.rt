@@ -9,7 +9,7 @@ ghost use Rattle.edi_statuses.specs.EachObject.{CountsNew, is_before_format};
 use crate::steps::fetch;
 use edi_catalog::{FormatEnd, format};
 use edi_host::{Drive, Files};
-use edi_migrate::{MigrateEnd, migrate};
+use edi_image::migrate::{MigrateEnd, migrate};
 use edi_statuses::Status;
 use std::alloc::Global;
 

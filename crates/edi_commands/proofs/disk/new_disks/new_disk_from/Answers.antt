@@ -1,6 +1,6 @@
 -- The exits of `newdisk --from`.
 use Rattle.std.proofs.Common.{Vec, ℕ, Global}
-use Rattle.edi_migrate.specs.declared.migrating.MigrateEnd.TheVariants as end
+use Rattle.edi_image.specs.declared.migrate.migrating.MigrateEnd.TheVariants as end
 use Rattle.edi_statuses.specs.Outside.{still_told}
 use Rattle.edi_commands.specs.steps.OnFiles.{files_only}
 use Rattle.edi_commands.proofs.disk.NewMeans.{counts_kept}

@@ -1,6 +1,0 @@
--- The law as proved.
-use Rattle.edi_migrate.proofs.Limited.{first_bytes_decide}
-use Rattle.edi_migrate.proofs.laws.first_bytes_decide.Goals as goal
-
-pub returns : goal.returns
-returns c = record { law = first_bytes_decide }

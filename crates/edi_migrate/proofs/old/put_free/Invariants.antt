@@ -1,5 +1,0 @@
-use Rattle.std.proofs.Common.{◌≡◌, ◌++◌, replicate, None}
-use Rattle.edi_migrate.proofs.old.put_free.Given as goal
-
-abbrev pub invariant-loop-slot : goal.invariant-loop-slot
-invariant-loop-slot l = l.files.items ≡ l.initial.files.items ++ replicate l._slot None

@@ -1,9 +1,0 @@
-use Rattle.std.proofs.Common.{◌∙◌, ap}
-use Rattle.std.specs.Prelude.{length}
-use Rattle.edi_migrate.specs.OldFiles.{is_old_fit}
-use Rattle.edi_migrate.proofs.OldRules.{old_entry_fits}
-use Rattle.edi_migrate.proofs.old.said_at.Goals as goal
-
-pub returns-clause-fits : goal.returns-clause-fits
-returns-clause-fits c =
-    ap (is_old_fit (length c.args.blocks.now)) c.entry_says.ensures ∙ old_entry_fits (length c.args.blocks.now) c.split_at-2.result.0.now

@@ -1,7 +1,0 @@
-pub mod Limit
-pub mod Migrated
-pub mod OldBuild
-pub mod OldEntries
-pub mod OldFiles
-pub mod OldImage
-pub mod OldLaws
