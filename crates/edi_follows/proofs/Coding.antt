@@ -11,7 +11,7 @@ use Rattle.edi_target.specs.Op.{Instruction, words_of}
 use Rattle.edi_target.specs.Decode.{AreWords, decode}
 use Rattle.edi_target.proofs.Reading.{decode_reads}
 use Rattle.edi_target.proofs.Stands.{code_stands_below}
-use Rattle.edi_segments.proofs.Reaching.{allowed_at}
+use Rattle.edi_target.proofs.segments.Reaching.{allowed_at}
 use Rattle.edi_scheme.specs.Code.{entry, code_of}
 use Rattle.edi_scheme.proofs.Blocks.{code_stands, code_is_long}
 use Rattle.edi_scheme.proofs.WordedBlocks.{code_is_words}

@@ -17,7 +17,7 @@ use Rattle.edi_target.specs.Memory.{word}
 use Rattle.edi_target.specs.Mach as target
 use Rattle.edi_target.specs.Mach.{Machine, OwnWords}
 use Rattle.edi_target.specs.Moments.{news_at}
-use Rattle.edi_segments.specs.Nested.{machine_after}
+use Rattle.edi_target.specs.segments.Nested.{machine_after}
 use Rattle.edi_follows.specs.places.Coded.{Coded}
 use Rattle.edi_follows.specs.places.Related.{Related, Kept, MayStep, Queue}
 use Rattle.edi_follows.specs.places.Lands.{step, Keeps, Passes, EndsSo, LandsNext, LandsTested, Lands, Taken, Outside, StepClaim, StepsCohere, QueueAfter, StepsQueue}

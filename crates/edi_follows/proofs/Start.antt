@@ -30,9 +30,9 @@ use Rattle.edi_target.specs.Op.{is_allowed}
 use Rattle.edi_target.specs.Memory.{word}
 use Rattle.edi_target.specs.Mach as target
 use Rattle.edi_target.specs.Mach.{Machine, Activity, descriptors, start_memory, first_activity, machine_at}
-use Rattle.edi_segments.proofs.Families.{Sound}
-use Rattle.edi_segments.proofs.Reaching.{alone, first_order}
-use Rattle.edi_segments.proofs.Keeping.{Allows}
+use Rattle.edi_target.proofs.segments.Families.{Sound}
+use Rattle.edi_target.proofs.segments.Reaching.{alone, first_order}
+use Rattle.edi_target.proofs.segments.Keeping.{Allows}
 use Rattle.edi_scheme.proofs.Known.{words_sum}
 use Rattle.edi_scheme.specs.Pieces as pieces
 use Rattle.edi_scheme.specs.Pieces.{is_branch, function_flag, entry_of, return_of}

@@ -16,7 +16,7 @@ use Rattle.edi_target.specs.Fetch.{fetch}
 use Rattle.edi_target.specs.Mach as target
 use Rattle.edi_target.specs.Mach.{Machine, OwnWords}
 use Rattle.edi_target.specs.Moments.{EndsThrough, ComesThrough}
-use Rattle.edi_segments.specs.Nested.{machine_after}
+use Rattle.edi_target.specs.segments.Nested.{machine_after}
 use Rattle.edi_scheme.specs.Code.{code_of}
 use Rattle.edi_scheme.specs.Laws.{HaveParts}
 use Rattle.edi_scheme.specs.Lines.{UnitLines}

@@ -1,3 +1,4 @@
+pub mod segments
 pub mod Op
 pub mod Decode
 pub mod View

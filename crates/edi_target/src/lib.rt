@@ -7,6 +7,7 @@ mod header;
 pub mod laws;
 mod op;
 mod read;
+pub mod segments;
 mod starts;
 mod targets;
 mod write;

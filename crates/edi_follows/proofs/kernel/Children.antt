@@ -12,7 +12,7 @@ use Rattle.edi_target.specs.Op.{high_word, low_word}
 use Rattle.edi_target.specs.Memory.{word}
 use Rattle.edi_target.specs.Mach as target
 use Rattle.edi_target.specs.Mach.{Machine, Activity, is_first}
-use Rattle.edi_segments.proofs.Families.{Sound}
+use Rattle.edi_target.proofs.segments.Families.{Sound}
 use Rattle.edi_follows.specs.places.Coded.{Coded, block, entry}
 use Rattle.edi_follows.specs.places.Spots.{block_at}
 use Rattle.edi_follows.specs.places.Follows.{branches_of}

@@ -30,7 +30,7 @@ use Rattle.edi_target.specs.Perform as perform
 use Rattle.edi_target.specs.Mach as target
 use Rattle.edi_target.specs.Mach.{Machine, Running, Activity, is_first, turned, over, local_step, effect_at, settled}
 use Rattle.edi_target.specs.Moments.{news_of_effect, news_at}
-use Rattle.edi_segments.proofs.Families.{Sound}
+use Rattle.edi_target.proofs.segments.Families.{Sound}
 use Rattle.edi_follows.specs.places.Coded.{Coded, block}
 use Rattle.edi_follows.specs.places.Spots.{address, frames_end, block_at, Layout}
 use Rattle.edi_follows.specs.places.Walks.{Walker, plain, Adds}

@@ -21,7 +21,7 @@ use Rattle.edi_target.specs.Effect as turn
 use Rattle.edi_target.specs.Mach as target
 use Rattle.edi_target.specs.Mach.{Machine, Running, Activity, running_of, activity_of, held_at, is_first, turned, OwnWords, IsAncestor}
 use Rattle.edi_target.specs.Moments.{news_at}
-use Rattle.edi_segments.specs.Nested.{MayGoOn}
+use Rattle.edi_target.specs.segments.Nested.{MayGoOn}
 use Rattle.edi_follows.specs.places.Coded.{Coded}
 use Rattle.edi_follows.specs.places.Walks.{Walker, plain, Comes}
 use Rattle.edi_follows.specs.places.Scene.{Outer}

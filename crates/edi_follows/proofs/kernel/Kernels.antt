@@ -13,11 +13,11 @@ use Rattle.edi_target.specs.Effect as turn
 use Rattle.edi_target.specs.Mach as target
 use Rattle.edi_target.specs.Mach.{Machine, Running, Answer, Activity, is_first, turned, over, running_of, kernel, local_step, OwnWords, IsAncestor}
 use Rattle.edi_target.specs.Moments.{news_of, news_from, news_at}
-use Rattle.edi_segments.specs.Nested.{MayGoOn}
-use Rattle.edi_segments.proofs.Families.{Sound}
-use Rattle.edi_segments.proofs.Steps.{Left, step_leaves}
-use Rattle.edi_segments.proofs.Queues.{Queues, step_queues}
-use Rattle.edi_segments.specs.Nested.{machine_after}
+use Rattle.edi_target.specs.segments.Nested.{MayGoOn}
+use Rattle.edi_target.proofs.segments.Families.{Sound}
+use Rattle.edi_target.proofs.segments.Steps.{Left, step_leaves}
+use Rattle.edi_target.proofs.segments.Queues.{Queues, step_queues}
+use Rattle.edi_target.specs.segments.Nested.{machine_after}
 use Rattle.edi_follows.specs.places.Coded.{Coded}
 use Rattle.edi_follows.specs.places.Spots.{frames_end}
 use Rattle.edi_follows.specs.places.Walks.{Walker, plain, Adds, Walks, Gets, Comes}

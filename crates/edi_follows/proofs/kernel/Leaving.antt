@@ -22,7 +22,7 @@ use Rattle.edi_target.specs.Memory.{word}
 use Rattle.edi_target.specs.Effect as turn
 use Rattle.edi_target.specs.Mach as target
 use Rattle.edi_target.specs.Mach.{Machine, Running, Activity, is_first, turned}
-use Rattle.edi_segments.proofs.Families.{Sound}
+use Rattle.edi_target.proofs.segments.Families.{Sound}
 use Rattle.edi_follows.specs.places.Coded.{Coded, slot_in, slots_of, words_in, offset, heading_of}
 use Rattle.edi_follows.specs.places.Spots.{address, block_at, Fine, Layout, Mirrors, Typed, cell_words, Holds}
 use Rattle.edi_follows.specs.places.Located.{frame_of, IsAt}

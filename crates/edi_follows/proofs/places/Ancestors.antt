@@ -5,7 +5,7 @@ use Rattle.edi_calls.specs.Ready.{parent_of}
 use Rattle.edi_calls.proofs.Tables.{same-refl}
 use Rattle.edi_meaning.specs.Store.{ancestor, Owns}
 use Rattle.edi_target.specs.Mach.{IsAncestor}
-use Rattle.edi_segments.proofs.Pairs.{child_of, under_ancestor}
+use Rattle.edi_target.proofs.segments.Pairs.{child_of, under_ancestor}
 
 ancestor_all : (p q r : Name) → IsAncestor p q → IsAncestor q r → IsAncestor p r
 ancestor_all p q r h k = (h.0 ++ k.0, omega (arith, length-append h.0 k.0, k.1), k.2 ∙ ap (λ y. y ++ k.0) h.2 ∙ append_assoc p h.0 k.0)

@@ -12,8 +12,8 @@ use Rattle.edi_meaning.specs.Laws.{IsWaiting}
 use Rattle.edi_target.specs.Op.{high_word, low_word}
 use Rattle.edi_target.specs.Mach as target
 use Rattle.edi_target.specs.Mach.{Activity}
-use Rattle.edi_segments.proofs.Families.{Sound}
-use Rattle.edi_segments.proofs.Pairs.{Under, child_of, deeper, under_ancestor, Lying, apart_from, under, over, lying}
+use Rattle.edi_target.proofs.segments.Families.{Sound}
+use Rattle.edi_target.proofs.segments.Pairs.{Under, child_of, deeper, under_ancestor, Lying, apart_from, under, over, lying}
 use Rattle.edi_follows.specs.places.Coded.{Coded, entry, slot_in}
 use Rattle.edi_follows.specs.places.Spots.{Inside, Segments, address, block_at, location_address, cell_words, Leads, Holds, frame_start}
 use Rattle.edi_follows.specs.places.Located.{frame_of}

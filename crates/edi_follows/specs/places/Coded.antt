@@ -6,7 +6,7 @@ use Rattle.edi_unit.specs.Need as need
 use Rattle.edi_unit.specs.Need.{slots, slot_words, slot_type, variable_words, link_words}
 use Rattle.edi_unit.specs.Fits.{Heading, Fits}
 use Rattle.edi_target.specs.Op.{Instruction, words_of}
-use Rattle.edi_segments.proofs.Keeping.{Allows}
+use Rattle.edi_target.proofs.segments.Keeping.{Allows}
 use Rattle.edi_scheme.specs.Pieces as pieces
 use Rattle.edi_scheme.specs.Code as scheme
 use Rattle.edi_scheme.specs.Stands.{AreBlocks}

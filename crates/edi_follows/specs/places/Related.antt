@@ -9,7 +9,7 @@ use Rattle.edi_meaning.proofs.Dangling.{Coherent}
 use Rattle.edi_meaning.proofs.Sound.{Each}
 use Rattle.edi_target.specs.Mach as target
 use Rattle.edi_target.specs.Mach.{Activity, Machine, is_first}
-use Rattle.edi_segments.proofs.Families.{Sound}
+use Rattle.edi_target.proofs.segments.Families.{Sound}
 use Rattle.edi_follows.specs.places.Coded.{Coded}
 use Rattle.edi_follows.specs.places.Spots.{address, frames_end, bottom, Layout, Mirrors, Typed}
 use Rattle.edi_follows.specs.places.Located.{IsAt}
@@ -68,7 +68,7 @@ module _ (g : Coded) where
     pub system : t.system ≡ s.world.system.now
     pub turns : t.turns ≡ s.world.turns
 
--- what each side keeps by itself: of the meaning by edi_meaning, of the machine by edi_segments
+-- what each side keeps by itself: of the meaning by edi_meaning, of the machine by edi_target/segments
 pub record Kept (s : Processes) (t : Machine) : Type 0 where
   pub coherent : Coherent s
   pub sound : Sound t.activities

@@ -13,7 +13,7 @@ use Rattle.edi_target.specs.Op.{Instruction, Branch, is_allowed, is_count, has_f
 use Rattle.edi_target.specs.Effect.{Local, entering, leaving, looping, arriving, again, forking, exiting, finishing, Effect, goes, released, asks, due}
 use Rattle.edi_target.specs.Effect.{fails, bad, in_range, push, pop, pop_word, look, within, to, enter}
 use Rattle.edi_target.specs.Perform.{short_cut, with_answer_address, system_call, leave, perform, exceeds, share_of}
-use Rattle.edi_segments.specs.Nested.{InOrder}
+use Rattle.edi_target.specs.segments.Nested.{InOrder}
 
 -- each branch has room for a frame, and its share has room for what it needs
 abbrev pub HaveRoom : ℕ → List Branch → Type 0

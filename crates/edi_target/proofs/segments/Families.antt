@@ -7,7 +7,7 @@ use Rattle.edi_calls.specs.Ready.{parent_of, has}
 use Rattle.edi_calls.proofs.Names.{some_is, no_some}
 use Rattle.edi_calls.proofs.Tables.{same-refl, same-or-other, find-with_at-same, find-with_at-other, find-without-same, find-without-other}
 use Rattle.edi_target.specs.Mach.{waiting, Activity}
-use Rattle.edi_segments.specs.Nested.{IsInOrder, IsBehind, IsInParent, AreApart}
+use Rattle.edi_target.specs.segments.Nested.{IsInOrder, IsBehind, IsInParent, AreApart}
 
 -- ---- small facts
 

@@ -1,9 +1,8 @@
-//! Where the processes of the abstract machine lie in its memory. The definitions and proofs are in `specs/` and `proofs/`;
+//! Where the processes of the abstract machine lie in its memory. The definitions and proofs are in `specs/segments/` and `proofs/segments/`;
 //! the functions here only state the laws.
-#![tactic(auto)]
 
-ghost use Rattle.edi_segments.specs.Nested.{EveryEndIsNested, SegmentsAreNested};
-ghost use Rattle.edi_segments.specs.Shares.{ChildrenLieInShares};
+ghost use Rattle.edi_target.specs.segments.Nested.{EveryEndIsNested, SegmentsAreNested};
+ghost use Rattle.edi_target.specs.segments.Shares.{ChildrenLieInShares};
 
 /// In every machine that a code reaches, whatever the choices: each frame lies in its segment, and each segment in the
 /// memory; the segment of each process but the first lies in that of its parent, behind the frame of the parent, which

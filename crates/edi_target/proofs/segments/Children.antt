@@ -7,10 +7,10 @@ use Rattle.edi_calls.specs.Ready.{child, parent_of, has}
 use Rattle.edi_calls.proofs.Tables.{same-refl, same-equal, same-or-other, find-with_at-same, find-with_at-other}
 use Rattle.edi_target.specs.Op.{Branch}
 use Rattle.edi_target.specs.Mach.{waiting, Activity, Machine, awaits, with_child, with_children}
-use Rattle.edi_segments.specs.Nested.{InOrder, IsInOrder, IsBehind, IsInParent, AreApart}
-use Rattle.edi_segments.proofs.Keeping.{HaveRoom}
-use Rattle.edi_segments.proofs.Families.{parent_apart, IsFree, Few, Sound, Alike, few_stay, behind_alike, apart_alike, apart_swapped}
-use Rattle.edi_segments.proofs.Families.{left_apart, left_was, left}
+use Rattle.edi_target.specs.segments.Nested.{InOrder, IsInOrder, IsBehind, IsInParent, AreApart}
+use Rattle.edi_target.proofs.segments.Keeping.{HaveRoom}
+use Rattle.edi_target.proofs.segments.Families.{parent_apart, IsFree, Few, Sound, Alike, few_stay, behind_alike, apart_alike, apart_swapped}
+use Rattle.edi_target.proofs.segments.Families.{left_apart, left_was, left}
 
 -- ---- a list without one of its names
 

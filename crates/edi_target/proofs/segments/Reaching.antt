@@ -15,11 +15,11 @@ use Rattle.edi_target.specs.Decode.{Reads, AreWords, decode}
 use Rattle.edi_target.specs.Fetch.{fetch}
 use Rattle.edi_target.specs.Mach.{ready, waiting, Activity, Machine, Stepped, went, ended, step, first_activity, entered}
 use Rattle.edi_target.proofs.Reading.{decode_reads}
-use Rattle.edi_segments.specs.Nested.{MayGoOn, machine_after, Reached, at_start, after_step, IsInOrder, AreNested, SegmentsAreNested}
-use Rattle.edi_segments.proofs.Keeping.{Allows}
-use Rattle.edi_segments.proofs.Families.{Sound}
-use Rattle.edi_segments.proofs.Steps.{Left, step_leaves}
-use Rattle.edi_segments.proofs.Pairs.{pair}
+use Rattle.edi_target.specs.segments.Nested.{MayGoOn, machine_after, Reached, at_start, after_step, IsInOrder, AreNested, SegmentsAreNested}
+use Rattle.edi_target.proofs.segments.Keeping.{Allows}
+use Rattle.edi_target.proofs.segments.Families.{Sound}
+use Rattle.edi_target.proofs.segments.Steps.{Left, step_leaves}
+use Rattle.edi_target.proofs.segments.Pairs.{pair}
 
 -- ---- what stands in the words of a code
 

@@ -7,8 +7,8 @@ use Rattle.edi_calls.specs.Ready.{child}
 use Rattle.edi_calls.proofs.Tables.{find-with_at-same, find-with_at-other}
 use Rattle.edi_target.specs.Op.{Branch}
 use Rattle.edi_target.specs.Mach.{Activity, Machine, with_child, with_children}
-use Rattle.edi_segments.specs.Shares.{first_of_branch, ChildrenLieInShares}
-use Rattle.edi_segments.proofs.Queues.{children_apart}
+use Rattle.edi_target.specs.segments.Shares.{first_of_branch, ChildrenLieInShares}
+use Rattle.edi_target.proofs.segments.Queues.{children_apart}
 
 module _ (p : Name) (f base share : ℕ) where
   -- later children leave it as it is

@@ -15,11 +15,11 @@ use Rattle.edi_target.specs.Perform.{share_of}
 use Rattle.edi_target.specs.Mach.{Running, Answer, on, behind, turned, over, answer_at, called, turn_from, settled, effect_at, local_step, Standing, ready}
 use Rattle.edi_target.specs.Mach.{at_when, waiting, Activity, Machine, Stepped, running_of, activity_of, back, with_children, awaits, one_less, notified}
 use Rattle.edi_target.specs.Mach.{exited, attempted, at_turn, kernel, is_first, step_of, step}
-use Rattle.edi_segments.specs.Nested.{machine_after, IsInOrder, Stays, unchanged, awaited}
-use Rattle.edi_segments.proofs.Keeping.{HaveRoom, Is, Keeping, Allows, each}
-use Rattle.edi_segments.proofs.Families.{IsFree, Sound, Alike, no_children, was, replaced, left}
-use Rattle.edi_segments.proofs.Children as children
-use Rattle.edi_segments.proofs.Children.{Stage, born, others_stay}
+use Rattle.edi_target.specs.segments.Nested.{machine_after, IsInOrder, Stays, unchanged, awaited}
+use Rattle.edi_target.proofs.segments.Keeping.{HaveRoom, Is, Keeping, Allows, each}
+use Rattle.edi_target.proofs.segments.Families.{IsFree, Sound, Alike, no_children, was, replaced, left}
+use Rattle.edi_target.proofs.segments.Children as children
+use Rattle.edi_target.proofs.segments.Children.{Stage, born, others_stay}
 
 -- ---- what an activity answers
 

@@ -10,11 +10,11 @@ use Rattle.edi_calls.proofs.Tables.{same-refl, same-equal}
 use Rattle.edi_target.specs.Decode.{AreWords}
 use Rattle.edi_target.specs.Fetch.{fetch}
 use Rattle.edi_target.specs.Mach.{Activity, Machine, Stepped, went, ended, step, finished, go_on, after_step, run, entered}
-use Rattle.edi_segments.specs.Nested.{MayGoOn, machine_after, Stays, unchanged, awaited, EveryEndIsNested}
-use Rattle.edi_segments.proofs.Families.{Sound}
-use Rattle.edi_segments.proofs.Steps.{Left, step_leaves}
-use Rattle.edi_segments.proofs.Queues.{Once, in_one, Join, Queues, step_queues}
-use Rattle.edi_segments.proofs.Reaching.{Starts, starts, allowed_at, nested_of}
+use Rattle.edi_target.specs.segments.Nested.{MayGoOn, machine_after, Stays, unchanged, awaited, EveryEndIsNested}
+use Rattle.edi_target.proofs.segments.Families.{Sound}
+use Rattle.edi_target.proofs.segments.Steps.{Left, step_leaves}
+use Rattle.edi_target.proofs.segments.Queues.{Once, in_one, Join, Queues, step_queues}
+use Rattle.edi_target.proofs.segments.Reaching.{Starts, starts, allowed_at, nested_of}
 
 -- ---- lists of processes that may go on
 

@@ -7,8 +7,8 @@ use Rattle.edi_calls.specs.Names.{Name, Table, same, find}
 use Rattle.edi_calls.specs.Ready.{parent_of}
 use Rattle.edi_calls.proofs.Tables.{same-or-other}
 use Rattle.edi_target.specs.Mach.{Activity, IsAncestor}
-use Rattle.edi_segments.specs.Nested.{IsInOrder, IsBehind, IsInParent, AreApart, Lie, apart, inside, around}
-use Rattle.edi_segments.proofs.Families.{parent_shorter, apart_swapped, Sound}
+use Rattle.edi_target.specs.segments.Nested.{IsInOrder, IsBehind, IsInParent, AreApart, Lie, apart, inside, around}
+use Rattle.edi_target.proofs.segments.Families.{parent_shorter, apart_swapped, Sound}
 
 -- q is a child of p, or a child of such a one
 pub data Under (p : Name) : Name → Type 0 where

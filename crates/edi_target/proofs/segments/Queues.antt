@@ -13,9 +13,9 @@ use Rattle.edi_target.specs.Effect.{Turn, entering, leaving, looping, arriving, 
 use Rattle.edi_target.specs.Mach.{Running, Answer, on, behind, turned, over, Standing, ready, at_when, waiting, Activity, Machine, Stepped, went, ended}
 use Rattle.edi_target.specs.Mach.{running_of, activity_of, back, with_child, with_children, awaits, one_less, notified, attempted, at_turn, kernel}
 use Rattle.edi_target.specs.Mach.{is_first, local_step, step_of, step}
-use Rattle.edi_segments.specs.Nested.{MayGoOn}
-use Rattle.edi_segments.proofs.Families.{IsFree, Sound}
-use Rattle.edi_segments.proofs.Steps.{no_child}
+use Rattle.edi_target.specs.segments.Nested.{MayGoOn}
+use Rattle.edi_target.proofs.segments.Families.{IsFree, Sound}
+use Rattle.edi_target.proofs.segments.Steps.{no_child}
 
 abbrev pub Once : List Name → Type 0
 Once [] = ⊤

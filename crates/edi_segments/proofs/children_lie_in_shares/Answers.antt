@@ -1,6 +1,0 @@
--- The law as proved.
-use Rattle.edi_segments.proofs.Shares.{children_lie_in_shares}
-use Rattle.edi_segments.proofs.children_lie_in_shares.Goals as goal
-
-pub returns : goal.returns
-returns c = record { law = children_lie_in_shares }

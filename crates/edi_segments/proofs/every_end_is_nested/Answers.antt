@@ -1,6 +1,0 @@
--- The law as proved.
-use Rattle.edi_segments.proofs.Running.{every_end_is_nested}
-use Rattle.edi_segments.proofs.every_end_is_nested.Goals as goal
-
-pub returns : goal.returns
-returns c = record { law = every_end_is_nested }

@@ -1,0 +1,3 @@
+-- Helper. The files of `segments`.
+pub mod Nested
+pub mod Shares
