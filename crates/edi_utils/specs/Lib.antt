@@ -1,3 +1,4 @@
+pub mod demonstrated
 pub mod Demo
 pub mod Listing
 pub mod Tables

@@ -1,6 +1,7 @@
 //! The listing of a code, and the text of the demonstration.
 #![tactic(auto)]
 
+pub mod demonstrated;
 mod demonstration;
 mod lines;
 mod names;

@@ -1,6 +1,6 @@
 -- The code of the demonstration and the line of its size.
 use Rattle.std.proofs.Common.{◌≡◌, ◌≤◌, ◌∙◌, ◌++◌, ℕ, Bool, true, true≢false, List, Ok, Err, refl, sym, ap, subst}
-use Rattle.edi_demonstrated.proofs.Accepted.{demonstrations_are_accepted}
+use Rattle.edi_utils.proofs.demonstrated.Accepted.{demonstrations_are_accepted}
 use Rattle.edi_lex.specs.Symbols.{symbols_of}
 use Rattle.edi_target.specs.Check.{CodeParts}
 use Rattle.edi_texts.specs.Answers.{TextAnswers}

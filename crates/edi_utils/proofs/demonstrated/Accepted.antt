@@ -9,13 +9,13 @@ use Rattle.edi_utils.specs.Demo.{demo_text}
 use Rattle.edi_texts.specs.Run.{IsRunOf}
 use Rattle.edi_texts.specs.Texts.{AreAccepted, IsUnit}
 use Rattle.edi_texts.proofs.Once.{not_both, one_unit}
-use Rattle.edi_demonstrated.specs.Demonstrated.{DemonstrationsAreAccepted, DemonstrationsEnd, ShortDemonstrationsEnd, IsAccepted}
-use Rattle.edi_demonstrated.specs.Symbols.{demo_marks}
-use Rattle.edi_demonstrated.specs.Tree.{demo_tree}
-use Rattle.edi_demonstrated.proofs.Symbols.{text_symbols, marks_count}
-use Rattle.edi_demonstrated.proofs.Spelling.{is_the_tree}
-use Rattle.edi_demonstrated.proofs.Ending.{every_selection, short_selection}
-use Rattle.edi_demonstrated.proofs.Resolving.{IsResolved, unit_of, is_resolved}
+use Rattle.edi_utils.specs.demonstrated.Demonstrated.{DemonstrationsAreAccepted, DemonstrationsEnd, ShortDemonstrationsEnd, IsAccepted}
+use Rattle.edi_utils.specs.demonstrated.Symbols.{demo_marks}
+use Rattle.edi_utils.specs.demonstrated.Tree.{demo_tree}
+use Rattle.edi_utils.proofs.demonstrated.Symbols.{text_symbols, marks_count}
+use Rattle.edi_utils.proofs.demonstrated.Spelling.{is_the_tree}
+use Rattle.edi_utils.proofs.demonstrated.Ending.{every_selection, short_selection}
+use Rattle.edi_utils.proofs.demonstrated.Resolving.{IsResolved, unit_of, is_resolved}
 
 pub has_unit : (n : ℕ) → 1 ≤ n → n ≤ 1000 → (r : IsResolved n) → IsUnit (demo_text n) (unit_of r.blocks)
 has_unit n some few r = subst (λ known. AreAccepted known (unit_of r.blocks)) (sym (text_symbols n some few))

@@ -13,8 +13,8 @@ use Rattle.edi_unit.specs.Need.{block_at}
 use Rattle.edi_meaning.specs.Store.{Instance, value}
 use Rattle.edi_meaning.specs.Step.{Position, Work, doing, procedure_end, branch_end, program_end, Standing, ready, at_when, waiting, Process, Processes, went}
 use Rattle.edi_meaning.specs.Step.{ended, step}
-use Rattle.edi_demonstrated.proofs.Blocks.{with_number, procedure_block, call_act, counter_place}
-use Rattle.edi_demonstrated.proofs.Resolving.{unit_of}
+use Rattle.edi_utils.proofs.demonstrated.Blocks.{with_number, procedure_block, call_act, counter_place}
+use Rattle.edi_utils.proofs.demonstrated.Resolving.{unit_of}
 
 -- ---- states
 

@@ -14,12 +14,12 @@ use Rattle.edi_unit.specs.Need.{block_at}
 use Rattle.edi_unit.specs.Values.{zero_value}
 use Rattle.edi_meaning.specs.Step.{Position, inside, ready, Work, doing, branch_end, program_end, Processes, went, ended, step, start, doing_all}
 use Rattle.edi_meaning.specs.Select.{Select}
-use Rattle.edi_demonstrated.proofs.Blocks.{IsProcedure, call_act, AreCalls, AreBlocks, branch_block, ended_program}
-use Rattle.edi_demonstrated.proofs.Resolving.{unit_of}
-use Rattle.edi_demonstrated.proofs.Running.{name_of, At, at_call, entered, arrived, behind, state, last_state, enters, arrives, counts, returns, leaves}
-use Rattle.edi_demonstrated.proofs.Running.{leaves_last, finishes, program_instance}
-use Rattle.edi_demonstrated.proofs.Running.{last_stops, end_stops, call_stops, when_stops, return_stops}
-use Rattle.edi_demonstrated.proofs.Selecting.{EndsSo, nothing, goes, one_ready, two_ready, over, Balance, takes_turn}
+use Rattle.edi_utils.proofs.demonstrated.Blocks.{IsProcedure, call_act, AreCalls, AreBlocks, branch_block, ended_program}
+use Rattle.edi_utils.proofs.demonstrated.Resolving.{unit_of}
+use Rattle.edi_utils.proofs.demonstrated.Running.{name_of, At, at_call, entered, arrived, behind, state, last_state, enters, arrives, counts, returns, leaves}
+use Rattle.edi_utils.proofs.demonstrated.Running.{leaves_last, finishes, program_instance}
+use Rattle.edi_utils.proofs.demonstrated.Running.{last_stops, end_stops, call_stops, when_stops, return_stops}
+use Rattle.edi_utils.proofs.demonstrated.Selecting.{EndsSo, nothing, goes, one_ready, two_ready, over, Balance, takes_turn}
 
 -- ---- what is left to do
 

@@ -21,7 +21,7 @@ use Rattle.edi_static.specs.declared.faults.StaticKind.TheVariants as kind
 use Rattle.edi_static.specs.Judged.{gives, ◌>>=◌, must}
 use Rattle.edi_static.specs.Environment.{Environment, no_heading, steps_to, begun_block}
 use Rattle.edi_static.specs.Statements.{with_statements, with_need, close_block}
-use Rattle.edi_demonstrated.proofs.Names.{Names}
+use Rattle.edi_utils.proofs.demonstrated.Names.{Names}
 
 -- ---- environments
 

@@ -1,8 +1,7 @@
-//! The text of the demonstration is accepted, and its program comes to its end. The definitions and proofs are in `specs/` and
-//! `proofs/`; the functions here only state the laws.
-#![tactic(auto)]
+//! The text of the demonstration is accepted, and its program comes to its end. The definitions and proofs are in `specs/demonstrated/` and
+//! `proofs/demonstrated/`; the functions here only state the laws.
 
-ghost use Rattle.edi_demonstrated.specs.Demonstrated.{DemonstrationsAreAccepted, DemonstrationsEnd, ShortDemonstrationsEnd};
+ghost use Rattle.edi_utils.specs.demonstrated.Demonstrated.{DemonstrationsAreAccepted, DemonstrationsEnd, ShortDemonstrationsEnd};
 
 /// With every number of procedures that the command takes, 1 to 1000, the text of the demonstration has a unit and no fault,
 /// neither of its symbols nor of its syntax nor of a static rule; it has 19 symbols for each procedure and 13 more, and its

@@ -7,8 +7,8 @@ use Rattle.edi_tree.specs.Spells.{Spells, StandAsMarks}
 use Rattle.edi_tree.specs.Depth.{depth, declarations_depth, statements_depth}
 use Rattle.edi_grammar.specs.derivation.Faults.{IsTheTree}
 use Rattle.edi_grammar.proofs.derivation.Programs.{same_program}
-use Rattle.edi_demonstrated.specs.Symbols.{procedures_marks, next_calls_marks, calls_marks, demo_marks}
-use Rattle.edi_demonstrated.specs.Tree.{procedure_trees, next_call_trees, call_trees, demo_tree}
+use Rattle.edi_utils.specs.demonstrated.Symbols.{procedures_marks, next_calls_marks, calls_marks, demo_marks}
+use Rattle.edi_utils.specs.demonstrated.Tree.{procedure_trees, next_call_trees, call_trees, demo_tree}
 
 -- a symbol whose line the tree does not keep, and one whose line it keeps, in front of others
 free : {A : Type 0} {s : Symbol} → A → ((s ≡ s) × Unit {0}) × A

@@ -18,12 +18,12 @@ use Rattle.edi_static.specs.Environment.{Environment, no_heading, heading_at, st
 use Rattle.edi_static.specs.Statements.{After, statement, statements, statement_list, branch, branches, leave_branch, close_block}
 use Rattle.edi_static.specs.Declarations.{item, declarations, begin_procedure, procedure_rest, all_completed, leave_to, heading_of}
 use Rattle.edi_static.specs.Programs.{Resolved}
-use Rattle.edi_demonstrated.specs.Symbols.{procedure_name}
-use Rattle.edi_demonstrated.specs.Tree.{body, procedure_tree, procedure_trees, call_tree, next_call_trees, call_trees, branches_tree, demo_tree}
-use Rattle.edi_demonstrated.proofs.Names.{Names, counter, Declared, at_first, one_more, ArePlain, plain_at, plain_more}
-use Rattle.edi_demonstrated.proofs.Blocks.{inside, scope_of, base, program_block, in_program, closes, body_acts, procedure_needs, AreFlat, branch_needs}
-use Rattle.edi_demonstrated.proofs.Blocks.{program_needs, one_out, procedure_block, branch_block, ended_program, AreProcedures, one_procedure_more}
-use Rattle.edi_demonstrated.proofs.Blocks.{is_procedure, call_act, AreCalls, AreBlocks, are_blocks}
+use Rattle.edi_utils.specs.demonstrated.Symbols.{procedure_name}
+use Rattle.edi_utils.specs.demonstrated.Tree.{body, procedure_tree, procedure_trees, call_tree, next_call_trees, call_trees, branches_tree, demo_tree}
+use Rattle.edi_utils.proofs.demonstrated.Names.{Names, counter, Declared, at_first, one_more, ArePlain, plain_at, plain_more}
+use Rattle.edi_utils.proofs.demonstrated.Blocks.{inside, scope_of, base, program_block, in_program, closes, body_acts, procedure_needs, AreFlat, branch_needs}
+use Rattle.edi_utils.proofs.demonstrated.Blocks.{program_needs, one_out, procedure_block, branch_block, ended_program, AreProcedures, one_procedure_more}
+use Rattle.edi_utils.proofs.demonstrated.Blocks.{is_procedure, call_act, AreCalls, AreBlocks, are_blocks}
 
 -- ---- procedures
 

@@ -16,8 +16,8 @@ use Rattle.edi_lex.specs.declared.symbol.Mark.{Mark}
 use Rattle.edi_lex.proofs.Runs.{Answer, name_first, both, stops, no_feeds, line_feeds-append}
 use Rattle.edi_tree.proofs.Decimals.{decimal_is_numeral}
 use Rattle.edi_utils.specs.Demo.{numbered, demo_procedure, next_call, demo_calls, demo_text}
-use Rattle.edi_demonstrated.specs.Symbols.{at, procedure_name, front_marks, body_marks, procedure_marks, procedures_marks, next_calls_marks, calls_marks}
-use Rattle.edi_demonstrated.specs.Symbols.{branches_marks, demo_marks}
+use Rattle.edi_utils.specs.demonstrated.Symbols.{at, procedure_name, front_marks, body_marks, procedure_marks, procedures_marks, next_calls_marks, calls_marks}
+use Rattle.edi_utils.specs.demonstrated.Symbols.{branches_marks, demo_marks}
 
 -- marks in front of an answer, one by one
 abbrev pub front : List Mark → Answer → Answer

@@ -9,7 +9,7 @@ use Rattle.edi_scope.specs.declared.entity.Entity.TheVariants as entity
 use Rattle.edi_scope.specs.Scope.{meaning}
 use Rattle.edi_unit.specs.Fits.{Heading}
 use Rattle.edi_static.specs.Environment.{no_heading, heading_at}
-use Rattle.edi_demonstrated.specs.Symbols.{procedure_name}
+use Rattle.edi_utils.specs.demonstrated.Symbols.{procedure_name}
 
 abbrev pub Names : Type 0
 Names = List (List ℕ × Entity)

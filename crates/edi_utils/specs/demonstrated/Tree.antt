@@ -10,7 +10,7 @@ use Rattle.edi_tree.specs.Tree.{procedure, heading, no_params, no_declaration, n
 use Rattle.edi_tree.specs.Tree.{group, no_name, no_group, list, no_statement, next_statement, call, assignment, when_statement, cobegin, branch}
 use Rattle.edi_tree.specs.Tree.{no_branch, next_branch, conditions, condition, no_else, expr, compared, no_comparison, simple, addend, no_addend}
 use Rattle.edi_tree.specs.Tree.{next_addend, term, no_multiplier, numeral, variable_factor, variable, no_selector}
-use Rattle.edi_demonstrated.specs.Symbols.{procedure_name}
+use Rattle.edi_utils.specs.demonstrated.Symbols.{procedure_name}
 
 abbrev pub name_on : List ℕ → (line : ℕ) → Name
 name_on spelling line = record { text = spelling; line = line }
