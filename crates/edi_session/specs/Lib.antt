@@ -1,3 +1,4 @@
+pub mod ends
 pub mod Words
 pub mod Texts
 pub mod Course

@@ -2,6 +2,7 @@
 #![tactic(auto)]
 
 mod end;
+pub mod ends;
 pub mod laws;
 mod line;
 

@@ -14,7 +14,7 @@ use Rattle.edi_session.specs.declared.end.SessionEnd.{SessionEnd}
 use Rattle.edi_session.specs.Course.{Course, becomes, prints, shows, states_of}
 use Rattle.edi_session.specs.Session.{behind, IsMomentOfSession, Session, stops}
 use Rattle.edi_session.specs.Shell.{Shell, session_on, state_in}
-use Rattle.edi_session_laws.proofs.Throughout.{EachPartKeeps, comes_keeps, goes_keeps}
+use Rattle.edi_session.proofs.ends.Throughout.{EachPartKeeps, comes_keeps, goes_keeps}
 use Rattle.edi_commands.proofs.run.Blocks.{end_blocks, moment_blocks}
 
 one_of : {X : Type 0} (x m : X) → Contains (x ∷ []) m → x ≡ m

@@ -32,8 +32,8 @@ use Rattle.edi_session.specs.Shell.{Mode, Shell, Taken, commanding, editing, end
 use Rattle.edi_session.specs.Shell.{state_in, took}
 use Rattle.edi_session.specs.Texts.{ending_line, line_end, on_line}
 use Rattle.edi_session.specs.Words.{command_line, edit_line, kept_line}
-use Rattle.edi_session_laws.specs.Laws.{HaveTwoCodes, WantsMemory, may_want}
-use Rattle.edi_session_laws.proofs.Throughout.{TakingKeeps, line_keeps}
+use Rattle.edi_session.specs.ends.Laws.{HaveTwoCodes, WantsMemory, may_want}
+use Rattle.edi_session.proofs.ends.Throughout.{TakingKeeps, line_keeps}
 
 -- ---- one effect
 

@@ -1,8 +1,7 @@
 //! Laws of sessions: each comes to an end, and two of the same input differ only where memory is wanting and in the codes that
 //! `compile` makes. The functions do nothing, and their contracts are the laws.
-#![tactic(auto)]
 
-ghost use Rattle.edi_session_laws.specs.Laws.{EverySessionEnds, LinesAreFew, OneEffect, SessionsDifferInThese};
+ghost use Rattle.edi_session.specs.ends.Laws.{EverySessionEnds, LinesAreFew, OneEffect, SessionsDifferInThese};
 
 /// From whatever a session has come to, lines lead to an end of it.
 pub fn every_session_ends()

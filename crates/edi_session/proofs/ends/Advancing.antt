@@ -9,7 +9,7 @@ use Rattle.edi_session.specs.Session.{ActsOn, closes, ComesTo, EditsLine, Goes, 
 use Rattle.edi_session.specs.Shell.{Mode, Shell, Taken, commanding, echoed, editing, ended, limit, limited, next_line, state_in, take_line, took, took_byte}
 use Rattle.edi_session.specs.Words.{command_line, edit_line, kept_line}
 use Rattle.edi_session.proofs.Total.{goes_on}
-use Rattle.edi_session_laws.proofs.Throughout.{EachPartKeeps, acts_keeps, edits_keeps}
+use Rattle.edi_session.proofs.ends.Throughout.{EachPartKeeps, acts_keeps, edits_keeps}
 
 -- no part of a line gives bytes back
 abbrev HasTaken : ℕ → Shell → Type 0

@@ -1,0 +1,2 @@
+-- Helper. The files of `ends`.
+pub mod Laws

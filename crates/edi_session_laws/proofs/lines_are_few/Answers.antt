@@ -1,5 +1,0 @@
-use Rattle.edi_session_laws.proofs.Advancing.{lines_are_few}
-use Rattle.edi_session_laws.proofs.lines_are_few.Goals as goal
-
-pub returns : goal.returns
-returns c = record { law = lines_are_few }
