@@ -10,8 +10,8 @@ use Rattle.edi_target.specs.Check.{CodeParts}
 use Rattle.edi_scheme.specs.Code.{code_of}
 use Rattle.edi_scheme.specs.Laws.{parts_of}
 use Rattle.edi_scheme.proofs.Checked.{code_is_sound}
-use Rattle.edi_codable.proofs.Fielded.{records_have_fields}
-use Rattle.edi_codable.proofs.Following.{code_is_short, code_is_short_for_text, lines_are_small, units_fit}
+use Rattle.edi_compile.proofs.codable.Fielded.{records_have_fields}
+use Rattle.edi_compile.proofs.codable.Following.{code_is_short, code_is_short_for_text, lines_are_small, units_fit}
 use Rattle.edi_follows.specs.Theorem.{CanBeCoded}
 use Rattle.edi_follows.proofs.Whole.{same_outcomes, same_moments, code_private}
 use Rattle.edi_texts.specs.Texts.{AreAccepted, IsSoundUnit, IsUnit}

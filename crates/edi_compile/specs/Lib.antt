@@ -1,3 +1,4 @@
+pub mod codable
 pub mod Compiled
 pub mod Meant
 pub mod Taken

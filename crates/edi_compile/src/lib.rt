@@ -2,6 +2,7 @@
 //! code.
 #![tactic(auto)]
 
+pub mod codable;
 mod intake;
 pub mod laws;
 mod passes;

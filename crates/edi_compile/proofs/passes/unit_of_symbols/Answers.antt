@@ -1,8 +1,8 @@
 use Rattle.std.proofs.Common.{arith}
 use Rattle.edi_tree.specs.Whole.{program_of}
 use Rattle.edi_unit.specs.View.{unit_of}
-use Rattle.edi_codable.proofs.Fielded.{records_have_fields}
-use Rattle.edi_codable.proofs.Following.{code_is_short, code_is_short_for_text, lines_are_small}
+use Rattle.edi_compile.proofs.codable.Fielded.{records_have_fields}
+use Rattle.edi_compile.proofs.codable.Following.{code_is_short, code_is_short_for_text, lines_are_small}
 use Rattle.edi_compile.proofs.passes.unit_of_symbols.Goals as goal
 
 pub returns : goal.returns

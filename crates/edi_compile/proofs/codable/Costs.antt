@@ -26,8 +26,8 @@ use Rattle.edi_static.specs.Fitting.{character, single, function_called, express
 use Rattle.edi_static.specs.Expressions.{Parted, field_at, field_of, used_alone, alone, taken, element, procedure_argument, argument}
 use Rattle.edi_static.proofs.Judging.{Gives, bind, behind, ruled}
 use Rattle.edi_scheme.specs.Lines.{IsLine, ExpressionLines, ExpressionsLines, LinksLines, PartLines, ArgumentLines}
-use Rattle.edi_codable.proofs.Front.{weight, Lined}
-use Rattle.edi_codable.proofs.Most.{expression_most, elements_most, link_most, links_most, part_most, argument_most}
+use Rattle.edi_compile.proofs.codable.Front.{weight, Lined}
+use Rattle.edi_compile.proofs.codable.Most.{expression_most, elements_most, link_most, links_most, part_most, argument_most}
 
 -- what stands between two places of the text becomes something with these lines, of at most so many words
 pub record Costs (Lines : Type 0) (most : ℕ) (a b : List Spelled) : Type 0 where

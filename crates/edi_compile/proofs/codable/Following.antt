@@ -13,12 +13,12 @@ use Rattle.edi_sema.proofs.Ranges.{bounded_in_range}
 use Rattle.edi_scheme.proofs.Blocks.{code_is_long}
 use Rattle.edi_scheme.proofs.Checked as scheme
 use Rattle.edi_scheme.proofs.WordedBlocks as worded
-use Rattle.edi_codable.specs.Laws.{LinesAreSmall, CodeIsShortForText, CodeIsShort, SoundUnitsFit, SoundCode, CodeIsWords}
-use Rattle.edi_codable.proofs.Front.{weight, standing_weight, tree_weight}
-use Rattle.edi_codable.proofs.Most.{code_fits}
-use Rattle.edi_codable.proofs.Bodies.{BodyLines}
-use Rattle.edi_codable.proofs.Wholes.{unit_good}
-use Rattle.edi_codable.proofs.Fielded.{records_have_fields}
+use Rattle.edi_compile.specs.codable.Laws.{LinesAreSmall, CodeIsShortForText, CodeIsShort, SoundUnitsFit, SoundCode, CodeIsWords}
+use Rattle.edi_compile.proofs.codable.Front.{weight, standing_weight, tree_weight}
+use Rattle.edi_compile.proofs.codable.Most.{code_fits}
+use Rattle.edi_compile.proofs.codable.Bodies.{BodyLines}
+use Rattle.edi_compile.proofs.codable.Wholes.{unit_good}
+use Rattle.edi_compile.proofs.codable.Fielded.{records_have_fields}
 
 pub lines_are_small : LinesAreSmall
 lines_are_small tree unit is_bounded e n less = All-get_or BodyLines unit.blocks n no_block less (unit_good tree unit is_bounded e).bodies

@@ -26,10 +26,10 @@ use Rattle.edi_static.specs.Expressions.{multipliers, multiplier, factor, applie
 use Rattle.edi_static.specs.Expressions.{selector, all_arguments}
 use Rattle.edi_static.proofs.Judging.{Gives, bind, behind, ruled, weaker}
 use Rattle.edi_scheme.specs.Lines.{PlaceLines, PartsLines, ArgumentsLines}
-use Rattle.edi_codable.proofs.Front.{Lined, sign_front}
-use Rattle.edi_codable.proofs.Most.{place_most, parts_most, arguments_most}
-use Rattle.edi_codable.proofs.Costs.{Costs, Fine, LinkFine, LinksFine, PartFine, ListFine, ArgumentFine, within_marks, chained, linked, operated_fine}
-use Rattle.edi_codable.proofs.Costs.{signed_fine, single_fine, alone_fine, element_fine, both_fine, constructed_fine, argument_fine, field_fine}
+use Rattle.edi_compile.proofs.codable.Front.{Lined, sign_front}
+use Rattle.edi_compile.proofs.codable.Most.{place_most, parts_most, arguments_most}
+use Rattle.edi_compile.proofs.codable.Costs.{Costs, Fine, LinkFine, LinksFine, PartFine, ListFine, ArgumentFine, within_marks, chained, linked, operated_fine}
+use Rattle.edi_compile.proofs.codable.Costs.{signed_fine, single_fine, alone_fine, element_fine, both_fine, constructed_fine, argument_fine, field_fine}
 
 abbrev pub PartsFine : List Spelled → List Spelled → Reached → Type 0
 PartsFine a b r = Costs (PartsLines r.parts) (parts_most r.parts) a b

@@ -10,7 +10,7 @@ use Rattle.edi_static.proofs.Judging.{Gives}
 use Rattle.edi_static.proofs.Declared.{Keeping}
 use Rattle.edi_static.proofs.Lasting.{Lasting, nothing_said, UnitLasts, unit_lasts}
 use Rattle.edi_scheme.specs.Laws.{HasPart, HaveParts}
-use Rattle.edi_codable.specs.Laws.{RecordsHaveFields}
+use Rattle.edi_compile.specs.codable.Laws.{RecordsHaveFields}
 
 abbrev Have : List Shape → List Block → Type 0
 Have types blocks = HaveParts types

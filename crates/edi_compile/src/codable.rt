@@ -1,9 +1,8 @@
 //! What a code generator may count on in the resolved unit of a sound program, and what follows for its code: the laws of
-//! `edi_scheme` without their premises. The definitions and proofs are in `specs/` and `proofs/`; the functions here only
+//! `edi_scheme` without their premises. The definitions and proofs are in `specs/codable/` and `proofs/codable/`; the functions here only
 //! state the laws.
-#![tactic(auto)]
 
-ghost use Rattle.edi_codable.specs.Laws.{
+ghost use Rattle.edi_compile.specs.codable.Laws.{
   CodeIsShort,
   CodeIsShortForText,
   CodeIsWords,

@@ -25,10 +25,10 @@ use Rattle.edi_static.specs.Statements.{leave_branch, statement_list, statements
 use Rattle.edi_static.proofs.Judging.{Gives, bind, behind, ruled}
 use Rattle.edi_scheme.specs.Lines.{ActLines, ActsLines, ClauseLines, ClausesLines}
 use Rattle.edi_scheme.specs.Laws.{HasPart}
-use Rattle.edi_codable.proofs.Front.{weight, Lined, constant_front}
-use Rattle.edi_codable.proofs.Most.{expression_most, act_most, acts_most, clause_most, clauses_most, total}
-use Rattle.edi_codable.proofs.Costs.{Costs, Fine}
-use Rattle.edi_codable.proofs.Expressions.{PlaceFine, ArgumentsFine, expression_fine, place_fine, arguments_fine}
+use Rattle.edi_compile.proofs.codable.Front.{weight, Lined, constant_front}
+use Rattle.edi_compile.proofs.codable.Most.{expression_most, act_most, acts_most, clause_most, clauses_most, total}
+use Rattle.edi_compile.proofs.codable.Costs.{Costs, Fine}
+use Rattle.edi_compile.proofs.codable.Expressions.{PlaceFine, ArgumentsFine, expression_fine, place_fine, arguments_fine}
 
 -- ---- statements without statements in them
 

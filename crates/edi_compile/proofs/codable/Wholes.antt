@@ -25,10 +25,10 @@ use Rattle.edi_static.specs.Programs.{program_heading, global_decl, global_decls
 use Rattle.edi_static.proofs.Judging.{Gives, bind, behind, weaker}
 use Rattle.edi_scheme.specs.Laws.{HasPart}
 use Rattle.edi_static.proofs.Declared.{Keeping, const_list_kept, type_decl_kept, var_kept, heading_kept, round_kept, outside_round_kept}
-use Rattle.edi_codable.proofs.Fielded.{with_parts}
-use Rattle.edi_codable.proofs.Front.{weight, Lined, Front, tree_lined, const_list_front, type_decl_front, var_list_front, heading_front}
-use Rattle.edi_codable.proofs.Most.{total}
-use Rattle.edi_codable.proofs.Bodies.{BodyLines, Counted, typed, varied, push_total, Good, ActsDone, moved, close_good, add_good, list_good}
+use Rattle.edi_compile.proofs.codable.Fielded.{with_parts}
+use Rattle.edi_compile.proofs.codable.Front.{weight, Lined, Front, tree_lined, const_list_front, type_decl_front, var_list_front, heading_front}
+use Rattle.edi_compile.proofs.codable.Most.{total}
+use Rattle.edi_compile.proofs.codable.Bodies.{BodyLines, Counted, typed, varied, push_total, Good, ActsDone, moved, close_good, add_good, list_good}
 
 -- what stands behind the heading of a procedure
 abbrev rest_then : text.Procedure → List Spelled → List Spelled

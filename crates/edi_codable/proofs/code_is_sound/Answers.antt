@@ -1,5 +1,0 @@
-use Rattle.edi_codable.proofs.Following.{code_is_sound, code_is_words}
-use Rattle.edi_codable.proofs.code_is_sound.Goals as goal
-
-pub returns : goal.returns
-returns c = record { sound = code_is_sound; words = code_is_words }

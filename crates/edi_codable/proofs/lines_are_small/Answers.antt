@@ -1,5 +1,0 @@
-use Rattle.edi_codable.proofs.Following.{lines_are_small}
-use Rattle.edi_codable.proofs.lines_are_small.Goals as goal
-
-pub returns : goal.returns
-returns c = record { law = lines_are_small }

@@ -1,0 +1,3 @@
+-- Helper. The files of `codable`.
+pub mod Laws
+pub mod Rows
