@@ -16,8 +16,8 @@ use crate::layers::{
     make_exported, make_item_declaration, make_item_member, make_module, make_module_declaration,
     make_module_member, make_post, make_procedure, make_procedure_item,
 };
-use edi_headings::parse_head;
 use edi_lex::{Mark, Symbol};
+use edi_phrases::headings::parse_head;
 use edi_phrases::{Parsed, at, at_type_decl, by_front, eat, expect, open};
 use edi_statements::parse_list;
 use edi_tree::{Declaration, Declarations, Item, Member, Members, Module, Procedure, Sequence};

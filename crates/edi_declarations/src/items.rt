@@ -10,8 +10,8 @@ ghost use Rattle.edi_grammar.specs.Rules as g;
 ghost use Rattle.edi_grammar.specs.Edison as sets;
 
 use crate::layers::{make_const_item, make_pre, make_type_item, make_var_item};
-use edi_headings::parse_head;
 use edi_lex::{Mark, Symbol};
+use edi_phrases::headings::parse_head;
 use edi_phrases::{Parsed, expect, open, parse_const_list, parse_type_decl, parse_var_list};
 use edi_tree::Item;
 use std::alloc::Global;

@@ -1,3 +1,4 @@
+pub mod expressions
 pub mod Parses
 pub mod Prelude
 pub mod Stopped

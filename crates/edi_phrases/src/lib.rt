@@ -4,6 +4,8 @@
 #![tactic(auto)]
 
 mod constants;
+pub mod expressions;
+pub mod headings;
 mod macros;
 mod names;
 mod stop;

@@ -9,8 +9,8 @@ ghost use Rattle.edi_grammar.specs.Kinds as kind;
 ghost use Rattle.edi_grammar.specs.Rules as g;
 
 use crate::layers::{make_assignment, make_call, make_lone_call};
-use edi_expressions::{parse_args, parse_expr, parse_selectors};
 use edi_lex::{Mark, Symbol};
+use edi_phrases::expressions::{parse_args, parse_expr, parse_selectors};
 use edi_phrases::{Parsed, at, expect, parse_name};
 use edi_tree::{Root, Statement};
 use std::alloc::Global;

@@ -15,8 +15,8 @@ use crate::assignments::{parse_named, parse_val};
 use crate::layers::{
     make_branch, make_cobegin, make_condition, make_conditions, make_guarded, make_list, make_skip,
 };
-use edi_expressions::parse_expr;
 use edi_lex::{Mark, Symbol};
+use edi_phrases::expressions::parse_expr;
 use edi_phrases::{Parsed, at, at_name, eat, expect, open, parse_constant};
 use edi_tree::{Branch, Condition, Conditions, Else, List, Sequence, Statement, Statements};
 use std::alloc::Global;

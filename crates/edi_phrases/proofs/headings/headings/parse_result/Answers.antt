@@ -10,7 +10,7 @@ use Rattle.edi_grammar.specs.Rules as g
 use Rattle.edi_grammar.specs.Edison.{edison}
 use Rattle.edi_phrases.specs.Words.{at_line}
 use Rattle.edi_phrases.proofs.Moves.{at_exit, waits, over_mark, into, lacks}
-use Rattle.edi_headings.proofs.headings.parse_result.Goals as goal
+use Rattle.edi_phrases.proofs.headings.headings.parse_result.Goals as goal
 
 pub returns-in_default-clause-passes : goal.returns-in_default-clause-passes
 returns-in_default-clause-passes c = into ([]) (waits g.Result _ _) (rw (ne_eqb (front _) kind.Colon c.in_default.ensures.none) refl)

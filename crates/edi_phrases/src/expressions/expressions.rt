@@ -1,5 +1,5 @@
 //! Expressions.
-#![tactic(auto, using(edi_phrases::proofs::Moves::no_memory))]
+#![tactic(auto, using(crate::proofs::Moves::no_memory))]
 
 ghost use Rattle.std.specs.Prelude.{◌≡◌, [], ◌∷◌, ◌<◌, ◌≤◌, ℕ, true, false, length, option_map, IfOk, IfErr, IfSome, IfNone};
 ghost use Rattle.edi_phrases.specs.Prelude.{front, kind_of, has, at_line, Passes, HaltsAt};
@@ -12,15 +12,15 @@ ghost use Rattle.edi_tree.specs.Levels.{term_elements, addends_elements, simple_
 ghost use Rattle.edi_grammar.specs.Kinds as kind;
 ghost use Rattle.edi_grammar.specs.Rules as g;
 ghost use Rattle.edi_grammar.specs.Edison as sets;
-ghost use Rattle.edi_expressions.specs.Strings.{NoString};
+ghost use Rattle.edi_phrases.specs.expressions.Strings.{NoString};
 
-use crate::layers::{
+use crate::expressions::layers::{
     make_addend, make_args, make_call, make_comparison, make_expr, make_field, make_index,
     make_multiplier, make_not, make_numeral, make_parenthesized, make_simple, make_string,
     make_term, make_variable,
 };
+use crate::{Parsed, at, at_name, eat, eat_numeral, expect, open, parse_name, text_here};
 use edi_lex::{Mark, Symbol};
-use edi_phrases::{Parsed, at, at_name, eat, eat_numeral, expect, open, parse_name, text_here};
 use edi_tree::{
     Addends, Addition, Args, Chars, Comparison, Expr, Exprs, Factor, Multiplication, Multipliers,
     Relation, Root, Selector, Selectors, Sequence, Sign, Simple, Term,
@@ -267,7 +267,7 @@ fn parse_val<'a>(alloc: Global, marks: &'a [Mark], level: u16) -> Parsed<'a, Fac
 }
 
 /// Whether a string is in front.
-#[tactic(auto, using(crate::proofs::Strings::string_kind))]
+#[tactic(auto, using(crate::proofs::expressions::Strings::string_kind))]
 fn at_string(marks: &[Mark]) -> bool
     ensures exact { result ≡ has (front marks.now) (kind.Char ∷ kind.Text ∷ []) }
 {
@@ -278,7 +278,7 @@ fn at_string(marks: &[Mark]) -> bool
 }
 
 /// The string that must stand here, and the marks behind it.
-#[tactic(auto, using(crate::proofs::Strings::string_kind))]
+#[tactic(auto, using(crate::proofs::expressions::Strings::string_kind))]
 fn parse_chars<'a>(alloc: Global, marks: &'a [Mark]) -> Parsed<'a, Chars>
     ensures found { IfOk result (λ r. marks.now ≡ at_line (is.Chars r.0.text) r.0.line ∷ r.1.now) }
     ensures shorter { IfOk result (λ r. length r.1.now < length marks.now) }

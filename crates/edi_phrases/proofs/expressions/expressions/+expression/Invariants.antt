@@ -3,7 +3,7 @@ use Rattle.edi_tree.specs.View as view
 use Rattle.edi_tree.specs.Levels as elements
 use Rattle.edi_grammar.specs.Rules as g
 use Rattle.edi_phrases.proofs.Pushes.{Repeats}
-use Rattle.edi_expressions.proofs.expressions.+expression.Given as goal
+use Rattle.edi_phrases.proofs.expressions.expressions.+expression.Given as goal
 
 abbrev pub decreases-parse_index : goal.decreases-parse_index
 decreases-parse_index l = (64 - l.level) * 16 + 0

@@ -18,8 +18,8 @@ use Rattle.edi_phrases.proofs.Opened.{over_front, open_front}
 use Rattle.std.proofs.lemmas.Int.{to_z-of_z}
 use mir.Syntax.{w16}
 use Rattle.edi_phrases.proofs.Fronts.{apart}
-use Rattle.edi_expressions.proofs.Operators as ops
-use Rattle.edi_expressions.proofs.expressions.+expression.Goals as goal
+use Rattle.edi_phrases.proofs.expressions.Operators as ops
+use Rattle.edi_phrases.proofs.expressions.expressions.+expression.Goals as goal
 
 selector_openbracket : rule_at edison g.Selector kind.OpenBracket ≡ Some (token kind.OpenBracket ∷ part g.Expr ∷ token kind.CloseBracket ∷ item.level_end ∷ [])
 selector_openbracket = refl

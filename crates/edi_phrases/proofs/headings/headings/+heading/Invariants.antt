@@ -5,8 +5,8 @@ use Rattle.edi_grammar.specs.Grammar as item
 use Rattle.edi_grammar.specs.Kinds as kind
 use Rattle.edi_grammar.specs.Rules as g
 use Rattle.edi_phrases.specs.Parses.{Goes}
-use Rattle.edi_headings.proofs.Pushes.{open_params}
-use Rattle.edi_headings.proofs.headings.+heading.Given as goal
+use Rattle.edi_phrases.proofs.headings.Pushes.{open_params}
+use Rattle.edi_phrases.proofs.headings.headings.+heading.Given as goal
 
 abbrev pub decreases-parse_param : goal.decreases-parse_param
 decreases-parse_param l = (64 - l.level) * 4 + 3

@@ -16,7 +16,7 @@ use Rattle.edi_phrases.specs.Words.{at_line}
 use Rattle.edi_phrases.specs.Parses.{Goes}
 use Rattle.edi_phrases.specs.Stopped.{HaltsAt}
 use Rattle.edi_phrases.proofs.Opened.{over_front}
-use Rattle.edi_expressions.specs.Strings.{NoString}
+use Rattle.edi_phrases.specs.expressions.Strings.{NoString}
 
 pub string_kind : (text : List ℕ) → has (kind_of (is.Chars text)) (kind.Char ∷ kind.Text ∷ []) ≡ true
 string_kind [] = refl

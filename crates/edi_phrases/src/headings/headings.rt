@@ -1,5 +1,5 @@
 //! Headings of procedures. A level is the number of levels that are open where a part begins; at most 64 may be open.
-#![tactic(auto, using(edi_phrases::proofs::Moves::no_memory))]
+#![tactic(auto, using(crate::proofs::Moves::no_memory))]
 
 ghost use Rattle.std.specs.Prelude.{◌≡◌, ◌<◌, ◌≤◌, length, IfOk, IfErr};
 ghost use Rattle.edi_phrases.specs.Prelude.{front, Passes, HaltsAt};
@@ -9,8 +9,8 @@ ghost use Rattle.edi_grammar.specs.derivation.Parts.{head_elements};
 ghost use Rattle.edi_grammar.specs.Kinds as kind;
 ghost use Rattle.edi_grammar.specs.Rules as g;
 
+use crate::{Parsed, at, eat, expect, open, parse_group, parse_name};
 use edi_lex::{Mark, Symbol};
-use edi_phrases::{Parsed, at, eat, expect, open, parse_group, parse_name};
 use edi_tree::{Heading, Name, Param, Params, Sequence};
 use std::alloc::Global;
 

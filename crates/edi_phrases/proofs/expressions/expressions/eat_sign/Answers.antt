@@ -10,7 +10,7 @@ use Rattle.edi_grammar.specs.Rules as g
 use Rattle.edi_grammar.specs.Edison.{edison}
 use Rattle.edi_phrases.specs.Words.{at_line}
 use Rattle.edi_phrases.proofs.Moves.{waits, over_mark, into}
-use Rattle.edi_expressions.proofs.expressions.eat_sign.Goals as goal
+use Rattle.edi_phrases.proofs.expressions.expressions.eat_sign.Goals as goal
 
 pub returns-in-Some-clause-passes : goal.returns-in-Some-clause-passes
 returns-in-Some-clause-passes c = λ n. over_mark (on is.Plus c.in-Some.line) (at_line is.Plus c.in-Some.line)

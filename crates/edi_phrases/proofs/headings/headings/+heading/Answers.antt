@@ -16,9 +16,9 @@ use Rattle.edi_phrases.specs.Words.{at_line}
 use Rattle.edi_phrases.specs.Parses.{Goes}
 use Rattle.edi_phrases.proofs.Moves.{at_exit, waits, over_mark, over_end, over_part, into, written, lacks, refused, halts, alone_halts, alone_passes}
 use Rattle.edi_phrases.proofs.Opened.{over_front, open_front}
-use Rattle.edi_headings.proofs.Pushes as push
-use Rattle.edi_headings.proofs.Seen as seen
-use Rattle.edi_headings.proofs.headings.+heading.Goals as goal
+use Rattle.edi_phrases.proofs.headings.Pushes as push
+use Rattle.edi_phrases.proofs.headings.Seen as seen
+use Rattle.edi_phrases.proofs.headings.headings.+heading.Goals as goal
 
 param_var : rule_at edison g.Param kind.Var ≡ Some (token kind.Var ∷ part g.Group ∷ [])
 param_var = refl

@@ -1,0 +1,2 @@
+-- Helper. The files of `expressions`.
+pub mod Strings
