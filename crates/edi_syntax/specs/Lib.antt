@@ -1,3 +1,4 @@
+pub mod statements
 pub mod Inside
 pub mod Refusal
 pub mod Ends

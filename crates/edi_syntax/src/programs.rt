@@ -10,9 +10,9 @@ ghost use Rattle.edi_grammar.specs.derivation.Faults.{IsTheTree};
 ghost use Rattle.edi_syntax.specs.Ends.{EndsAt, EndsDeep, EndsWrong};
 ghost use Rattle.edi_syntax.specs.Refusal.{IsSyntaxFault, Refuses};
 
+use crate::declarations::{parse_globals, parse_procedure};
 use crate::fault::SyntaxFault;
 use crate::inside::is_outside;
-use edi_declarations::{parse_globals, parse_procedure};
 use edi_lex::{Mark, Symbols};
 use edi_phrases::Stop;
 use edi_tree::{Globals, Procedure, Program};

@@ -1,9 +1,0 @@
-//! The parsing functions of statements. Where such a function succeeds, the predictive parser of the grammar passes its
-//! part, and the tree has what stands there; where it fails, that parser stops at the same symbol.
-#![tactic(auto)]
-
-mod assignments;
-mod layers;
-mod statements;
-
-pub use statements::parse_list;

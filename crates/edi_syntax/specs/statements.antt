@@ -1,0 +1,3 @@
+-- Helper. The files of `statements`.
+pub mod Lines
+pub mod Guards
