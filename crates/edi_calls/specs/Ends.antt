@@ -1,5 +1,5 @@
 -- Words of contracts. How a call may end that was to have this result, on an object that tells its state.
-use Rattle.std.specs.Prelude.{◌≡◌, ℕ, ◌⊎◌, Bool, true, false, List, Option, Some, None}
+use Rattle.std.specs.Prelude.{◌≡◌, ℕ, ◌≤◌, ◌⊎◌, Bool, true, false, List, Option, Some, None}
 use Rattle.edi_told.specs.Faults.{CountRose}
 use Rattle.edi_calls.specs.declared.ends.CallEnd.{CallEnd}
 use Rattle.edi_calls.specs.declared.ends.CallEnd.TheVariants as end
@@ -36,3 +36,11 @@ is_refused end.OutsideFault = false
 abbrev pub Blames : CallEnd → (failed : Option Outside → Type 0) → (before now : Outside → ℕ) → Type 0
 Blames end.OutsideFault failed before now = (outside : Outside) × failed (Some outside) × CountRose (before outside) (now outside)
 Blames _ failed before now = failed None
+
+-- what calls leave of the object that answers them: no count of faults falls, it holds the same references, and calls have led
+-- from wherever they led before
+abbrev pub CallsLast : {C R : Type 0} → (faults : C → Outside → ℕ) → (references : C → R) → (leads : C → C → Type 0) → (old new : C) → Type 0
+CallsLast {C = C} faults references leads old new =
+    ((outside : Outside) → faults old outside ≤ faults new outside)
+    × (references new ≡ references old)
+    × ((start : C) → leads start old → leads start new)

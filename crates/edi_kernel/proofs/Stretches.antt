@@ -19,7 +19,8 @@ use Rattle.edi_kernel.specs.declared.stretch.Pause.{Pause}
 use Rattle.edi_kernel.specs.declared.stretch.Pause.TheVariants as pause
 use Rattle.edi_kernel.specs.declared.stretch.Progress.{Progress}
 use Rattle.edi_kernel.specs.Stretch.{Paused, pausing, after_turn, after_answer, walk_turn, walk_on, walked, stretch, OneStep, Reaches, Stretches, Falls}
-use Rattle.edi_kernel.specs.Stretch.{Spends, CallsLast, at_start, cleared_in, left_after, pause_by, pause_of, pause_with, running_in}
+use Rattle.edi_calls.specs.Ends.{CallsLast}
+use Rattle.edi_kernel.specs.Stretch.{Spends, at_start, cleared_in, left_after, pause_by, pause_of, pause_with, running_in}
 use Rattle.edi_kernel.proofs.Phases.{begins}
 
 -- an activity that goes on is after the step where the stretch goes on from

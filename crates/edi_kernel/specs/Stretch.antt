@@ -275,11 +275,3 @@ Spends _ left new_left = ⊤
 abbrev pub Blamed : Option Pause → (failed : Option Outside → Type 0) → (old new : Outside → ℕ) → Type 0
 Blamed (Some (pause.Over ending.Fault)) failed old new = (outside : Outside) × failed (Some outside) × CountRose (old outside) (new outside)
 Blamed _ failed old new = failed None
-
--- what calls leave of the object that answers them: no count of faults falls, it holds the same references, and calls have led
--- from wherever they led before
-abbrev pub CallsLast : {C R : Type 0} → (faults : C → Outside → ℕ) → (references : C → R) → (leads : C → C → Type 0) → (old new : C) → Type 0
-CallsLast {C = C} faults references leads old new =
-    ((outside : Outside) → faults old outside ≤ faults new outside)
-    × (references new ≡ references old)
-    × ((start : C) → leads start old → leads start new)

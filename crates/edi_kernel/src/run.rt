@@ -8,7 +8,8 @@ ghost use Rattle.std.specs.Prelude.{Option};
 ghost use Rattle.edi_machine.specs.declared.activity.Activity.{Activity};
 ghost use Rattle.edi_kernel.specs.declared.table.Table.{Table};
 ghost use Rattle.edi_kernel.specs.Table.{ready_slots};
-ghost use Rattle.edi_kernel.specs.Stretch.{Blamed, CallsLast};
+ghost use Rattle.edi_calls.specs.Ends.{CallsLast};
+ghost use Rattle.edi_kernel.specs.Stretch.{Blamed};
 ghost use Rattle.edi_kernel.specs.Kernel.{GoesTo, Holds, IsKernel, ended_by, fault_of, faulted, is_over, later_by, used_in, StandsAfter, StandsAtEnd};
 ghost use Rattle.edi_kernel.specs.Runs.{Chooses, EndsUnready, IsAt, Picks, Proceeds, Rounds, RunsTo, Started, TakesNext};
 

@@ -10,7 +10,8 @@ ghost use Rattle.edi_told.specs.Told.{WhereTold};
 ghost use Rattle.edi_calls.specs.Names.{Name};
 ghost use Rattle.edi_target.specs.Mach.{Machine};
 ghost use Rattle.edi_machine.specs.declared.activity.Activity.{Activity};
-ghost use Rattle.edi_kernel.specs.Stretch.{Allows, Blamed, CallsLast, Spends, Stretches, at_start, is_standstill, running_in};
+ghost use Rattle.edi_calls.specs.Ends.{CallsLast};
+ghost use Rattle.edi_kernel.specs.Stretch.{Allows, Blamed, Spends, Stretches, at_start, is_standstill, running_in};
 ghost use Rattle.edi_kernel.specs.Kernel.{
   GoesTo,
   Handles,

@@ -9,10 +9,10 @@ ghost use Rattle.edi_told.specs.Told.{WhereTold};
 ghost use Rattle.edi_calls.specs.State.{State};
 ghost use Rattle.edi_store.specs.Memory.{IsMemory};
 ghost use Rattle.edi_machine.specs.Activities.{IsOrdered, local_of};
+ghost use Rattle.edi_calls.specs.Ends.{CallsLast};
 ghost use Rattle.edi_kernel.specs.Stretch.{
   Allows,
   Blamed,
-  CallsLast,
   Falls,
   OneStep,
   OnePlain,

@@ -21,7 +21,7 @@ frames-append : (is js : List Instance) → frames (is ++ js) ≡ frames is ++ f
 frames-append [] js = refl
 frames-append (i ∷ is) js = ap (λ fs. i.frame ∷ fs) (frames-append is js)
 
-frames-take : (n : ℕ) (is : List Instance) → frames (take n is) ≡ take n (frames is)
+pub frames-take : (n : ℕ) (is : List Instance) → frames (take n is) ≡ take n (frames is)
 frames-take zero is = refl
 frames-take (suc n) [] = refl
 frames-take (suc n) (i ∷ is) = ap (λ fs. i.frame ∷ fs) (frames-take n is)

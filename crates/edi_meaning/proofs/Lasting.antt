@@ -129,14 +129,14 @@ module _ {unit : ProgramUnit} {p : Name} {size : ℕ} (s : Lasting unit p size) 
 
   -- ---- what needs no tree
 
-  range_keeps : {A : Type 0} (x : s.Level) (line : ℕ) (o : Option A) (w : World) → s.Holds x w → Keeps (At x Any) (in_range line o w)
+  pub range_keeps : {A : Type 0} (x : s.Level) (line : ℕ) (o : Option A) (w : World) → s.Holds x w → Keeps (At x Any) (in_range line o w)
   range_keeps x line None w h = stop x _ (outcome.failed cause.Range line) w tt h
   range_keeps x line (Some a) w h = give _ a w (tt, h)
 
   abbrev Located : s.Level → Designated → Type 0
   Located x d = s.Comes x d.at
 
-  element_keeps : (x : s.Level) (shape : Shape) (line : ℕ) (l : Location) (v : Value) (w : World) → s.Comes x l → s.Holds x w
+  pub element_keeps : (x : s.Level) (shape : Shape) (line : ℕ) (l : Location) (v : Value) (w : World) → s.Comes x l → s.Holds x w
       → Keeps (At x (Located x)) (element_of shape line l v w)
   element_keeps x (array_of i lo hi e) line l v w c h = bind x Any _ _ _ (range_keeps x line (element_at lo hi v) w h)
       (λ n w _ h. give _ _ w ((s.of_part x l n c), h))
@@ -147,7 +147,7 @@ module _ {unit : ProgramUnit} {p : Name} {size : ℕ} (s : Lasting unit p size) 
   element_keeps x (record_of fs) line l v w c h = give _ _ w (c, h)
   element_keeps x (set_of b) line l v w c h = give _ _ w (c, h)
 
-  answer_keeps : (x : s.Level) (cells : List Cell) (words : List ℕ) (w : World) → Every (s.Fits x) cells → s.Holds x w
+  pub answer_keeps : (x : s.Level) (cells : List Cell) (words : List ℕ) (w : World) → Every (s.Fits x) cells → s.Holds x w
       → s.Holds x (record w { store = answer_in cells words w.store })
   answer_keeps x [] words w f h = h
   answer_keeps x (location l ∷ cells) [] w f h = answer_keeps x cells [] w f.1 h
@@ -155,7 +155,7 @@ module _ {unit : ProgramUnit} {p : Name} {size : ℕ} (s : Lasting unit p size) 
   answer_keeps x (value v ∷ cells) words w f h = answer_keeps x cells words w f.1 h
   answer_keeps x (procedure c ∷ cells) words w f h = answer_keeps x cells words w f.1 h
 
-  answered_keeps : (x : s.Level) (number : ℕ) (asked : List ℕ) (result : CallResult) (cells : List Cell) (line : ℕ) (w : World)
+  pub answered_keeps : (x : s.Level) (number : ℕ) (asked : List ℕ) (result : CallResult) (cells : List Cell) (line : ℕ) (w : World)
       → call number asked w.system.now ≡ result → Every (s.Fits x) cells → s.Holds x w → Keeps (At x Any) (answered_by result cells line w)
   answered_keeps x number asked (answered words system) cells line w e f h =
       give _ tt _ (tt, answer_keeps x cells words (record w { system = after_call system w.system }) f (s.replied x number asked words system w e h))
@@ -168,7 +168,7 @@ module _ {unit : ProgramUnit} {p : Name} {size : ℕ} (s : Lasting unit p size) 
       f h
 
   -- a block is entered, and what comes then begins at the level inside
-  entered_keeps : {A : Type 0} (x : s.Level) (P : A → World → Type 0) (number : ℕ) (parent : Spot) (cells : List Cell) (line : ℕ) (w : World)
+  pub entered_keeps : {A : Type 0} (x : s.Level) (P : A → World → Type 0) (number : ℕ) (parent : Spot) (cells : List Cell) (line : ℕ) (w : World)
       (go : World → Evaluation A) →
       s.Fits x (procedure (block_procedure number parent)) → Every (s.Fits x) cells → s.Holds x w →
       ((y : s.Level) → ((v : World) → s.Holds y v → s.Holds x (record v { store = shrunk p v.store })) → (v : World) → suc v.turns ≡ w.turns → s.Holds y v
@@ -178,7 +178,7 @@ module _ {unit : ProgramUnit} {p : Name} {size : ℕ} (s : Lasting unit p size) 
       (turn_less x P w.turns w _ refl h (λ v less g. k (s.called x number parent cells v c f g).0 (s.called x number parent cells v c f g).2 _ less
       (s.called x number parent cells v c f g).1))
 
-  left_keeps : {A : Type 0} (x y : s.Level) (P : A → World → Type 0) (w : World) (go : World → Evaluation A)
+  pub left_keeps : {A : Type 0} (x y : s.Level) (P : A → World → Type 0) (w : World) (go : World → Evaluation A)
       → ((v : World) → s.Holds y v → s.Holds x (record v { store = shrunk p v.store })) → s.Holds y w →
       ((w : World) → s.Holds x w → Keeps P (go w)) → Keeps P (left unit p size w go)
   left_keeps x y P w go back h k = turn_keeps y P w.turns w _ refl h (λ w h. k _ (back w h))
@@ -188,7 +188,7 @@ module _ {unit : ProgramUnit} {p : Name} {size : ℕ} (s : Lasting unit p size) 
   -- a level deeper is reached behind a turn: with fewer than n turns left, where n is a bound of them at this level
   module _ (n : ℕ) (within : (x : s.Level) (w : World) → s.Holds x w → w.turns ≤ n) (deeper : Acts → World → Evaluation (Unit {0}))
       (deep : (x : s.Level) (as' : Acts) (w : World) → w.turns < n → s.Holds x w → Keeps (At x Any) (deeper as' w)) where
-    function_keeps : (x : s.Level) (c : Closure) (cells : List Cell) (line : ℕ) (w : World) → s.Fits x (procedure c) → Every (s.Fits x) cells → s.Holds x w
+    pub function_keeps : (x : s.Level) (c : Closure) (cells : List Cell) (line : ℕ) (w : World) → s.Fits x (procedure c) → Every (s.Fits x) cells → s.Holds x w
         → Keeps (At x Any) (function_call unit p size deeper c cells line w)
     function_keeps x (block_procedure number parent) cells line w c f h =
         entered_keeps x _ number parent cells line w (function_body unit p size deeper number) c f h
@@ -197,7 +197,7 @@ module _ {unit : ProgramUnit} {p : Name} {size : ℕ} (s : Lasting unit p size) 
     function_keeps x (system_procedure number) cells line w c f h = give _ _ w (tt, h)
 
     mutual
-      expression_keeps : (x : s.Level) (e : Expression) (w : World) → s.Holds x w → Keeps (At x Any) (expression unit p size deeper e w)
+      pub expression_keeps : (x : s.Level) (e : Expression) (w : World) → s.Holds x w → Keeps (At x Any) (expression unit p size deeper e w)
       expression_keeps x (tree.constant of n) w h = give _ _ w (tt, h)
       expression_keeps x (tree.load v) w h = bind x (Located x) _ _ _ (designated_keeps x v w h) (λ d w _ h. give _ _ w (tt, h))
       expression_keeps x (tree.not_of e) w h = bind x Any _ _ _ (expression_keeps x e w h) (λ v w _ h. give _ _ w (tt, h))
@@ -213,52 +213,52 @@ module _ {unit : ProgramUnit} {p : Name} {size : ℕ} (s : Lasting unit p size) 
           bind x (Every (s.Fits x)) _ _ _ (arguments_keeps x es w h)
           (λ cells w f h. function_keeps x (meant unit p size c w) cells line w (s.by_procedure x c w h) f h)
 
-      expressions_keeps : (x : s.Level) (es : Expressions) (w : World) → s.Holds x w → Keeps (At x Any) (expressions unit p size deeper es w)
+      pub expressions_keeps : (x : s.Level) (es : Expressions) (w : World) → s.Holds x w → Keeps (At x Any) (expressions unit p size deeper es w)
       expressions_keeps x tree.no_expression w h = give _ _ w (tt, h)
       expressions_keeps x (tree.expression_then e es) w h =
           bind x Any _ _ _ (expression_keeps x e w h) (λ v w _ h. bind x Any _ _ _ (expressions_keeps x es w h) (λ vs w _ h. give _ _ w (tt, h)))
 
-      members_keeps : (x : s.Level) (set : List ℕ) (es : Expressions) (line : ℕ) (w : World) → s.Holds x w
+      pub members_keeps : (x : s.Level) (set : List ℕ) (es : Expressions) (line : ℕ) (w : World) → s.Holds x w
           → Keeps (At x Any) (members_of unit p size deeper set es line w)
       members_keeps x set tree.no_expression line w h = give _ _ w (tt, h)
       members_keeps x set (tree.expression_then e es) line w h =
           bind x Any _ _ _ (expression_keeps x e w h)
           (λ v w _ h. bind x Any _ _ _ (range_keeps x line (with_ordinal set (ordinal_of v)) w h) (λ set w _ h. members_keeps x set es line w h))
 
-      linked_keeps : (x : s.Level) (v : Value) (ls : Links) (w : World) → s.Holds x w → Keeps (At x Any) (linked unit p size deeper v ls w)
+      pub linked_keeps : (x : s.Level) (v : Value) (ls : Links) (w : World) → s.Holds x w → Keeps (At x Any) (linked unit p size deeper v ls w)
       linked_keeps x v tree.no_link w h = give _ _ w (tt, h)
       linked_keeps x v (tree.link_then l ls) w h = bind x Any _ _ _ (operated_keeps x v l w h) (λ v w _ h. linked_keeps x v ls w h)
 
-      operated_keeps : (x : s.Level) (v : Value) (l : Link) (w : World) → s.Holds x w → Keeps (At x Any) (operated unit p size deeper v l w)
+      pub operated_keeps : (x : s.Level) (v : Value) (l : Link) (w : World) → s.Holds x w → Keeps (At x Any) (operated unit p size deeper v l w)
       operated_keeps x v (tree.link o e line) w h =
           if_keeps _ (decides o v) _ _ (give _ _ w (tt, h)) (bind x Any _ _ _ (expression_keeps x e w h) (λ u w _ h. range_keeps x line (apply o v u) w h))
 
-      designated_keeps : (x : s.Level) (v : Place) (w : World) → s.Holds x w → Keeps (At x (Located x)) (designated unit p size deeper v w)
+      pub designated_keeps : (x : s.Level) (v : Place) (w : World) → s.Holds x w → Keeps (At x (Located x)) (designated unit p size deeper v w)
       designated_keeps x (tree.place levels variable ps) w h = parts_keeps x (named unit p size levels variable w.store) ps w
           (s.of_slot x levels variable w h) h
 
-      parts_keeps : (x : s.Level) (d : Designated) (ps : Parts) (w : World) → Located x d → s.Holds x w
+      pub parts_keeps : (x : s.Level) (d : Designated) (ps : Parts) (w : World) → Located x d → s.Holds x w
           → Keeps (At x (Located x)) (parts unit p size deeper d ps w)
       parts_keeps x d tree.no_part w c h = give _ d w (c, h)
       parts_keeps x d (tree.part_then q qs) w c h = bind x (Located x) _ _ _ (part_keeps x d q w c h) (λ d w c h. parts_keeps x d qs w c h)
 
-      part_keeps : (x : s.Level) (d : Designated) (q : Part) (w : World) → Located x d → s.Holds x w → Keeps (At x (Located x)) (part unit p size deeper d q w)
+      pub part_keeps : (x : s.Level) (d : Designated) (q : Part) (w : World) → Located x d → s.Holds x w → Keeps (At x (Located x)) (part unit p size deeper d q w)
       part_keeps x d (tree.field n) w c h = give _ _ w ((s.of_part x d.at n c), h)
       part_keeps x d (tree.index e line) w c h = bind x Any _ _ _ (expression_keeps x e w h)
           (λ v w _ h. element_keeps x (shape_at unit.types d.of) line d.at v w c h)
 
-      argument_keeps : (x : s.Level) (a : Argument) (w : World) → s.Holds x w → Keeps (At x (s.Fits x)) (argument unit p size deeper a w)
+      pub argument_keeps : (x : s.Level) (a : Argument) (w : World) → s.Holds x w → Keeps (At x (s.Fits x)) (argument unit p size deeper a w)
       argument_keeps x (tree.by_value e) w h = bind x Any _ _ _ (expression_keeps x e w h) (λ v w _ h. give _ _ w ((s.by_value x v), h))
       argument_keeps x (tree.by_variable v) w h = bind x (Located x) _ _ _ (designated_keeps x v w h) (λ d w c h. give _ _ w ((s.by_location x d.at c), h))
       argument_keeps x (tree.by_procedure c) w h = give _ _ w ((s.by_procedure x c w h), h)
 
-      arguments_keeps : (x : s.Level) (es : Arguments) (w : World) → s.Holds x w → Keeps (At x (Every (s.Fits x))) (arguments unit p size deeper es w)
+      pub arguments_keeps : (x : s.Level) (es : Arguments) (w : World) → s.Holds x w → Keeps (At x (Every (s.Fits x))) (arguments unit p size deeper es w)
       arguments_keeps x tree.no_argument w h = give _ [] w (tt, h)
       arguments_keeps x (tree.argument_then a as') w h =
           bind x (s.Fits x) _ _ _ (argument_keeps x a w h)
           (λ c w f h. bind x (Every (s.Fits x)) _ _ _ (arguments_keeps x as' w h) (λ cs w fs h. give _ (c ∷ cs) w ((f, fs), h)))
 
-    procedure_keeps : (x : s.Level) (c : Closure) (cells : List Cell) (line : ℕ) (w : World) → s.Fits x (procedure c) → Every (s.Fits x) cells → s.Holds x w
+    pub procedure_keeps : (x : s.Level) (c : Closure) (cells : List Cell) (line : ℕ) (w : World) → s.Fits x (procedure c) → Every (s.Fits x) cells → s.Holds x w
         → Keeps (At x Any) (procedure_call unit p size deeper c cells line w)
     procedure_keeps x (block_procedure number parent) cells line w c f h =
         entered_keeps x _ number parent cells line w (procedure_body unit p size deeper number) c f h
@@ -266,19 +266,19 @@ module _ {unit : ProgramUnit} {p : Name} {size : ℕ} (s : Lasting unit p size) 
         (λ _ w _ h. left_keeps x y _ w (gives tt) back h (λ w h. give _ _ w (tt, h))))
     procedure_keeps x (system_procedure number) cells line w c f h = system_keeps x number cells line w f h
 
-    assigned_keeps : (x : s.Level) (v : Place) (e : Expression) (w : World) → s.Holds x w → Keeps (At x Any) (assigned unit p size deeper v e w)
+    pub assigned_keeps : (x : s.Level) (v : Place) (e : Expression) (w : World) → s.Holds x w → Keeps (At x Any) (assigned unit p size deeper v e w)
     assigned_keeps x v e w h =
         bind x (Located x) _ _ _ (designated_keeps x v w h)
         (λ d w c h. bind x Any _ _ _ (expression_keeps x e w h) (λ v w _ h. give _ _ _ (tt, s.stored x d.at v w c h)))
 
-    again_keeps : (x : s.Level) (cs : Clauses) (ran : Bool) (w : World) → s.Holds x w
+    pub again_keeps : (x : s.Level) (cs : Clauses) (ran : Bool) (w : World) → s.Holds x w
         → Keeps (At x Any) (if ran then turn w (deeper (tree.act_then (tree.while_act cs) tree.no_act)) else gives (tt {0}) w)
     again_keeps x cs true w h = turn_less x _ w.turns w _ refl h
         (λ v less g. deep x (tree.act_then (tree.while_act cs) tree.no_act) v (omega (arith, less, within x w h)) g)
     again_keeps x cs false w h = give _ _ w (tt, h)
 
     mutual
-      act_keeps : (x : s.Level) (a : Act) (w : World) → s.Holds x w → Keeps (At x Any) (act unit p size deeper a w)
+      pub act_keeps : (x : s.Level) (a : Act) (w : World) → s.Holds x w → Keeps (At x Any) (act unit p size deeper a w)
       act_keeps x tree.skip w h = give _ _ w (tt, h)
       act_keeps x (tree.assign v e) w h = assigned_keeps x v e w h
       act_keeps x (tree.call c es line) w h =
@@ -290,16 +290,16 @@ module _ {unit : ProgramUnit} {p : Name} {size : ℕ} (s : Lasting unit p size) 
       act_keeps x (tree.when_act cs line) w h = stop x _ (outcome.failed cause.Held line) w tt h
       act_keeps x (tree.cobegin bs line) w h = stop x _ (outcome.failed cause.Held line) w tt h
 
-      acts_keeps : (x : s.Level) (as' : Acts) (w : World) → s.Holds x w → Keeps (At x Any) (acts unit p size deeper as' w)
+      pub acts_keeps : (x : s.Level) (as' : Acts) (w : World) → s.Holds x w → Keeps (At x Any) (acts unit p size deeper as' w)
       acts_keeps x tree.no_act w h = give _ _ w (tt, h)
       acts_keeps x (tree.act_then a as') w h = bind x Any _ _ _ (act_keeps x a w h) (λ _ w _ h. acts_keeps x as' w h)
 
-      first_keeps : (x : s.Level) (cs : Clauses) (w : World) → s.Holds x w → Keeps (At x Any) (first unit p size deeper cs w)
+      pub first_keeps : (x : s.Level) (cs : Clauses) (w : World) → s.Holds x w → Keeps (At x Any) (first unit p size deeper cs w)
       first_keeps x tree.no_clause w h = give _ _ w (tt, h)
       first_keeps x (tree.clause_then c cs) w h =
           bind x Any _ _ _ (guarded_keeps x c w h) (λ ran w _ h. if_keeps _ ran _ _ (give _ _ w (tt, h)) (first_keeps x cs w h))
 
-      guarded_keeps : (x : s.Level) (c : Clause) (w : World) → s.Holds x w → Keeps (At x Any) (guarded unit p size deeper c w)
+      pub guarded_keeps : (x : s.Level) (c : Clause) (w : World) → s.Holds x w → Keeps (At x Any) (guarded unit p size deeper c w)
       guarded_keeps x (tree.clause e as') w h =
           bind x Any _ _ _ (expression_keeps x e w h)
           (λ v w _ h. if_keeps _ (is_true v) _ _ (bind x Any _ _ _ (acts_keeps x as' w h) (λ _ w _ h. give _ _ w (tt, h))) (give _ _ w (tt, h)))

@@ -74,7 +74,7 @@ module _ {A : Type 0} where
       is_one : (x : Name) → has (p ∷ []) x ≡ true → x ≡ p
       is_one x k = same-equal x p (sym (right_false (same x p)) ∙ k)
 
-  once-without : (t : Table A) (p : Name) → Once (names t) → Once (names (without t p))
+  pub once-without : (t : Table A) (p : Name) → Once (names t) → Once (names (without t p))
   once-without [] p o = tt
   once-without (entry ∷ t) p o = go (same p entry.0) refl (once-without t p o.1)
     where

@@ -108,13 +108,13 @@ module _ (F : Shape) (r : Name) where
       (record { parent = h.0.parent; cells = every-set (CellMeans F (r, d)) i.cells variable (value v) tt h.0.cells }, h.1)
   mean-with_cell (i ∷ is) d (suc depth) variable v h = (h.0, mean-with_cell is (suc d) depth variable v h.1)
 
-  parent_of_one : (is : List Instance) (d k m : ℕ) → d + k ≡ m → k < length is → InstancesMean F r d is
+  pub parent_of_one : (is : List Instance) (d k m : ℕ) → d + k ≡ m → k < length is → InstancesMean F r d is
       → Means F (r, m) (unwrap_or (slice_get (frames is) k) no_frame).parent
   parent_of_one [] d k m e l h = absurd (omega arith)
   parent_of_one (i ∷ is) d zero m e l h = let q : d ≡ m = omega (arith, e) in subst (λ x. Means F (r, x) i.frame.parent) q h.0.parent
   parent_of_one (i ∷ is) d (suc k) m e l h = parent_of_one is (suc d) k m (omega (arith, e)) (omega (arith, l)) h.1
 
-  cells_of_one : (is : List Instance) (d k m : ℕ) → d + k ≡ m → InstancesMean F r d is → Every (CellMeans F (r, m)) (cells_in is k)
+  pub cells_of_one : (is : List Instance) (d k m : ℕ) → d + k ≡ m → InstancesMean F r d is → Every (CellMeans F (r, m)) (cells_in is k)
   cells_of_one [] d k m e h = tt
   cells_of_one (i ∷ is) d zero m e h = let q : d ≡ m = omega (arith, e) in subst (λ x. Every (CellMeans F (r, x)) i.cells) q h.0.cells
   cells_of_one (i ∷ is) d (suc k) m e h = cells_of_one is (suc d) k m (omega (arith, e)) h.1
@@ -143,11 +143,11 @@ module _ (F : Shape) (store : Store) (h : Refers F store) where
   parent_means : (s : Spot) → IsLive F s → Means F s (frame_at (shape store) s).parent
   parent_means s l = parent_of_one F s.0 (instances store s.0) 0 s.1 s.1 (omega arith) (omega (arith, l, length_is F store h.shape s.0)) (h.each s.0)
 
-  cell_means : (s : Spot) (variable : ℕ) → CellMeans F s (cell store s variable)
+  pub cell_means : (s : Spot) (variable : ℕ) → CellMeans F s (cell store s variable)
   cell_means s variable = every-at (CellMeans F s) (cells_in (instances store s.0) s.1) variable no_cell
       (cells_of_one F s.0 (instances store s.0) 0 s.1 s.1 (omega arith) (h.each s.0)) tt
 
-  reached_means : (levels : ℕ) (s : Spot) → IsLive F s → Means F s (reached (shape store) levels s)
+  pub reached_means : (levels : ℕ) (s : Spot) → IsLive F s → Means F s (reached (shape store) levels s)
   reached_means zero s l = means_self F s l
   reached_means (suc levels) s l =
       let up : Means F s (frame_at (shape store) s).parent = parent_means s l in

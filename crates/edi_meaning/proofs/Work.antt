@@ -66,7 +66,7 @@ size_of_all (tree.act_then a as') position n work = omega (arith, size_of_all as
 
 -- ---- a step of one process takes a turn, asks the kernel for what takes one, or leaves less work
 
-abbrev Less : ℕ → ℕ → Asks → World → Type 0
+abbrev pub Less : ℕ → ℕ → Asks → World → Type 0
 Less m t (goes work) w = (w.turns < t) ⊎ ((w.turns ≤ t) × (work_size work < m))
 Less m t (arrives cs position work) w = w.turns < t
 Less m t (again cs position quiet work) w = w.turns < t
@@ -158,7 +158,7 @@ module _ (unit : ProgramUnit) (p : Name) (size t : ℕ) where
       bind few tt Any _ _ _ (whole_first_keeps few tt cs w h)
       (λ ran w _ h. if_keeps few _ ran _ _ (goes_falling _ work w h (omega arith)) (turn_falling _ w.turns w _ refl h (λ w l. give few _ _ w l)))
 
-  local_falling : (standing : Standing) (work : List Work) (w : World) → w.turns ≤ t → Falling (standing_size standing + work_size work)
+  pub local_falling : (standing : Standing) (work : List Work) (w : World) → w.turns ≤ t → Falling (standing_size standing + work_size work)
       (local_step unit p size standing work w)
   local_falling ready work w h = subst (λ n. Falling n (work_step unit p size work w)) (omega arith) (work_falling work w h)
   local_falling (at_when cs position) work w h = attempt_falling cs position work w h
@@ -183,7 +183,7 @@ freed_falls : (m n t : ℕ) (p r : Name) (s : Processes) → s.world.turns < t �
 freed_falls m zero t p r s h = h
 freed_falls m (suc n) t p r s h = h
 
-falling : (unit : ProgramUnit) (s : Processes) (p : Name) (q : Process) (m t : ℕ) → Handles unit s p q (Less m t)
+pub falling : (unit : ProgramUnit) (s : Processes) (p : Name) (q : Process) (m t : ℕ) → Handles unit s p q (Less m t)
     (λ ending system turns. (turns ≤ t) × IsOwn ending) (Falls m t p)
 falling unit s p q m t = record {
   of_end = λ ending system turns h. h.1;

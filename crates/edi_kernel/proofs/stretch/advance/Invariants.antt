@@ -1,7 +1,8 @@
 use Rattle.std.proofs.Common.{◌+◌, ◌-◌, ◌*◌, ◌≤◌, length, None}
 use Rattle.edi_told.specs.Told.{WhereTold}
 use Rattle.edi_machine.specs.Activities.{IsOrdered}
-use Rattle.edi_kernel.specs.Stretch.{cleared_in, running_in, CallsLast, IsInPhase, Reaches}
+use Rattle.edi_calls.specs.Ends.{CallsLast}
+use Rattle.edi_kernel.specs.Stretch.{cleared_in, running_in, IsInPhase, Reaches}
 use Rattle.edi_kernel.proofs.stretch.advance.Given as goal
 
 abbrev pub invariant-stretch : goal.invariant-stretch
