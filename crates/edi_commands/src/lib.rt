@@ -1,4 +1,4 @@
-//! edi_commands: boot, code, disk, run, steps, text.
+//! The commands of the program, from their arguments to their status: a module for each kind, over the steps that they share.
 #![tactic(auto)]
 
 pub mod boot;

@@ -1,11 +1,6 @@
-//! Values as the words of the abstract machine: `specs/values/Words.antt` has the words of a value, and where its parts stand in them. The
-//! program calls nothing of this crate: the functions here only state laws.
-//!
-//! Operators, conversions and system calls on words: what the abstract machine's instructions make of the words of values is what
-//! the operators make of the values. The program calls nothing of this crate: the functions here only state laws.
-//!
-//! The code of operands does what they mean: constants, operators, conversions, constructors and sets. `proofs/values/Operands.antt` has
-//! it all as one record, `operands_do`, for the crates above.
+//! Values as words: `specs/values/Words.antt` has the words of a value, and where its parts stand in them. Operators, conversions and
+//! system calls on words: what the instructions make of the words of values is what the operators make of the values. The functions
+//! only state laws; the program calls none of them.
 
 ghost use Rattle.edi_follows.specs.values.Words.{
   PartsAreRead,

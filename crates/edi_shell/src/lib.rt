@@ -1,4 +1,4 @@
-//! edi_shell: commands, compile, edit, sessions.
+//! The shell: each of its commands with all lines that it takes, and whole sessions, over any object that it works on.
 #![tactic(auto)]
 
 pub mod commands;

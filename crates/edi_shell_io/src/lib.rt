@@ -1,4 +1,4 @@
-//! edi_shell_io: calls, lines, words.
+//! What the shell reads, shows and calls: a line as a command, the lines that it shows, and the object that it works on.
 #![tactic(auto)]
 
 pub mod calls;
