@@ -96,6 +96,14 @@ whole f marks [] tree p none same =
     (p.at (token kind.End_of_text ∷ []) complete [] refl (taken kind.End_of_text None [] [] [] complete refl (λ o. let no : false ≡ true = o in
     absurd (cc)) (done [])))
 
+-- and the parser has read all
+pub reads_all : (f : List Element → List Element) (marks rest : List Mark) → Passes g.Program 0 f marks rest → length rest ≡ 0
+    → Stops edison 64 start (to_end marks) complete []
+reads_all f marks (r ∷ rest) p none = absurd (omega (arith, none))
+reads_all f marks [] p none =
+    p.at (token kind.End_of_text ∷ []) complete [] refl (taken kind.End_of_text None [] [] [] complete refl (λ o. let no : false ≡ true = o in
+    absurd (cc)) (done []))
+
 -- ---- the symbols
 
 has_size : (s : Symbol) → is_spelled s ≡ true → 1 ≤ size_of s

@@ -1,4 +1,5 @@
-//! From the symbols of an Edison program to its syntax tree, or to the first fault of the grammar.
+//! From the symbols of an Edison program to its syntax tree, or to the first fault of the grammar; the parsing functions of
+//! statements, procedures, modules and declarations.
 #![tactic(auto)]
 
 pub mod declarations;
@@ -9,4 +10,4 @@ mod programs;
 pub mod statements;
 
 pub use fault::SyntaxFault;
-pub use programs::parse;
+pub use programs::{parse, parse_program};

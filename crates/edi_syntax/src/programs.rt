@@ -1,11 +1,13 @@
 //! Programs.
 
-ghost use Rattle.std.specs.Prelude.{◌≡◌, ◌≤◌, ◌-◌, ◌⊎◌, length, IfOk, IfErr, Err};
+ghost use Rattle.std.specs.Prelude.{◌≡◌, ◌≤◌, ◌-◌, ◌⊎◌, [], length, IfOk, IfErr, Err};
 ghost use Rattle.edi_tree.specs.Tree as plain;
 ghost use Rattle.edi_tree.specs.View.{program_with};
 ghost use Rattle.edi_tree.specs.Whole.{program_of};
-ghost use Rattle.edi_tree.specs.Spells.{Spells};
+ghost use Rattle.edi_tree.specs.Spells.{Spells, to_end};
 ghost use Rattle.edi_tree.specs.Depth.{depth};
+ghost use Rattle.edi_grammar.specs.Parser.{Stops, complete};
+ghost use Rattle.edi_grammar.specs.Edison.{edison, start};
 ghost use Rattle.edi_grammar.specs.derivation.Faults.{IsTheTree};
 ghost use Rattle.edi_syntax.specs.Ends.{EndsAt, EndsDeep, EndsWrong};
 ghost use Rattle.edi_syntax.specs.Refusal.{IsSyntaxFault, Refuses};
@@ -18,9 +20,11 @@ use edi_phrases::Stop;
 use edi_tree::{Globals, Procedure, Program};
 use std::alloc::Global;
 
-/// `{ ConstList | TypeDecl } Procedure` and then the end of the text.
-fn parse_program(alloc: Global, marks: &[Mark]) -> Result<(Globals, Procedure), Stop<'_>>
+/// Parses `{ ConstList | TypeDecl } Procedure` and then the end of the program: the globals and the procedure that these marks
+/// spell, or the marks at which no program goes on (`Stop`), or no memory.
+pub fn parse_program(alloc: Global, marks: &[Mark]) -> Result<(Globals, Procedure), Stop<'_>>
     ensures tree { IfOk result (λ r. IsTheTree marks.now (program_with r.0 r.1)) }
+    ensures complete { IfOk result (λ r. Stops edison 64 start (to_end marks.now) complete []) }
     ensures ends { IfErr result (λ e. EndsAt marks.now e) }
 {
     let (globals, behind_globals) = parse_globals(alloc, marks)?;

@@ -4,7 +4,7 @@ use Rattle.edi_tree.specs.View.{program_with}
 use Rattle.edi_grammar.specs.Grammar.{part}
 use Rattle.edi_grammar.specs.Rules as g
 use Rattle.edi_phrases.proofs.Moves.{waits, over_part, into, halts}
-use Rattle.edi_syntax.proofs.Stopping.{ends_at, ends_behind, whole}
+use Rattle.edi_syntax.proofs.Stopping.{ends_at, ends_behind, reads_all, whole}
 use Rattle.edi_syntax.proofs.programs.parse_program.Goals as goal
 
 pub returns-in_err-globals-clause-ends : goal.returns-in_err-globals-clause-ends
@@ -31,3 +31,9 @@ returns-clause-tree c =
     whole _ c.args.marks.now c.in_ok-procedure.rest.now (program_with c.in_ok-globals.globals c.in_ok-procedure.procedure)
     (over_part (over_part (into (part g.Globals ∷ part g.Procedure ∷ []) (waits g.Program 0 _) refl) c.in_ok-globals.ensures.passes (omega arith))
     c.in_ok-procedure.ensures.passes (omega arith)) (search rules) refl
+
+pub returns-clause-complete : goal.returns-clause-complete
+returns-clause-complete c =
+    reads_all _ c.args.marks.now c.in_ok-procedure.rest.now
+    (over_part (over_part (into (part g.Globals ∷ part g.Procedure ∷ []) (waits g.Program 0 _) refl) c.in_ok-globals.ensures.passes (omega arith))
+    c.in_ok-procedure.ensures.passes (omega arith)) (search rules)
