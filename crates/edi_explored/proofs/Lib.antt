@@ -1,0 +1,4 @@
+pub mod Members
+pub mod Choosing
+pub mod Induction
+pub mod Worked

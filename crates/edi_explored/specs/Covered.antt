@@ -1,0 +1,68 @@
+-- Words of contracts. When a search has followed everything. A search keeps representatives, of whatever form; each of them covers states
+-- of the meaning, with the processes that are ready in them. It covers them whatever the turns, the marks, the order of the ready ones
+-- and the output are, and whatever the processes are called: that is for the one who says what covers what.
+use Rattle.std.specs.Prelude.{◌≡◌, ◌⊎◌, ℕ, suc, true, false, List, [], ◌∷◌, ◌++◌, Contains, Some}
+use Rattle.edi_calls.specs.State.{State}
+use Rattle.edi_calls.specs.Names.{Name, find}
+use Rattle.edi_calls.specs.Outcome as outcome
+use Rattle.edi_calls.specs.Outcome.{Ending}
+use Rattle.edi_calls.specs.Ready.{has}
+use Rattle.edi_calls.proofs.Names.{Once}
+use Rattle.edi_unit.specs.Tree.{Acts, Clauses, ProgramUnit}
+use Rattle.edi_meaning.specs.Evaluation.{World, Evaluation, gives}
+use Rattle.edi_meaning.specs.Whole.{first}
+use Rattle.edi_meaning.specs.Step.{Position, at_when, Process, Processes, is_quiet, start}
+use Rattle.edi_explored.specs.Stint.{stint, behind, over}
+
+-- nothing but the turns differs
+pub record SameButTurns (s t : Processes) : Type 0 where
+  pub live : t.live ≡ s.live
+  pub store : t.world.store ≡ s.world.store
+  pub system : t.world.system ≡ s.world.system
+
+-- the same processes are in both lists, each once where it was once
+pub record Reordered (ready other : List Name) : Type 0 where
+  pub members : (p : Name) → has other p ≡ has ready p
+  pub once : Once ready → Once other
+
+-- p stands at a `when` whose conditions call nothing, and none of them is true: its attempt fails, in this state and whatever turns
+-- are left
+pub record CannotGo (unit : ProgramUnit) (s : Processes) (p : Name) : Type 0 where
+  pub process : Process
+  pub found : find s.live p ≡ Some process
+  pub clauses : Clauses
+  pub position : Position
+  pub standing : process.standing ≡ at_when clauses position
+  pub quiet : is_quiet clauses ≡ true
+  pub none : (deeper : Acts → World → Evaluation (Unit {0})) (w : World) → w.store ≡ s.world.store → first unit p process.size deeper clauses w ≡ gives false w
+
+-- a report of endings alone, and one of endings with what was shown by then
+abbrev pub HasEnding : List Ending → Ending → (shown : List ℕ) → Type 0
+HasEnding endings ending shown = Contains endings ending
+
+abbrev pub HasShown : List (Ending × List ℕ) → Ending → (shown : List ℕ) → Type 0
+HasShown endings ending shown = Contains endings (ending, shown)
+
+-- the execution is cut by its turns, or the report tells the ending, with all that was shown by then
+abbrev pub IsCutOrTold : (Tells : Ending → (shown : List ℕ) → Type 0) → Ending → (shown : List ℕ) → Type 0
+IsCutOrTold Tells ending shown = (ending ≡ outcome.turns) ⊎ Tells ending shown
+
+-- THE SEARCH HAS FOLLOWED EVERYTHING within `n` moves of what it has: `Has n v` says that it has v, and all that fewer than n moves lead to
+-- from there. `Tells` says what its report tells.
+pub record Followed (unit : ProgramUnit) (Tells : Ending → (shown : List ℕ) → Type 0) (V : Type 0) (Covers : V → Processes → List Name → Type 0)
+    (Has : ℕ → V → Type 0) : Type 0 where
+  -- what covers a state covers it with other turns, and with its ready ones in another order
+  pub forgets : (v : V) (s t : Processes) (ready other : List Name) → Covers v s ready → SameButTurns s t → Reordered ready other → Covers v t other
+  -- each stint from what it has ends in a way that is told, or is cut by its turns
+  pub reports : (n : ℕ) (v : V) (s : Processes) (p : Name) (others : List Name) (steps : ℕ) (ending : Ending) (shown : List ℕ) → Has (suc n) v →
+      Covers v s (p ∷ others) → stint unit steps s p ≡ over ending shown → IsCutOrTold Tells ending shown
+  -- or leads to what it has
+  pub leads : (n : ℕ) (v : V) (s t : Processes) (p : Name) (others joined : List Name) (steps : ℕ) → Has (suc n) v → Covers v s (p ∷ others) →
+      stint unit steps s p ≡ behind t joined false → (w : V) × Has n w × Covers w t (others ++ joined)
+  -- where none of the ready ones can go, a standstill is told
+  pub stands : (n : ℕ) (v : V) (s : Processes) (ready : List Name) → Has (suc n) v → Covers v s ready →
+      ((p : Name) → has ready p ≡ true → CannotGo unit s p) → Tells outcome.standstill s.world.system.now.shown
+
+-- it begins with something that covers the start, whatever the bound on the turns
+abbrev pub BeginsWith : (unit : ProgramUnit) (system : State) (V : Type 0) (Covers : V → Processes → List Name → Type 0) → V → Type 0
+BeginsWith unit system V Covers v = (bound : ℕ) → Covers v (start unit system bound) ([] ∷ [])

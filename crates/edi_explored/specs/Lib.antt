@@ -1,0 +1,5 @@
+pub mod Moves
+pub mod Reached
+pub mod Stint
+pub mod Covered
+pub mod Rows
