@@ -21,7 +21,7 @@ use Rattle.edi_meaning.proofs.Sound.{or_true, has-append, once-append, right_fal
 use Rattle.edi_meaning.proofs.Standstill.{Idle, SameBut, Marks, step_marks, idle_same, marked_one}
 use Rattle.edi_explored.specs.Moves.{moves_on, moves_next, moves_after, moves, moves_of}
 use Rattle.edi_explored.specs.Stint.{behind, over, stint, stint_after}
-use Rattle.edi_explored.specs.Covered.{SameButTurns, Reordered, CannotGo, IsCutOrTold, Followed, BeginsWith}
+use Rattle.edi_explored.specs.Covered.{SameButTurns, Reordered, CannotGo, Report, IsCutOrTold, AllTold, AllToldBelow, Followed, BeginsWith}
 use Rattle.edi_explored.proofs.Members.{MembersTaken, members_taken}
 
 -- ---- how a step leaves its process
@@ -108,8 +108,8 @@ but_turns s t e = record { live = e.live; store = e.store; system = e.system }
 nothing_differs : (s : Processes) → SameButTurns s s
 nothing_differs s = record { live = refl; store = refl; system = refl }
 
-module _ (unit : ProgramUnit) (Tells : Ending → (shown : List ℕ) → Type 0) (V : Type 0) (Covers : V → Processes → List Name → Type 0) (Has : ℕ → V → Type 0)
-    (f : Followed unit Tells V Covers Has) (choices : Choices) where
+module _ (unit : ProgramUnit) (report : Report) (V : Type 0) (Covers : V → Processes → List Name → Type 0) (Has : ℕ → V → Type 0)
+    (f : Followed unit report V Covers Has) (choices : Choices) where
   -- something that is had covers this
   pub record Covered (n : ℕ) (s : Processes) (names : List Name) : Type 0 where
     pub by : V
@@ -118,7 +118,7 @@ module _ (unit : ProgramUnit) (Tells : Ending → (shown : List ℕ) → Type 0)
 
   -- p has been taken, and goes on in its stint
   pub record Going (n : ℕ) (s : Processes) (p : Name) (others : List Name) : Type 0 where
-    pub reports : (steps : ℕ) (ending : Ending) (shown : List ℕ) → stint unit steps s p ≡ over ending shown → IsCutOrTold Tells ending shown
+    pub reports : (steps : ℕ) (ending : Ending) (shown : List ℕ) → stint unit steps s p ≡ over ending shown → IsCutOrTold report ending shown
     pub leads : (steps : ℕ) (t : Processes) (joined : List Name) → stint unit steps s p ≡ behind t joined false → Covered n t (others ++ joined)
     -- it has just begun, or p is ready
     pub at : Covered (suc n) s (p ∷ others) ⊎ ((q : Process) × (find s.live p ≡ Some q) × (q.standing ≡ ready))
@@ -145,7 +145,7 @@ module _ (unit : ProgramUnit) (Tells : Ending → (shown : List ℕ) → Type 0)
 
   abbrev pub Reported : (n : ℕ) → (moved : ℕ → ℕ) → Selected → Type 0
   Reported n moved unfinished = ⊤
-  Reported n moved (finished ending end turns drawn order) = moved (length order) ≤ n → IsCutOrTold Tells ending end.now.shown
+  Reported n moved (finished ending end turns drawn order) = moved (length order) ≤ n → IsCutOrTold report ending end.now.shown
 
   abbrev Rest : Type 0
   Rest = Processes → List Name → Name → List Name → ℕ → Selected
@@ -160,7 +160,7 @@ module _ (unit : ProgramUnit) (Tells : Ending → (shown : List ℕ) → Type 0)
 
   -- a standstill is reported
   stands_reported : (n : ℕ) (s : Processes) (names : List Name) → Covered (suc n) s names → ((x : Name) → has names x ≡ true → Idle unit s.live s.world.store x) →
-      IsCutOrTold Tells outcome.standstill s.world.system.now.shown
+      IsCutOrTold report outcome.standstill s.world.system.now.shown
   stands_reported n s names c idle = inr (f.stands n c.by s names c.has_it c.covers (λ x h. cannot_go unit s x (idle x h)))
 
   -- who is ready in the state behind a quiet attempt: the same ones, in another order
@@ -271,38 +271,26 @@ module _ (unit : ProgramUnit) (Tells : Ending → (shown : List ℕ) → Type 0)
 
 -- ---- the laws
 
--- whatever the choices and the bound, the execution ends in a way that is told, or its bound cuts it
-abbrev pub AllTold : ProgramUnit → State → (Tells : Ending → (shown : List ℕ) → Type 0) → Type 0
-AllTold unit system Tells =
-    (bound : ℕ) (choices : Choices) (ending : Ending) (end : Traced) (turns drawn : ℕ) (order : List Name) →
-    Ends unit system bound choices ending end turns drawn order → IsCutOrTold Tells ending end.now.shown
-
-abbrev pub AllToldBelow : ℕ → ProgramUnit → State → (Tells : Ending → (shown : List ℕ) → Type 0) → Type 0
-AllToldBelow most unit system Tells =
-    (bound : ℕ) (choices : Choices) (ending : Ending) (end : Traced) (turns drawn : ℕ) (order : List Name) →
-    Ends unit system bound choices ending end turns drawn order → moves_of unit system bound choices (length order) < most →
-    IsCutOrTold Tells ending end.now.shown
-
 -- of the executions of fewer than so many moves
-pub followed_below : (unit : ProgramUnit) (system : State) (Tells : Ending → (shown : List ℕ) → Type 0) (V : Type 0)
-    (Covers : V → Processes → List Name → Type 0) (Has : ℕ → V → Type 0) (v : V) (most : ℕ) → Followed unit Tells V Covers Has →
-    BeginsWith unit system V Covers v → Has most v → AllToldBelow most unit system Tells
-followed_below unit system Tells V Covers Has v most f b h bound choices ending end turns drawn order e less = go most h less
+pub followed_below : (unit : ProgramUnit) (system : State) (report : Report) (V : Type 0)
+    (Covers : V → Processes → List Name → Type 0) (Has : ℕ → V → Type 0) (v : V) (most : ℕ) → Followed unit report V Covers Has →
+    BeginsWith unit system V Covers v → Has most v → AllToldBelow most unit system report
+followed_below unit system report V Covers Has v most f b h bound choices ending end turns drawn order e less = go most h less
   where
-    go : (n : ℕ) → Has n v → moves unit choices (length order) (start unit system bound) [] [] [] 0 < n → IsCutOrTold Tells ending end.now.shown
+    go : (n : ℕ) → Has n v → moves unit choices (length order) (start unit system bound) [] [] [] 0 < n → IsCutOrTold report ending end.now.shown
     go zero h l = absurd (omega (arith, l))
     go (suc n) h l =
-        let r : Reported unit Tells V Covers Has f choices n (λ j. moves unit choices j (start unit system bound) [] [] [] 0)
+        let r : Reported unit report V Covers Has f choices n (λ j. moves unit choices j (start unit system bound) [] [] [] 0)
         (select unit choices e.0 (start unit system bound) [] [] [] 0) =
-        all_reported unit Tells V Covers Has f choices e.0 n (start unit system bound) [] [] [] 0
+        all_reported unit report V Covers Has f choices e.0 n (start unit system bound) [] [] [] 0
         (λ m i. let a : false ≡ true = i in absurd (cc))
-        (begins unit Tells V Covers Has f choices n (start unit system bound) [] [] (record { by = v; has_it = h; covers = b bound })) in
-        subst (Reported unit Tells V Covers Has f choices n (λ j. moves unit choices j (start unit system bound) [] [] [] 0)) e.1 r (omega (arith, l))
+        (begins unit report V Covers Has f choices n (start unit system bound) [] [] (record { by = v; has_it = h; covers = b bound })) in
+        subst (Reported unit report V Covers Has f choices n (λ j. moves unit choices j (start unit system bound) [] [] [] 0)) e.1 r (omega (arith, l))
 
 -- of all executions
-pub followed_all : (unit : ProgramUnit) (system : State) (Tells : Ending → (shown : List ℕ) → Type 0) (V : Type 0)
-    (Covers : V → Processes → List Name → Type 0) (Has : ℕ → V → Type 0) (v : V) → Followed unit Tells V Covers Has →
-    BeginsWith unit system V Covers v → ((n : ℕ) → Has n v) → AllTold unit system Tells
-followed_all unit system Tells V Covers Has v f b h bound choices ending end turns drawn order e =
+pub followed_all : (unit : ProgramUnit) (system : State) (report : Report) (V : Type 0)
+    (Covers : V → Processes → List Name → Type 0) (Has : ℕ → V → Type 0) (v : V) → Followed unit report V Covers Has →
+    BeginsWith unit system V Covers v → ((n : ℕ) → Has n v) → AllTold unit system report
+followed_all unit system report V Covers Has v f b h bound choices ending end turns drawn order e =
     let n : ℕ = suc (moves unit choices (length order) (start unit system bound) [] [] [] 0) in
-    followed_below unit system Tells V Covers Has v n f b (h n) bound choices ending end turns drawn order e (omega arith)
+    followed_below unit system report V Covers Has v n f b (h n) bound choices ending end turns drawn order e (omega arith)

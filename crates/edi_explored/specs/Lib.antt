@@ -2,4 +2,5 @@ pub mod Moves
 pub mod Reached
 pub mod Stint
 pub mod Covered
+pub mod machine
 pub mod Rows

@@ -3,6 +3,8 @@
 //! another from each of them, has found all. The functions do nothing; their contracts are the laws.
 #![tactic(auto)]
 
+pub mod machine;
+
 ghost use Rattle.std.specs.Prelude.{◌≡◌, ℕ, ◌+◌, ◌<◌, List, [], ◌∷◌, ◌++◌, length};
 ghost use Rattle.edi_calls.specs.Choice.{Choices, choice};
 ghost use Rattle.edi_calls.specs.Ready.{take_next, taking_at};
@@ -14,7 +16,7 @@ ghost use Rattle.edi_meaning.specs.Step.{Processes};
 ghost use Rattle.edi_meaning.specs.Rows.{empty_system, program_that_waits, program_where_two_wait};
 ghost use Rattle.edi_explored.specs.Reached.{AreAll, AreAllBelow, AreAllShown, AreAllShownBelow, IsReached, IsShown};
 ghost use Rattle.edi_explored.specs.Rows.{program_that_loses};
-ghost use Rattle.edi_explored.specs.Covered.{BeginsWith, Followed, HasEnding, HasShown};
+ghost use Rattle.edi_explored.specs.Covered.{AllTold, AllToldBelow, BeginsWith, Followed, Report, endings, shown_endings};
 
 /// What a search keeps, by numbers.
 pub trait Kept {
@@ -25,18 +27,23 @@ pub trait Kept {
     ghost has: { ℕ → ℕ → Type 0 };
 }
 
-/// Where a search has followed every stint, its report has every ending that any choices bring about, whatever the bound; and where it has
-/// followed those behind fewer than so many moves, every ending of the executions of fewer moves. The same of a report whose endings come with
-/// all that was shown.
+/// Where a search has followed each stint of each ready process, from every state that what it keeps covers, its report tells all endings that
+/// any choices bring about, whatever the bound; and where it has followed those within so many moves of the start, all endings of the executions
+/// of fewer moves.
 pub fn followed_is_all<K: Kept>()
-    ensures all { (unit : ProgramUnit) (system : State) (endings : List Ending) (v : ℕ) → Followed unit (HasEnding endings) ℕ K.covers K.has →
-        BeginsWith unit system ℕ K.covers v → ((n : ℕ) → K.has n v) → AreAll unit system endings }
-    ensures below { (unit : ProgramUnit) (system : State) (endings : List Ending) (v most : ℕ) → Followed unit (HasEnding endings) ℕ K.covers K.has →
-        BeginsWith unit system ℕ K.covers v → K.has most v → AreAllBelow most unit system endings }
-    ensures shown { (unit : ProgramUnit) (system : State) (endings : List (Ending × List ℕ)) (v : ℕ) → Followed unit (HasShown endings) ℕ K.covers K.has →
-        BeginsWith unit system ℕ K.covers v → ((n : ℕ) → K.has n v) → AreAllShown unit system endings }
-    ensures shown_below { (unit : ProgramUnit) (system : State) (endings : List (Ending × List ℕ)) (v most : ℕ) →
-        Followed unit (HasShown endings) ℕ K.covers K.has → BeginsWith unit system ℕ K.covers v → K.has most v → AreAllShownBelow most unit system endings }
+    ensures all { (unit : ProgramUnit) (system : State) (report : Report) (v : ℕ) → Followed unit report ℕ K.covers K.has →
+        BeginsWith unit system ℕ K.covers v → ((n : ℕ) → K.has n v) → AllTold unit system report }
+    ensures below { (unit : ProgramUnit) (system : State) (report : Report) (v most : ℕ) → Followed unit report ℕ K.covers K.has →
+        BeginsWith unit system ℕ K.covers v → K.has most v → AllToldBelow most unit system report }
+{}
+
+/// That a report of endings tells all is that these are all; so for endings with what was shown.
+pub fn told_is_all()
+    ensures endings { (unit : ProgramUnit) (system : State) (es : List Ending) → AllTold unit system (endings es) → AreAll unit system es }
+    ensures below { (most : ℕ) (unit : ProgramUnit) (system : State) (es : List Ending) → AllToldBelow most unit system (endings es) → AreAllBelow most unit system es }
+    ensures shown { (unit : ProgramUnit) (system : State) (es : List (Ending × List ℕ)) → AllTold unit system (shown_endings es) → AreAllShown unit system es }
+    ensures shown_below { (most : ℕ) (unit : ProgramUnit) (system : State) (es : List (Ending × List ℕ)) →
+        AllToldBelow most unit system (shown_endings es) → AreAllShownBelow most unit system es }
 {}
 
 /// Any of several ready processes is taken, where the next choice is its index.
@@ -58,5 +65,5 @@ pub fn worked_programs()
 
 /// A longer list of endings has all, too.
 pub fn longer_lists_have_all()
-    ensures law { (unit : ProgramUnit) (system : State) (endings more : List Ending) → AreAll unit system endings → AreAll unit system (endings ++ more) }
+    ensures law { (unit : ProgramUnit) (system : State) (es more : List Ending) → AreAll unit system es → AreAll unit system (es ++ more) }
 {}

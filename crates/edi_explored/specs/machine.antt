@@ -1,0 +1,6 @@
+-- Words of contracts. The files of `machine`: a search over machines.
+pub mod Alike
+pub mod Twins
+pub mod Machines
+pub mod PutBacks
+pub mod SameFrames

@@ -1,0 +1,56 @@
+//! A search over the machine. What it keeps stands for machines, and so for the states of the meaning that are related to them: where it has
+//! followed the machines, its report has all endings of the program. Its laws rest on the theorem that code does what the program means.
+
+ghost use Rattle.std.specs.Prelude.{ℕ, List};
+ghost use Rattle.edi_calls.specs.Names.{Name};
+ghost use Rattle.edi_calls.specs.State.{State};
+ghost use Rattle.edi_meaning.specs.Step.{Processes};
+ghost use Rattle.edi_meaning.specs.Store.{shape};
+ghost use Rattle.edi_target.specs.Mach.{Machine};
+ghost use Rattle.edi_follows.specs.places.Coded.{Coded};
+ghost use Rattle.edi_follows.specs.places.Related.{Related};
+ghost use Rattle.edi_explored.specs.Covered.{AllTold, AllToldBelow, Report};
+ghost use Rattle.edi_explored.specs.machine.Machines.{FollowedMachines};
+ghost use Rattle.edi_explored.specs.machine.PutBacks.{FollowedPutBacks};
+ghost use Rattle.edi_explored.specs.machine.SameFrames.{SameFrames};
+
+/// What a search keeps that stands for machines, by numbers.
+pub trait KeptMachines {
+    /// A number stands for a machine, with these ready.
+    ghost keeps: { ℕ → Machine → List Name → Type 0 };
+
+    /// The search has it, and what fewer than so many moves lead to from there.
+    ghost has: { ℕ → ℕ → Type 0 };
+}
+
+/// Where a search has followed every stint of the machines for which it keeps numbers, its report tells every ending that any choices bring about
+/// in the meaning, whatever the bound; and every ending of the executions of fewer moves, where it has followed those.
+pub fn machines_are_all<K: KeptMachines>()
+    ensures all { (g : Coded) (system : State) (report : Report) (begin : ℕ) → FollowedMachines g system report ℕ begin K.keeps K.has →
+        ((n : ℕ) → K.has n begin) → AllTold g.unit system report }
+    ensures below { (g : Coded) (system : State) (report : Report) (begin most : ℕ) → FollowedMachines g system report ℕ begin K.keeps K.has →
+        K.has most begin → AllToldBelow most g.unit system report }
+{}
+
+/// What a search with a kernel keeps, by numbers.
+pub trait PutBack {
+    /// The kernel that a number is put back into is a machine, with these ready in its order.
+    ghost is: { ℕ → Machine → List Name → Type 0 };
+
+    /// The search has it, and what fewer than so many moves lead to from there.
+    ghost has: { ℕ → ℕ → Type 0 };
+}
+
+/// The same, where it has followed one stint of each ready process from what it puts back.
+pub fn put_backs_are_all<P: PutBack>()
+    ensures all { (g : Coded) (system : State) (report : Report) (begin : ℕ) → FollowedPutBacks g system report ℕ begin P.is P.has →
+        ((n : ℕ) → P.has n begin) → AllTold g.unit system report }
+    ensures below { (g : Coded) (system : State) (report : Report) (begin most : ℕ) → FollowedPutBacks g system report ℕ begin P.is P.has →
+        P.has most begin → AllToldBelow most g.unit system report }
+{}
+
+/// The agreement between meaning and machine lasts in every memory that has the same links and variables in its live frames.
+pub fn only_kept_words_count()
+    ensures law { (g : Coded) (s : Processes) (t : Machine) (m : List ℕ) (r : Related g s t) → SameFrames g r.first (shape s.world.store) t.memory m
+        → Related g s (record t { memory = m }) }
+{}
