@@ -24,3 +24,6 @@ pub mod Rounds
 pub mod Stinting
 pub mod Machines
 pub mod Passed
+pub mod Keeping
+pub mod PutBacks
+pub mod Again

@@ -7,3 +7,5 @@ pub mod Kernel
 pub mod Moments
 pub mod Runs
 pub mod Passed
+pub mod Kept
+pub mod Frames

@@ -2,6 +2,7 @@
 
 ghost use Rattle.edi_kernel.specs.Passed.{FaultIsMoment, MomentAdds, MomentIsNewest, OfEveryRun, PastIsOfMoments};
 ghost use Rattle.edi_kernel.specs.Runs.{RunsAreTheMachines};
+ghost use Rattle.edi_kernel.specs.Kept.{StandsAgain};
 
 /// Where no choice had been drawn before, a run of the kernel has an outcome of the machine's definition.
 pub fn runs_are_the_machines()
@@ -27,4 +28,10 @@ pub fn past_is_of_moments()
 /// run comes.
 pub fn fault_is_moment()
     ensures law { FaultIsMoment }
+{}
+
+/// A kernel to which the processes of another have been put back is the machine that the other is, but for words that do not
+/// count, marks, turns, the system and the order of the ready ones.
+pub fn stands_again()
+    ensures law { StandsAgain }
 {}

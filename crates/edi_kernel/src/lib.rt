@@ -3,21 +3,25 @@
 
 mod ends;
 mod fork;
+mod kept;
 pub mod laws;
 mod run;
 mod state;
 mod stretch;
 mod table;
 
-ghost use Rattle.std.specs.Prelude.{◌≡◌, ◌≤◌, ◌<◌, ◌+◌, ◌-◌, ◌^◌, min, length, slice_index, [], None, Some, IsSome, IfOk, ℕ, List, true, false, ◌↔◌, IsTrue};
+ghost use Rattle.std.specs.Prelude.{◌≡◌, ◌≤◌, ◌<◌, ◌+◌, ◌-◌, ◌^◌, min, length, slice_get, slice_index, [], None, Some, IsSome, IfOk, ℕ, List, true, false, ◌↔◌, IsTrue};
 ghost use Rattle.edi_told.specs.Told.{WhereTold};
-ghost use Rattle.edi_store.specs.Memory.{zero_memory};
+ghost use Rattle.edi_store.specs.Memory.{IsMemory, zero_memory};
 ghost use Rattle.edi_calls.specs.declared.ends.Outside.{Outside};
 ghost use Rattle.edi_calls.specs.Names.{Name};
+ghost use Rattle.edi_calls.specs.Ready.{name_at, without_index};
+ghost use Rattle.edi_ring.specs.Lists.{home_of};
 ghost use Rattle.edi_target.specs.Mach.{Machine};
-ghost use Rattle.edi_kernel.specs.Table.{ready_slots};
+ghost use Rattle.edi_kernel.specs.Table.{first_home, is_live, is_waiting, no_marks, process_at, ready_slots};
 ghost use Rattle.edi_kernel.specs.Stretch.{Blamed};
 ghost use Rattle.edi_kernel.specs.Kernel.{GoesTo, Holds, IsKernel, StandsAfter, StandsAtEnd, fault_of, faulted, is_over, used_in};
+ghost use Rattle.edi_kernel.specs.Kept.{IsCleared, IsKeptOf, IsMarkCount, IsWhole, LinesUp, PutsBack, TakesAt};
 ghost use Rattle.edi_kernel.specs.Runs.{Chooses, IsAt, RunsTo, Started, TakesNext};
 
 use edi_calls::Calls;
@@ -26,9 +30,11 @@ use edi_store::{Segment, Store};
 use edi_target::Code;
 use edi_trace::Choices;
 pub use ends::{Ending, StintEnd};
+pub use kept::Kept;
 use state::KernelState;
 use std::alloc::{AllocError, Global};
 use std::marker::Model;
+pub use table::Standing;
 use table::Table;
 
 /// A kernel: one memory of 65,536 words, up to 32 live processes, and the list of those that are ready.
@@ -107,7 +113,8 @@ impl Kernel {
     }
 
     /// The process that is taken goes on until it gives way, the run ends, or `turns_left` turns are used up and
-    /// another is due. The first stint after the start takes the turn of the program's entry first.
+    /// another is due. The first stint after the start takes the turn of the program's entry first. A stint takes a turn, unless
+    /// the run ends in it.
     ///
     /// The end is that of the machine's definition, from each machine that the kernel is, where the state of the system
     /// is told. `Fault` comes only where an object outside failed in this call: by the definition the process then stands at
@@ -122,6 +129,7 @@ impl Kernel {
         ensures free { is_over result ≡ false → self.new.taken ≡ None }
         ensures entering { is_over result ≡ false → self.new.entering ≡ false }
         ensures standing { StandsAfter result self.old.taken (ready_slots self.old.table) self.new.table self.new.arrived }
+        ensures spent { is_over result ≡ false → 0 < used_in result }
         ensures used { used_in result ≤ turns_left }
         ensures later { (outside : Outside) → C.faults calls.old outside ≤ C.faults calls.new outside }
         ensures blame { Blamed (faulted result) (C.failed calls.new) (C.faults calls.old) (C.faults calls.new) }
@@ -148,6 +156,82 @@ impl Kernel {
         ensures turns { self.new.used ≡ self.old.used }
     {
         self.state.choose(choices);
+    }
+
+    /// The number of processes that are marked: that have failed an attempt since anything else happened. At most 32.
+    ///
+    /// Where it is 0 the machine has none that is marked among those that are ready.
+    pub fn marked(&self) -> usize
+        requires free { self.now.taken ≡ None }
+        ensures exact { result ≡ self.now.table.marks }
+        ensures marks { (m : Machine) (ready : List Name) → Holds self.now m None ready → IsMarkCount result m.marks ready }
+    {
+        self.state.marked()
+    }
+
+    /// The slot of the process at this index of the ready list, counted from 0; `None` exactly where the list ends before.
+    pub fn ready_slot(&self, index: usize) -> Option<usize>
+        ensures { result ≡ slice_get (ready_slots self.now.table) index }
+    {
+        self.state.table.ready_at(index)
+    }
+
+    /// Whether a process lives at this slot, of those below 32.
+    pub fn lives(&self, slot: usize) -> bool
+        ensures { result ≡ is_live self.now.table slot }
+    {
+        self.state.table.lives(slot)
+    }
+
+    /// What is kept of the live process at this slot. The only error is want of memory.
+    pub fn keep(&self, alloc: Global, slot: usize) -> Result<Kept, AllocError>
+        requires lives { is_live self.now.table slot ≡ true }
+        ensures exact { IfOk result (λ kept. IsKeptOf self.now kept) }
+        ensures slot { IfOk result (λ kept. kept.slot ≡ slot) }
+        ensures whole { IfOk result IsWhole }
+    {
+        self.state.keep(alloc, slot)
+    }
+
+    /// Forgets all processes, but no words. To this kernel processes are put back, the first one among them, and then those that
+    /// are ready line up; by `laws::stands_again` it is then the machine again of which they were kept.
+    pub fn clear(&mut self)
+        ensures exact { IsCleared self.old self.new }
+    {
+        self.state.clear();
+    }
+
+    /// Puts a process back at its slot, where no other has been put back.
+    pub fn put_back(&mut self, kept: &Kept)
+        requires free { self.old.taken ≡ None }
+        requires whole { IsWhole kept.now }
+        requires absent { home_of self.old.table.lists kept.now.slot ≡ first_home kept.now.slot }
+        ensures exact { PutsBack kept.now self.old self.new }
+    {
+        self.state.put_back(kept);
+    }
+
+    /// The process at this slot, which is in no list and does not wait, becomes the last of the ready ones. Nobody is marked.
+    pub fn line_up(&mut self, slot: usize)
+        requires free { self.old.taken ≡ None }
+        requires slot { slot < 32 }
+        requires homeless { home_of self.old.table.lists slot ≡ None }
+        requires going { is_waiting (process_at self.old.table slot).standing ≡ false }
+        requires unmarked { self.old.table.marked ≡ no_marks }
+        ensures exact { LinesUp slot self.old self.new }
+    {
+        self.state.line_up(slot);
+    }
+
+    /// Takes the process at this index of the ready list, counted from 0, as `choose` does by a choice. None is taken before.
+    pub fn take(&mut self, index: usize)
+        requires free { self.old.taken ≡ None }
+        requires index { index < length (ready_slots self.old.table) }
+        ensures exact { (m : Machine) (ready : List Name) → Holds self.old m None ready
+            → Holds self.new m (Some (name_at ready index)) (without_index ready index) }
+        ensures takes { TakesAt index self.old self.new }
+    {
+        self.state.take(index);
     }
 
     /// Runs the code from its start until the run ends, with at most `bound` turns.
@@ -197,7 +281,8 @@ impl Kernel {
 
     /// The word of the memory at `at`.
     pub fn word(&self, at: u16) -> u16
-        ensures { result ≡ slice_index self.now.store at }
+        ensures exact { result ≡ slice_index self.now.store at }
+        ensures whole { IsMemory self.now.store }
     {
         self.state.store.get(at)
     }

@@ -223,6 +223,7 @@ impl KernelState {
         ensures free { is_over result ≡ false → self.new.taken ≡ None }
         ensures entering { is_over result ≡ false → self.new.entering ≡ false }
         ensures standing { StandsAfter result self.old.taken (ready_slots self.old.table) self.new.table self.new.arrived }
+        ensures spent { is_over result ≡ false → 0 < used_in result }
         ensures used { used_in result ≤ turns_left }
         ensures blame { Blamed (faulted result) (C.failed calls.new) (C.faults calls.old) (C.faults calls.new) }
         ensures lasts { CallsLast C.faults C.references C.leads calls.old calls.new }

@@ -13,6 +13,7 @@ ghost use Rattle.edi_kernel.specs.Table.{
   at_its_when,
   first_home,
   free_slots,
+  is_live,
   is_waiting,
   marked_with,
   marks_with,
@@ -24,6 +25,7 @@ ghost use Rattle.edi_kernel.specs.Table.{
   waiting_for,
   with_process,
 };
+ghost use Rattle.edi_kernel.specs.Kept.{Admits, is_ready};
 
 use edi_machine::Activity;
 use edi_ring::Lists;
@@ -38,8 +40,8 @@ const READY: usize = 0;
 const FREE: usize = 1;
 
 /// What a live process does while it is not taken.
-#[derive(Clone, Copy)]
-pub(crate) enum Standing {
+#[derive(Clone, Copy, PartialEq, Eq, Hash)]
+pub enum Standing {
     /// It goes on when it is taken.
     Ready,
     /// It stands at its `when`.
@@ -317,5 +319,52 @@ impl Table {
         let slot = self.lists.nth(READY, at).unwrap();
         self.withdraw(slot);
         slot
+    }
+
+    /// Whether the process at this slot is ready.
+    pub(crate) fn is_ready(&self, slot: usize) -> bool
+        requires { slot < 32 }
+        ensures { result ≡ is_ready self.now slot }
+    {
+        self.lists.home(slot) == Some(READY)
+    }
+
+    /// Whether a process lives at this slot.
+    pub(crate) fn lives(&self, slot: usize) -> bool
+        ensures { result ≡ is_live self.now slot }
+    {
+        slot < SLOTS && self.lists.home(slot) != Some(FREE)
+    }
+
+    /// The slot of the ready process at this index of the ready list, counted from 0 at the front.
+    pub(crate) fn ready_at(&self, index: usize) -> Option<usize>
+        ensures { result ≡ slice_get (ready_slots self.now) index }
+    {
+        self.lists.nth(READY, index)
+    }
+
+    /// The process lives at this slot, which is free or the first one, and is in no list.
+    pub(crate) fn admit(&mut self, slot: usize, process: Process)
+        requires sound { IsSound 32 2 self.old.lists }
+        requires slot { slot < 32 }
+        requires absent { home_of self.old.lists slot ≡ first_home slot }
+        ensures { Admits slot process self.old self.new }
+    {
+        if slot == 0 {
+            self.processes[slot] = process;
+            return;
+        }
+        self.withdraw(slot);
+        self.processes[slot] = process;
+    }
+
+    /// The process at this slot, which is in no list, becomes the last of the ready ones.
+    pub(crate) fn line_up(&mut self, slot: usize)
+        requires slot { slot < 32 }
+        requires homeless { home_of self.old.lists slot ≡ None }
+        ensures { PutsProcess 0 slot (process_at self.old slot) self.old self.new }
+    {
+        let process = self.processes[slot];
+        self.put(READY, slot, process);
     }
 }
