@@ -1,5 +1,6 @@
 //! The examples, a file for each subject.
 
+mod expected;
 mod faults;
 mod lengths;
 mod lists;

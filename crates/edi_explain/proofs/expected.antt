@@ -1,0 +1,4 @@
+pub mod Swaps
+pub mod OneKind
+pub mod Reaching
+pub mod Faulty

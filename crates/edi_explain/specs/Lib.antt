@@ -1,0 +1,2 @@
+pub mod expected
+pub mod places

@@ -1,0 +1,3 @@
+-- Helper. The files of `places`.
+pub mod Places
+pub mod Cuts
