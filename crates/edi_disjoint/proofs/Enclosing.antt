@@ -1,6 +1,6 @@
 -- What the code answers of blocks round a block, and of the program's name, decides it.
-use Rattle.std.proofs.Common.{◌≡◌, ℕ, zero, suc, ◌<◌, ◌⊎◌, inl, inr, true, ◌==◌, List, [], ◌∷◌, map, length, refl, sym, subst, ap, ◌∙◌, arith}
-use Rattle.std.specs.Prelude.{Contains}
+use Rattle.std.proofs.Common.{◌≡◌, ℕ, zero, suc, ◌<◌, ◌⊎◌, inl, inr, Bool, true, false, ◌&&◌, ◌==◌, List, [], ◌∷◌, map, length, refl, sym, subst, ap, ◌∙◌, arith}
+use Rattle.std.specs.Prelude.{Contains, not}
 use Rattle.std.specs.Bool.{Decides}
 use Rattle.std.specs.Global.{Vec}
 use Rattle.std.proofs.lemmas.Bool.{eqb-true, eq-eqb}
@@ -14,7 +14,7 @@ use Rattle.edi_disjoint.specs.Mentions.{in_acts}
 use Rattle.edi_disjoint.specs.Footprints.{Encloses, NamesProgram, calls, passes}
 use Rattle.edi_disjoint.specs.Found.{AreTexts}
 use Rattle.edi_disjoint.specs.Apart.{encloses_by, is_block, is_naming, names_in, any_names}
-use Rattle.edi_disjoint.proofs.Deciding.{or_true, left_true, right_true, contains_first, contains_later, contains_either, contains_none}
+use Rattle.edi_disjoint.proofs.Deciding.{or_true, and_true, both_true, left_true, right_true, contains_first, contains_later, contains_either, contains_none}
 
 -- ---- blocks round a block
 
@@ -29,12 +29,23 @@ go_inwards unit ok = record { outermost = (ok.fits_blocks 0 ok.some).outermost r
 encloses_then : {A : Type 0} (blocks : List Block) (home here : ℕ) (xs : List A) → encloses_by blocks home here xs ≡ true → Encloses blocks home here
 encloses_then blocks home here [] e = absurd (cc)
 encloses_then blocks home here (x ∷ xs) e =
-    go (or_true ((block_at blocks here).up == home) (encloses_by blocks home (block_at blocks here).up xs) e) (encloses_then blocks home (block_at blocks here).up xs)
+    go (or_true ((block_at blocks here).up == home) _ e) (encloses_then blocks home (block_at blocks here).up xs)
   where
-    go : (((block_at blocks here).up == home) ≡ true) ⊎ (encloses_by blocks home (block_at blocks here).up xs ≡ true) →
+    go : (((block_at blocks here).up == home) ≡ true) ⊎ ((not ((block_at blocks here).up == here) && encloses_by blocks home (block_at blocks here).up xs) ≡ true) →
         (encloses_by blocks home (block_at blocks here).up xs ≡ true → Encloses blocks home (block_at blocks here).up) → Encloses blocks home here
     go (inl h) more = record { levels = 0; is = eqb-true (block_at blocks here).up home h }
-    go (inr h) more = let k : Encloses blocks home (block_at blocks here).up = more h in record { levels = suc k.levels; is = k.is }
+    go (inr h) more =
+        let k : Encloses blocks home (block_at blocks here).up =
+        more (and_true (not ((block_at blocks here).up == here)) (encloses_by blocks home (block_at blocks here).up xs) h).1 in
+        record { levels = suc k.levels; is = k.is }
+
+-- a number below another is not the same
+not_at : (m n : ℕ) → m < n → not (m == n) ≡ true
+not_at m n l = go (m == n) refl
+  where
+    go : (b : Bool) → (m == n) ≡ b → not b ≡ true
+    go true e = let same : m ≡ n = eqb-true m n e in absurd (omega (arith, l, same))
+    go false e = refl
 
 -- the program stands in itself, however far out
 outer_program : (blocks : List Block) → (block_at blocks 0).up ≡ 0 → (levels : ℕ) → outer blocks 0 levels ≡ 0
@@ -50,7 +61,8 @@ then_encloses blocks g home (suc n) (x ∷ xs) l m zero e = left_true ((block_at
 then_encloses blocks g home (suc n) (x ∷ xs) l m (suc levels) e =
     let low : (block_at blocks (suc n)).up < suc n = g.inner (suc n) (omega arith) m in
     right_true ((block_at blocks (suc n)).up == home) _
-    (then_encloses blocks g home (block_at blocks (suc n)).up xs (omega (arith, low, l)) (omega (arith, low, m)) levels e)
+    (both_true (not ((block_at blocks (suc n)).up == suc n)) _ (not_at (block_at blocks (suc n)).up (suc n) low)
+    (then_encloses blocks g home (block_at blocks (suc n)).up xs (omega (arith, low, l)) (omega (arith, low, m)) levels e))
 
 pub encloses_decides : {A : Type 0} (blocks : List Block) → GoInwards blocks → (home here : ℕ) (xs : List A) → length xs ≡ length blocks → here < length blocks →
     Decides (encloses_by blocks home here xs) (Encloses blocks home here)

@@ -1,7 +1,8 @@
--- What may be written is a variable, and no procedure parameter.
+-- What stands in a text of a unit that fits: a block that is called is there; what may be written is a variable, and no procedure parameter.
 use Rattle.std.proofs.Common.{◌≡◌, ℕ, zero, suc, ◌<◌, ◌≤◌, ◌⊎◌, inl, inr, List, [], ◌∷◌, ◌++◌, length, Option, Some, None, refl, subst, ap, arith}
 use Rattle.std.specs.Prelude.{⊤, IsTrue, slice_get, slice_index_or}
 use Rattle.std.proofs.lemmas.Bool.{cases_lt}
+use Rattle.edi_unit.specs.declared.expressions.Callee.TheVariants as callee
 use Rattle.edi_unit.specs.declared.units.Parameter.{Parameter}
 use Rattle.edi_unit.specs.declared.units.Parameter.TheVariants as slot
 use Rattle.edi_unit.specs.Need.{block_at, no_block, slots}
@@ -26,7 +27,7 @@ module _ (t : Leaves) where
   Told (mention.Reads levels v) = t.Names reads levels v
   Told (mention.Assigns levels v) = t.Names assigns levels v
   Told (mention.Lends levels v) = t.Names lends levels v
-  Told (mention.Calls c) = ⊤
+  Told (mention.Calls c) = (es : Arguments) × t.Calls c es
   Told (mention.Passes c) = ⊤
 
   abbrev All : List Mention → Type 0
@@ -44,7 +45,7 @@ module _ (t : Leaves) where
     expression_told (tree.chain e ls) h = both (in_expression e) (in_links ls) (expression_told e h.0) (links_told ls h.1)
     expression_told (tree.make of es line) h = expressions_told es h
     expression_told (tree.convert of e line) h = expression_told e h
-    expression_told (tree.apply_of c xs line) h = (tt, arguments_told xs h.1)
+    expression_told (tree.apply_of c xs line) h = ((xs, h.0), arguments_told xs h.1)
 
     expressions_told : (es : Expressions) → ExpressionsMay t es → All (in_expressions es)
     expressions_told tree.no_expression h = tt
@@ -70,7 +71,7 @@ module _ (t : Leaves) where
     act_told : (a : Act) → ActMay t a → All (in_act a)
     act_told tree.skip h = tt
     act_told (tree.assign (tree.place levels v ps) e) h = (h.0.0, both (in_parts ps) (in_expression e) (parts_told ps h.0.1) (expression_told e h.1))
-    act_told (tree.call c xs line) h = (tt, arguments_told xs h.1)
+    act_told (tree.call c xs line) h = ((xs, h.0), arguments_told xs h.1)
     act_told (tree.halt line) h = tt
     act_told (tree.if_act cs) h = clauses_told cs h
     act_told (tree.while_act cs) h = clauses_told cs h
@@ -108,6 +109,10 @@ module _ (unit : ProgramUnit) (ok : Fits unit) where
       go (inr l) =
           let none : length (in_acts (block_at unit.blocks n).body) ≡ 0 = ap (λ b. length (in_acts b.body)) (block_past unit.blocks n l) in
           absurd (omega (arith, h.1, none))
+
+  -- a block that is called by its name is one of the program
+  pub called_there : (n levels d : ℕ) → Mentions unit n (mention.Calls (callee.Block levels d)) → d < length unit.blocks
+  called_there n levels d h = (told n (mention.Calls (callee.Block levels d)) h).1.1.1
 
   abbrev IsVariable : Variable → Type 0
   IsVariable v = IsTrue (is_variable (slice_get (slots (block_at unit.blocks v.home)) v.number))

@@ -1,6 +1,6 @@
 -- Helper. What the code answers of texts and of two footprints.
 use Rattle.std.specs.Prelude.{ℕ, Bool, true, false, not, ◌&&◌, ◌||◌, ◌==◌, List, [], ◌∷◌, Option, Some, None, slice_get}
-use Rattle.std.specs.Prelude.{◌+◌, ◌-◌, ◌^◌, ◌++◌, if◌then◌else◌, map, min}
+use Rattle.std.specs.Prelude.{◌+◌, ◌-◌, ◌^◌, ◌++◌, if◌then◌else◌, length, map, min, nat_le, slice_index_or, slice_set}
 use Rattle.std.specs.Global.{Vec}
 use Rattle.edi_unit.specs.declared.expressions.Callee.{Callee}
 use Rattle.edi_unit.specs.declared.expressions.Callee.TheVariants as callee
@@ -8,6 +8,7 @@ use Rattle.edi_unit.specs.Need.{block_at, outer, slot_at}
 use Rattle.edi_unit.specs.Tree.{Block}
 use Rattle.edi_disjoint.specs.declared.mentions.Mention.{Mention}
 use Rattle.edi_disjoint.specs.declared.mentions.Mention.TheVariants as mention
+use Rattle.edi_disjoint.specs.declared.reach.Queue.{Queue}
 use Rattle.edi_disjoint.specs.declared.touching.Variable as code_variable
 use Rattle.edi_disjoint.specs.Footprints.{Variable, variable_at}
 use Rattle.edi_disjoint.specs.Found.{variable_of}
@@ -81,21 +82,33 @@ abbrev pub has_number : List ℕ → ℕ → Bool
 has_number [] n = false
 has_number (x ∷ xs) n = (x == n) || has_number xs n
 
-abbrev pub with_number : List ℕ → ℕ → List ℕ
-with_number xs n = if has_number xs n then xs else xs ++ n ∷ []
+-- the blocks that have been found, in the order in which they came, and a mark for each block of the program that is among them
+pub record Reached : Type 0 where
+  pub list : List ℕ
+  pub marks : List Bool
+
+abbrev pub reached_of : Queue → Reached
+reached_of queue = record { list = queue.list.items; marks = queue.marks.items }
+
+-- with a block, unless it is among them or is none of the program
+abbrev pub with_number : Reached → ℕ → Reached
+with_number q n =
+    if nat_le (length q.marks) n then q
+    else if slice_index_or q.marks n false then q
+    else record { list = q.list ++ n ∷ []; marks = slice_set q.marks n true }
 
 -- with the blocks that a text calls by their names
-abbrev pub with_mention : List ℕ → Mention → List ℕ
-with_mention xs (mention.Calls (callee.Block levels b)) = with_number xs b
-with_mention xs (mention.Calls (callee.Formal levels v)) = xs
-with_mention xs (mention.Reads levels v) = xs
-with_mention xs (mention.Assigns levels v) = xs
-with_mention xs (mention.Lends levels v) = xs
-with_mention xs (mention.Passes c) = xs
+abbrev pub with_mention : Reached → Mention → Reached
+with_mention q (mention.Calls (callee.Block levels b)) = with_number q b
+with_mention q (mention.Calls (callee.Formal levels v)) = q
+with_mention q (mention.Reads levels v) = q
+with_mention q (mention.Assigns levels v) = q
+with_mention q (mention.Lends levels v) = q
+with_mention q (mention.Passes c) = q
 
-abbrev pub with_called : List ℕ → List Mention → List ℕ
-with_called xs [] = xs
-with_called xs (m ∷ ms) = with_called (with_mention xs m) ms
+abbrev pub with_called : Reached → List Mention → Reached
+with_called q [] = q
+with_called q (m ∷ ms) = with_called (with_mention q m) ms
 
 -- the text of a block; of one that is not there nothing
 abbrev pub items_of : Option (Vec Mention) → List Mention
@@ -105,11 +118,13 @@ items_of (Some t) = t.items
 abbrev pub text_at : List (Vec Mention) → ℕ → List Mention
 text_at texts n = items_of (slice_get texts n)
 
--- ---- blocks round a block, as many steps out as the last list is long
+-- ---- blocks round a block, as many steps out as the last list is long; the program, which stands in itself, is the last
 
 abbrev pub encloses_by : {A : Type 0} → List Block → (home here : ℕ) → List A → Bool
 encloses_by blocks home here [] = false
-encloses_by blocks home here (x ∷ xs) = ((block_at blocks here).up == home) || encloses_by blocks home (block_at blocks here).up xs
+encloses_by blocks home here (x ∷ xs) =
+    ((block_at blocks here).up == home)
+    || (not ((block_at blocks here).up == here) && encloses_by blocks home (block_at blocks here).up xs)
 
 -- ---- the variables that texts lend
 

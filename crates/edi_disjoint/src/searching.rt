@@ -27,16 +27,20 @@ struct Whole<'a> {
     targets: &'a [Variable],
 }
 
-// Whether block `home` stands round block `block`: so many steps out as there are blocks lead to all that do.
+// Whether block `home` stands round block `block`: steps out lead to all that do, the program the last, which stands in itself.
 fn encloses(blocks: &[Block], home: u32, block: u32) -> bool
     ensures exact { result ≡ apart.encloses_by (map block_of blocks.now) home block blocks.now }
 {
     let mut here = block;
     for _step in blocks {
-        here = outer(blocks, here, 1);
-        if here == home {
+        let up = outer(blocks, here, 1);
+        if up == home {
             return true;
         }
+        if up == here {
+            return false;
+        }
+        here = up;
     }
     false
 }
