@@ -2,7 +2,7 @@
 use Rattle.std.proofs.Common.{◌≡◌, ℕ, zero, suc, ◌<◌, ◌≤◌, ◌⊎◌, inl, inr, Bool, true, false, ◌||◌, if◌then◌else◌, List, [], ◌∷◌, ◌++◌, length}
 use Rattle.std.proofs.Common.{Some, refl, sym, subst, ap, ◌∙◌, arith}
 use Rattle.std.specs.Prelude.{⊤, ◌-◌}
-use Rattle.edi_calls.specs.State.{State, Traced}
+use Rattle.edi_calls.specs.State.{State}
 use Rattle.edi_calls.specs.Choice.{Choices}
 use Rattle.edi_calls.specs.Names.{Name, same, find}
 use Rattle.edi_calls.specs.Outcome as outcome
@@ -14,12 +14,12 @@ use Rattle.std.proofs.Common.{Option, None}
 use Rattle.edi_unit.specs.Tree.{ProgramUnit}
 use Rattle.edi_meaning.specs.Evaluation.{Evaluation, gives, ends}
 use Rattle.edi_meaning.specs.Step.{Work, Standing, ready, at_when, waiting, Asks, Process, Processes, Stepped, went, ended, back, awaits, local_step, work_step, kernel, step, start}
-use Rattle.edi_meaning.specs.Select.{Selected, unfinished, finished, stepped_first, marked, go_on, after_next, after_step, select, Ends}
+use Rattle.edi_meaning.specs.Select.{Selected, unfinished, finished, stepped_first, marked, go_on, after_next, after_step, select}
 use Rattle.edi_meaning.proofs.Lasting.{Gives}
 use Rattle.edi_meaning.proofs.Kernel.{rest_of, Handles, kernel_handles, of_process}
 use Rattle.edi_meaning.proofs.Sound.{or_true, has-append, once-append, right_false}
 use Rattle.edi_meaning.proofs.Standstill.{Idle, SameBut, Marks, step_marks, idle_same, marked_one}
-use Rattle.edi_explored.specs.Moves.{moves_on, moves_next, moves_after, moves, moves_of}
+use Rattle.edi_explored.specs.Moves.{moves_on, moves_next, moves_after, moves}
 use Rattle.edi_explored.specs.Stint.{behind, over, stint, stint_after}
 use Rattle.edi_explored.specs.Covered.{SameButTurns, Reordered, CannotGo, Report, IsCutOrTold, AllTold, AllToldBelow, Followed, BeginsWith}
 use Rattle.edi_explored.proofs.Members.{MembersTaken, members_taken}

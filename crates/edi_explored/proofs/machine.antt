@@ -5,3 +5,5 @@ pub mod Tied
 pub mod Twins
 pub mod PutBacks
 pub mod Kept
+pub mod Walk
+pub mod Served

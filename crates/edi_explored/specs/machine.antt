@@ -3,4 +3,3 @@ pub mod Alike
 pub mod Twins
 pub mod Machines
 pub mod PutBacks
-pub mod SameFrames

@@ -1,18 +1,15 @@
 //! A search over the machine. What it keeps stands for machines, and so for the states of the meaning that are related to them: where it has
 //! followed the machines, its report has all endings of the program. Its laws rest on the theorem that code does what the program means.
 
-ghost use Rattle.std.specs.Prelude.{ℕ, List};
+ghost use Rattle.std.specs.Prelude.{◌≡◌, ℕ, ◌^◌, List, length};
 ghost use Rattle.edi_calls.specs.Names.{Name};
 ghost use Rattle.edi_calls.specs.State.{State};
-ghost use Rattle.edi_meaning.specs.Step.{Processes};
-ghost use Rattle.edi_meaning.specs.Store.{shape};
 ghost use Rattle.edi_target.specs.Mach.{Machine};
+ghost use Rattle.edi_kernel.specs.Kept.{SameKept};
 ghost use Rattle.edi_follows.specs.places.Coded.{Coded};
-ghost use Rattle.edi_follows.specs.places.Related.{Related};
 ghost use Rattle.edi_explored.specs.Covered.{AllTold, AllToldBelow, Report};
-ghost use Rattle.edi_explored.specs.machine.Machines.{FollowedMachines};
+ghost use Rattle.edi_explored.specs.machine.Machines.{FollowedMachines, ServesAs};
 ghost use Rattle.edi_explored.specs.machine.PutBacks.{FollowedPutBacks};
-ghost use Rattle.edi_explored.specs.machine.SameFrames.{SameFrames};
 
 /// What a search keeps that stands for machines, by numbers.
 pub trait KeptMachines {
@@ -49,8 +46,8 @@ pub fn put_backs_are_all<P: PutBack>()
         P.has most begin → AllToldBelow most g.unit system report }
 {}
 
-/// The agreement between meaning and machine lasts in every memory that has the same links and variables in its live frames.
-pub fn only_kept_words_count()
-    ensures law { (g : Coded) (s : Processes) (t : Machine) (m : List ℕ) (r : Related g s t) → SameFrames g r.first (shape s.world.store) t.memory m
-        → Related g s (record t { memory = m }) }
+/// Only the words that are kept count: whatever state of the meaning a machine is related to, with another memory that has the same links and
+/// variables in the frames of each process it is related to that state.
+pub fn kept_words_serve()
+    ensures law { (g : Coded) (t : Machine) (m : List ℕ) → length m ≡ 2 ^ 16 → SameKept t t.memory m → ServesAs g t m }
 {}

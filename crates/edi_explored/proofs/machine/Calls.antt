@@ -1,10 +1,10 @@
 -- A system call answers the same, whatever was printed before, and whatever was shown, where that is not told.
-use Rattle.std.proofs.Common.{◌≡◌, ℕ, Bool, true, false, if◌then◌else◌, List, [], ◌∷◌, ◌++◌, length, Option, Some, None, refl, ap}
+use Rattle.std.proofs.Common.{ℕ, Bool, true, false, if◌then◌else◌, List, [], ◌∷◌, ◌++◌, length, Option, Some, None, refl, ap}
 use Rattle.std.specs.Prelude.{◌==◌, nat_lt, slice_get, slice_index}
 use Rattle.std.specs.Option.{option_map_or}
 use Rattle.edi_calls.specs.State.{State, Found, character, title_of, most_bytes}
-use Rattle.edi_calls.specs.Calls.{CallResult, call, accept, accept_from, more_of, read_of, read_next, write_to, close_of, close_as, remove, remove_as, display, print, find, fresh_buffer}
-use Rattle.edi_calls.specs.Calls.{gives, does, found_bytes, room_for, open_slot}
+use Rattle.edi_calls.specs.Calls.{CallResult, call, accept_from, more_of, read_of, read_next, write_to, close_of, close_as, remove, remove_as}
+use Rattle.edi_calls.specs.Calls.{found_bytes, room_for, open_slot}
 use Rattle.edi_explored.specs.machine.Alike.{shows, SameShown, Alike, CallAlike}
 
 pub nothing_shown : (told : Bool) (xs : List ℕ) → SameShown told xs xs

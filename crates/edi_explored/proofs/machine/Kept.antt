@@ -1,6 +1,6 @@
--- THE LEMMA OF THE SEARCH: a machine that agrees with a state of the meaning goes on agreeing with it, whatever stands in its memory
+-- A machine that agrees with a state of the meaning goes on agreeing with it, whatever stands in its memory
 -- beside the links and the variables of the live frames.
-use Rattle.std.proofs.Common.{◌≡◌, ℕ, suc, ◌+◌, ◌-◌, ◌<◌, ◌≤◌, ◌^◌, List, length, Some, refl, sym, ap, ◌∙◌, arith}
+use Rattle.std.proofs.Common.{◌≡◌, ℕ, ◌+◌, ◌-◌, ◌<◌, ◌≤◌, ◌^◌, List, length, Some, refl, sym, ap, ◌∙◌, arith}
 use Rattle.std.proofs.lemmas.Grind.{same_number_lists}
 use Rattle.edi_calls.specs.Names.{Name, find}
 use Rattle.edi_store.specs.Memory.{words_at}
@@ -9,13 +9,20 @@ use Rattle.edi_meaning.specs.Store.{Spot, Shape, shape, IsLive}
 use Rattle.edi_meaning.specs.Step.{Process, Processes}
 use Rattle.edi_target.specs.Memory.{word}
 use Rattle.edi_target.specs.Mach.{Machine, is_first}
-use Rattle.edi_follows.specs.places.Coded.{Coded, slots_of, slot_in, words_in, offset, kept}
-use Rattle.edi_follows.specs.places.Spots.{address, block_at, slot_address, Mirrors, frame_start}
-use Rattle.edi_follows.specs.places.Located.{IsAt, Agrees}
-use Rattle.edi_follows.specs.places.Related.{Related, IsPlaced, Words}
-use Rattle.edi_explored.specs.machine.SameFrames.{SameFrames}
+use Rattle.edi_follows.specs.places.Coded.{Coded, slot_in, words_in, offset, kept}
+use Rattle.edi_follows.specs.places.Spots.{address, block_at, slot_address, Mirrors}
+use Rattle.edi_follows.specs.places.Related.{Related, IsPlaced}
 use Rattle.edi_follows.proofs.places.Free.{slot_within}
 use Rattle.edi_follows.proofs.places.Located.{at_kept}
+
+-- ---- two memories that agree where it counts
+
+module _ (g : Coded) where
+  -- the links and the variables of each live frame are the same in both memories
+  pub record SameFrames (first : Name → ℕ) (F : Shape) (m m' : List ℕ) : Type 0 where
+    pub words : (s : Spot) (j : ℕ) → IsLive F s → j < kept g (block_at g F s) → word m' (address first F s + j) ≡ word m (address first F s + j)
+    pub within : (s : Spot) → IsLive F s → address first F s + kept g (block_at g F s) ≤ 2 ^ 16
+    pub long : length m' ≡ 2 ^ 16
 
 -- ---- lists of words
 

@@ -1,12 +1,11 @@
 -- One instruction does the same, whatever was printed before, and whatever was shown, where that is not told, and however many turns are left,
 -- unless they are used up.
-use Rattle.std.proofs.Common.{◌≡◌, ℕ, zero, suc, Bool, true, false, List, Option, Some, None, refl, ap}
-use Rattle.edi_calls.specs.State.{State}
+use Rattle.std.proofs.Common.{ℕ, zero, suc, Bool, List, Option, refl, ap}
 use Rattle.edi_calls.specs.Calls.{CallResult, answered, no_file, file_limit, call}
 use Rattle.edi_target.specs.Op.{Instruction}
 use Rattle.edi_target.specs.Effect.{Local, Turn, Effect, goes, released, asks, due, fails, bad}
 use Rattle.edi_target.specs.Mach.{Running, Answer, local_step, settled, called, turn_from, effect_at}
-use Rattle.edi_explored.specs.machine.Alike.{shows, SameShown, Alike, CallAlike, RunAlike, AnswerAlike}
+use Rattle.edi_explored.specs.machine.Alike.{shows, SameShown, CallAlike, RunAlike, AnswerAlike}
 use Rattle.edi_explored.proofs.machine.Calls.{call_shown}
 
 -- the same, with other things shown and printed, and so many turns left

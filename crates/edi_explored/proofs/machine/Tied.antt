@@ -1,5 +1,5 @@
 -- Who has followed machines has followed the states of the meaning that are related to them.
-use Rattle.std.proofs.Common.{◌≡◌, inl, inr, ℕ, zero, suc, ◌<◌, Bool, true, false, ◌||◌, if◌then◌else◌, List, [], ◌∷◌, ◌++◌, Contains, Some, refl, sym, ap, subst, ◌∙◌, arith}
+use Rattle.std.proofs.Common.{◌≡◌, inl, inr, ℕ, zero, suc, ◌<◌, Bool, true, false, ◌||◌, if◌then◌else◌, List, [], ◌∷◌, ◌++◌, Some, refl, sym, ap, subst, ◌∙◌, arith}
 use Rattle.edi_calls.specs.State.{State}
 use Rattle.edi_calls.specs.Names.{Name, same, find}
 use Rattle.edi_calls.specs.Outcome as outcome

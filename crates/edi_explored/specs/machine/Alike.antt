@@ -1,6 +1,6 @@
 -- Words of contracts. Runs and machines that differ in nothing but what was printed and the turns that are left; and in what was shown, where
 -- that is not told.
-use Rattle.std.specs.Prelude.{◌≡◌, ⊤, ℕ, Bool, true, false, List, Option}
+use Rattle.std.specs.Prelude.{◌≡◌, ⊤, ℕ, Bool, true, false, List}
 use Rattle.edi_calls.specs.State.{State}
 use Rattle.edi_calls.specs.Calls.{CallResult, answered, no_file, file_limit}
 use Rattle.edi_calls.specs.Outcome as outcome

@@ -1,6 +1,6 @@
 -- Words of contracts. A search over machines: what it keeps stands for every machine that differs in nothing but marks, turns, what was
 -- printed, what was shown where the report does not tell that, and the order of the ready ones; and it has followed every stint of these.
-use Rattle.std.specs.Prelude.{◌≡◌, ◌⊎◌, ℕ, suc, ◌<◌, List, [], ◌∷◌, ◌++◌, Contains}
+use Rattle.std.specs.Prelude.{◌≡◌, ◌⊎◌, ℕ, suc, ◌<◌, List, [], ◌∷◌, ◌++◌}
 use Rattle.edi_calls.specs.State.{State}
 use Rattle.edi_calls.specs.Names.{Name}
 use Rattle.edi_calls.specs.Outcome as outcome
@@ -21,7 +21,7 @@ Fails g t p others =
     (steps : ℕ) × (u : Machine)
     × ((stint g.fetched steps t p others ≡ over outcome.standstill u) ⊎ ((stint g.fetched steps t p others ≡ switched u (p ∷ [])) × (u.marks ≡ p ∷ [])))
 
--- another memory serves as well: a machine with it is related to every state to which this machine is (`SameFrames` says when)
+-- another memory serves as well: a machine with it is related to every state to which this machine is (`kept_words_serve` says when)
 abbrev pub ServesAs : Coded → Machine → List ℕ → Type 0
 ServesAs g u m = (s : Processes) → Related g s u → Related g s (record u { memory = m })
 
