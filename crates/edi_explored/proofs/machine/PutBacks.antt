@@ -1,5 +1,5 @@
 -- Who has followed one stint from what is put back has followed all machines for which it stands.
-use Rattle.std.proofs.Common.{◌≡◌, ◌⊎◌, inl, inr, ℕ, zero, suc, ◌+◌, Bool, true, false, ◌||◌, List, [], ◌∷◌, ◌++◌, refl, sym, ap, subst, ◌∙◌, arith}
+use Rattle.std.proofs.Common.{◌≡◌, ◌⊎◌, inl, inr, ℕ, zero, suc, ◌+◌, Option, Some, None, Bool, true, false, ◌||◌, List, [], ◌∷◌, ◌++◌, refl, sym, ap, subst, ◌∙◌, arith}
 use Rattle.std.specs.Prelude.{⊤}
 use Rattle.edi_calls.specs.State.{State}
 use Rattle.edi_calls.specs.Names.{Name, same}
@@ -9,7 +9,9 @@ use Rattle.edi_calls.specs.Ready.{has, stays, joins}
 use Rattle.edi_calls.proofs.Names.{Once}
 use Rattle.edi_calls.proofs.Tables.{same-equal}
 use Rattle.edi_meaning.proofs.Sound.{or_true, has-append, once-append}
-use Rattle.edi_target.specs.Mach.{Machine, Stepped, went, ended, step}
+use Rattle.edi_target.specs.Op as op
+use Rattle.edi_target.specs.Op.{Instruction}
+use Rattle.edi_target.specs.Mach.{Machine, Stepped, went, ended, step, entered}
 use Rattle.edi_kernel.specs.Stints.{Stint, unfinished, stint, switched, over, stint_after}
 use Rattle.edi_follows.specs.places.Coded.{Coded}
 use Rattle.edi_follows.specs.places.Related.{Related}
@@ -19,6 +21,7 @@ use Rattle.edi_explored.specs.Covered.{Reordered, Report, endings, shown_endings
 use Rattle.edi_explored.specs.machine.Machines.{ServesAs, FollowedFrom, FollowedMachines}
 use Rattle.edi_explored.specs.machine.Twins.{Twin, StintedTwins}
 use Rattle.edi_explored.specs.machine.PutBacks.{KeepsBy, IsFollowed, FollowedPutBacks}
+use Rattle.edi_explored.proofs.machine.Calls.{nothing_shown}
 use Rattle.edi_explored.proofs.machine.Tied.{as_state, related_other}
 use Rattle.edi_explored.proofs.machine.Twins.{twins_stint}
 
@@ -93,6 +96,31 @@ other_on told t u w a b = record {
   activities = b.activities ∙ a.activities;
   system = alike_on told t.system u.system w.system a.system b.system;
 }
+
+-- ---- the machine behind the entry, with two bounds
+
+abbrev BothEnter : Bool → Stepped → Stepped → Type 0
+BothEnter told (ended e m) y = ⊤
+BothEnter told (went m next) (ended e q) = ⊤
+BothEnter told (went m next) (went q other) = Twin told m q
+
+both_enter : (told : Bool) (found : Option (Instruction × ℕ)) (calls : List ℕ) (b c : ℕ) (system : State) →
+    BothEnter told (entered found 0 calls b system) (entered found 0 calls c system)
+both_enter told (Some (op.entry need r p v f, body)) calls zero c system = tt
+both_enter told (Some (op.entry need r p v f, body)) calls (suc b) zero system = tt
+both_enter told (Some (op.entry need r p v f, body)) calls (suc b) (suc c) system = record {
+  memory = refl;
+  activities = refl;
+  system = record { input = refl; slots = refl; blocks = refl; found = refl; buffer = refl; shown = nothing_shown told system.shown };
+  marks = refl;
+}
+both_enter told None calls b c system = tt
+both_enter told (Some x) calls b c system = tt
+
+enters_twin : (told : Bool) (found : Option (Instruction × ℕ)) (calls : List ℕ) (b c : ℕ) (system : State) (t q : Machine) →
+    entered found 0 calls b system ≡ went t stays → entered found 0 calls c system ≡ went q stays → Twin told t q
+enters_twin told found calls b c system t q x y =
+    subst (λ z. BothEnter told (went t stays) z) y (subst (λ z. BothEnter told z (entered found 0 calls c system)) x (both_enter told found calls b c system))
 
 -- a stint that has come to its end is the same within more steps
 abbrev IsOver : Stint → Type 0
@@ -217,6 +245,20 @@ module _ (g : Coded) (system : State) (report : Report) (V : Type 0) (begin : V)
         },
       )
 
+  -- one first stint tells those with all bounds
+  from_entry : (n bound : ℕ) (t : Machine) → Has (suc n) begin → entered (g.fetched 0) 0 g.unit.calls bound system ≡ went t stays →
+      FollowedFrom g system report V begin Keeps Has n t [] []
+  from_entry n bound t h e =
+      let l = f.entry n h in
+      let w : Twin told l.1 t = enters_twin told (g.fetched 0) g.unit.calls l.0 bound system l.1 t l.2 e in
+      let r : Reordered [] [] = record { members = λ x. refl; once = λ o. o } in
+      record {
+        reports = λ steps ending y i own. reports_one n [] (stint g.fetched l.3 l.1 [] []) ending y l.4
+            (together n l.1 t [] [] [] l.3 steps (over ending y) tt i w r l.4) own;
+        leads = λ steps y joined i m. leads_one n [] [] (stint g.fetched l.3 l.1 [] []) y joined r l.4
+            (together n l.1 t [] [] [] l.3 steps (switched y joined) tt i w r l.4) m;
+      }
+
   pub put_backs_followed : FollowedMachines g system report V begin Keeps Has
   put_backs_followed = record {
     forgets = forgets;
@@ -234,5 +276,5 @@ module _ (g : Coded) (system : State) (report : Report) (V : Type 0) (begin : V)
           members = λ x. r.members x ∙ sym (k.reordered.members x);
           once = λ o. r.once (f.once v k.machine k.order k.put);
         })));
-    entry = f.entry;
+    entry = from_entry;
   }

@@ -13,7 +13,7 @@ use Rattle.edi_kernel.specs.Stints.{Stint, unfinished, stint, switched, over}
 use Rattle.edi_follows.specs.places.Coded.{Coded}
 use Rattle.edi_explored.specs.machine.Alike.{Other}
 use Rattle.edi_explored.specs.Covered.{Reordered, Report, Tells, tells_shown}
-use Rattle.edi_explored.specs.machine.Machines.{Fails, ServesAs, FollowedFrom}
+use Rattle.edi_explored.specs.machine.Machines.{Fails, ServesAs}
 
 module _ (g : Coded) (system : State) (report : Report) (V : Type 0) (begin : V) (PutBack : V → Machine → List Name → Type 0) (Has : ℕ → V → Type 0) where
   -- what is put back is this machine with these ready, but for marks, turns, output and order
@@ -43,5 +43,6 @@ module _ (g : Coded) (system : State) (report : Report) (V : Type 0) (begin : V)
     pub stands : (n : ℕ) (v : V) (t : Machine) (order : List Name) → Has (suc n) v → PutBack v t order →
         ((m : List ℕ) → ServesAs g t m → (p : Name) (others : List Name) → Reordered order (p ∷ others) → Fails g (record t { memory = m }) p others) →
         Tells report outcome.standstill t.system.shown
-    pub entry : (n bound : ℕ) (t : Machine) → Has (suc n) begin → target.entered (g.fetched 0) 0 g.unit.calls bound system ≡ target.went t stays →
-        FollowedFrom g system report V begin KeepsBy Has n t [] []
+    -- the first stint, behind the entry of the program, with some bound
+    pub entry : (n : ℕ) → Has (suc n) begin → (bound : ℕ) × (t : Machine) × (target.entered (g.fetched 0) 0 g.unit.calls bound system ≡ target.went t stays)
+        × (steps : ℕ) × IsFollowed n [] (stint g.fetched steps t [] [])
