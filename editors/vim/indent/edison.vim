@@ -1,5 +1,6 @@
 " Indentation of Edison: two blanks for each level, as the programs of examples/ have it.
-" The lines above are read from the first one on, since it depends on the construct that is open.
+" The lines above are read from the last procedure or module at the left margin on, because the indentation depends on the
+" constructs that are open.
 if exists('b:did_indent')
   finish
 endif
@@ -73,8 +74,14 @@ function s:Take(symbol, state, indent) abort
 endfunction
 
 function EdisonIndent() abort
-  let state = {'comment': 0, 'level': 0, 'heading': 0, 'open': []}
-  for number in range(1, v:lnum - 1)
+  let first = v:lnum - 1
+  while first > 1 && getline(first) !~# '^\%(proc\|module\)\>'
+    let first -= 1
+  endwhile
+  " What is open around such a line has its words at the left margin too.
+  let around = first > 1 ? [{'word': 'proc', 'indent': 0, 'list': 0}] : []
+  let state = {'comment': 0, 'level': 0, 'heading': 0, 'open': around}
+  for number in range(max([first, 1]), v:lnum - 1)
     for symbol in s:Symbols(getline(number), state)
       call s:Take(symbol, state, indent(number))
     endfor
