@@ -7,3 +7,4 @@ pub mod PutBacks
 pub mod Kept
 pub mod Walk
 pub mod Served
+pub mod Coding

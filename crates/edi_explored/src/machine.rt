@@ -2,9 +2,16 @@
 //! followed the machines, its report has all endings of the program. Its laws rest on the theorem that code does what the program means.
 
 ghost use Rattle.std.specs.Prelude.{◌≡◌, ℕ, ◌^◌, List, length};
+ghost use Rattle.edi_calls.specs.Choice.{listed};
 ghost use Rattle.edi_calls.specs.Names.{Name};
+ghost use Rattle.edi_calls.specs.Outcome.{Outcome, turns};
 ghost use Rattle.edi_calls.specs.State.{State};
-ghost use Rattle.edi_target.specs.Mach.{Machine};
+ghost use Rattle.edi_unit.specs.Tree.{ProgramUnit};
+ghost use Rattle.edi_target.specs.Fetch.{fetch};
+ghost use Rattle.edi_target.specs.Mach.{Mach, Machine};
+ghost use Rattle.edi_scheme.specs.Code.{code_of};
+ghost use Rattle.edi_follows.specs.Theorem.{CanBeCoded};
+ghost use Rattle.edi_explored.specs.Reached.{IsReached, IsShown};
 ghost use Rattle.edi_kernel.specs.Kept.{SameKept};
 ghost use Rattle.edi_follows.specs.places.Coded.{Coded};
 ghost use Rattle.edi_explored.specs.Covered.{AllTold, AllToldBelow, Report};
@@ -44,6 +51,17 @@ pub fn put_backs_are_all<P: PutBack>()
         ((n : ℕ) → P.has n begin) → AllTold g.unit system report }
     ensures below { (g : Coded) (system : State) (report : Report) (begin most : ℕ) → FollowedPutBacks g system report ℕ begin P.is P.has →
         P.has most begin → AllToldBelow most g.unit system report }
+    ensures of_code { (unit : ProgramUnit) → CanBeCoded unit → (system : State) (report : Report) (begin most : ℕ) →
+        ((g : Coded) → g.unit ≡ unit → g.fetched ≡ fetch (code_of unit) → FollowedPutBacks g system report ℕ begin P.is P.has) →
+        (((n : ℕ) → P.has n begin) → AllTold unit system report) × (P.has most begin → AllToldBelow most unit system report) }
+{}
+
+/// What a run of the code of a unit comes to with some choices and some bound, these choices reach in the meaning, with all that is shown, unless
+/// the bound has cut it.
+pub fn runs_reach()
+    ensures law { (unit : ProgramUnit) → CanBeCoded unit → (system : State) (bound : ℕ) (choices : List ℕ) (outcome : Outcome) →
+        Mach (fetch (code_of unit)) 0 unit.calls system bound (listed choices) outcome → (outcome.ending ≡ turns → ⊥) →
+        IsReached unit system choices outcome.ending × IsShown unit system choices outcome.ending outcome.shown }
 {}
 
 /// Only the words that are kept count: whatever state of the meaning a machine is related to, with another memory that has the same links and

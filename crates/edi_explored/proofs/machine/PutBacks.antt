@@ -123,7 +123,7 @@ enters_twin told found calls b c system t q x y =
     subst (λ z. BothEnter told (went t stays) z) y (subst (λ z. BothEnter told z (entered found 0 calls c system)) x (both_enter told found calls b c system))
 
 -- a stint that has come to its end is the same within more steps
-abbrev IsOver : Stint → Type 0
+abbrev pub IsOver : Stint → Type 0
 IsOver unfinished = ⊥
 IsOver (switched u joined) = ⊤
 IsOver (over ending u) = ⊤
@@ -144,6 +144,13 @@ module _ (g : Coded) where
       behind_step n k more (went u stays) h = more u h
       behind_step n k more (went u (joins ps)) h = refl
       behind_step n k more (ended e u) h = refl
+
+  -- and so two that have come to their ends are the same
+  pub determined : (n k : ℕ) (t : Machine) (p : Name) (others : List Name) → IsOver (stint g.fetched n t p others) → IsOver (stint g.fetched k t p others) →
+      stint g.fetched n t p others ≡ stint g.fetched k t p others
+  determined n k t p others h i =
+      let swapped : n + k ≡ k + n = omega arith in
+      sym (longer n k t p others h) ∙ ap (λ m. stint g.fetched m t p others) swapped ∙ longer k n t p others i
 
   -- another memory serves twins alike
   serves_twin : (told : Bool) (u q : Machine) (m : List ℕ) → Twin told u q → ServesAs g u m → ServesAs g q m

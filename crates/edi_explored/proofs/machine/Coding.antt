@@ -1,0 +1,100 @@
+-- The code of a unit that can be coded, as the laws of a search speak of it; and what a run of it reaches.
+use Rattle.std.proofs.Common.{◌≡◌, ℕ, zero, suc, ◌+◌, ◌<◌, ◌≤◌, ◌⊎◌, inl, inr, List, length, drop, Option, Some, None, refl, sym, ap, subst, arith}
+use Rattle.std.proofs.lemmas.Bool.{cases_lt}
+use Rattle.edi_calls.specs.Choice.{listed}
+use Rattle.edi_calls.specs.Outcome as outcome
+use Rattle.edi_calls.specs.Outcome.{Outcome}
+use Rattle.edi_calls.specs.State.{State}
+use Rattle.edi_calls.proofs.Names.{some_is}
+use Rattle.edi_unit.specs.Types.{Shape}
+use Rattle.edi_unit.specs.Tree.{Block, ProgramUnit}
+use Rattle.edi_meaning.specs.Select.{Select}
+use Rattle.edi_target.specs.Decode.{AreWords, decode}
+use Rattle.edi_target.specs.Fetch.{fetch}
+use Rattle.edi_target.specs.Mach.{Mach}
+use Rattle.edi_target.specs.Op.{Instruction, words_of}
+use Rattle.edi_target.proofs.Reading.{decode_reads}
+use Rattle.edi_target.proofs.Stands.{code_stands_below}
+use Rattle.edi_target.proofs.segments.Reaching.{allowed_at}
+use Rattle.edi_scheme.specs.Code.{entry, code_of}
+use Rattle.edi_scheme.proofs.Blocks.{code_stands, code_is_long}
+use Rattle.edi_scheme.proofs.WordedBlocks.{code_is_words}
+use Rattle.edi_follows.specs.places.Coded.{Coded}
+use Rattle.edi_follows.specs.Theorem.{CanBeCoded}
+use Rattle.edi_follows.proofs.Whole.{same_outcomes}
+use Rattle.edi_explored.specs.Reached.{IsReached, IsShown}
+
+-- ---- the code
+
+pub entry_up : (types : List Shape) (blocks : List Block) (n m : ℕ) → n ≤ m → entry types blocks n ≤ entry types blocks m
+entry_up types blocks n zero le = let e : n ≡ zero = omega arith in subst (λ k. entry types blocks k ≤ 0) (sym e) (omega arith)
+entry_up types blocks n (suc m) le = go (cases_lt n (suc m)) (entry_up types blocks n m)
+  where
+    go : (n < suc m) ⊎ (suc m ≤ n) → (n ≤ m → entry types blocks n ≤ entry types blocks m) → entry types blocks n ≤ entry types blocks (suc m)
+    go (inl h) ih = omega (arith, ih (omega arith))
+    go (inr h) ih = let e : n ≡ suc m = omega arith in subst (λ k. entry types blocks n ≤ entry types blocks k) e (omega arith)
+
+-- what is read at an address is as long as the words of the instruction there
+pub fetched_long : (words : List ℕ) → AreWords words → (at : ℕ) (found : Instruction × ℕ) → fetch words at ≡ Some found →
+    found.1 ≡ at + length (words_of found.0)
+fetched_long words w at found e = go (decode (drop at words)) refl e
+  where
+    go : (x : Option (Instruction × ℕ)) → decode (drop at words) ≡ x →
+        elim x as (λ _. Option (Instruction × ℕ)) [ None ↦ None | Some found ↦ Some (found.0, at + found.1) ] ≡ Some found →
+        found.1 ≡ at + length (words_of found.0)
+    go None d e = absurd (cc)
+    go (Some x) d e = subst (λ (y : Instruction × ℕ). y.1 ≡ at + length (words_of y.0)) (some_is e) (decode_reads words at x.0 x.1 w d).follows
+
+abbrev pub coded : (unit : ProgramUnit) → CanBeCoded unit → Coded
+coded unit c =
+    let words : AreWords (code_of unit) = code_is_words unit c.fits c.parts c.lines (omega (arith, c.short)) in
+    record {
+      unit = unit;
+      fetched = fetch (code_of unit);
+      fits = c.fits;
+      parts = c.parts;
+      stands = code_stands unit c.fits c.parts;
+      rises = λ at found e. (code_stands_below (code_of unit) at found e).1;
+      long = λ at found e. fetched_long (code_of unit) words at found e;
+      allows = λ first last at. allowed_at (code_of unit) words first last at;
+      low = λ n h. omega (arith, c.short, code_is_long unit, entry_up unit.types unit.blocks n (length unit.blocks) (omega (arith, h)));
+    }
+
+-- ---- what a run reaches
+
+meant : (unit : ProgramUnit) → CanBeCoded unit → (system : State) (bound : ℕ) (choices : List ℕ) (o : Outcome) →
+    Mach (fetch (code_of unit)) 0 unit.calls system bound (listed choices) o → Select unit system bound (listed choices) o
+meant unit c system bound choices o m = (same_outcomes unit c system bound (listed choices) o).1 m
+
+module _ (unit : ProgramUnit) (system : State) (bound : ℕ) (choices : List ℕ) (o : Outcome) (s : Select unit system bound (listed choices) o)
+    (uncut : o.ending ≡ outcome.turns → ⊥) where
+  pub reached : IsReached unit system choices o.ending
+  reached = record {
+    bound = bound;
+    end = s.1;
+    turns = s.2;
+    drawn = s.3;
+    order = s.4;
+    ends = subst (λ (x : Outcome). Rattle.edi_meaning.specs.Select.Ends unit system bound (listed choices) x.ending s.1 s.2 s.3 s.4) (sym s.6) s.5;
+    uncut = uncut;
+  }
+
+  pub shown : IsShown unit system choices o.ending o.shown
+  shown = record {
+    bound = bound;
+    end = s.1;
+    turns = s.2;
+    drawn = s.3;
+    order = s.4;
+    ends = subst (λ (x : Outcome). Rattle.edi_meaning.specs.Select.Ends unit system bound (listed choices) x.ending s.1 s.2 s.3 s.4) (sym s.6) s.5;
+    uncut = uncut;
+    text = sym (ap (λ (x : Outcome). x.shown) s.6);
+  }
+
+pub run_reached : (unit : ProgramUnit) → CanBeCoded unit → (system : State) (bound : ℕ) (choices : List ℕ) (o : Outcome) →
+    Mach (fetch (code_of unit)) 0 unit.calls system bound (listed choices) o → (o.ending ≡ outcome.turns → ⊥) → IsReached unit system choices o.ending
+run_reached unit c system bound choices o m uncut = reached unit system bound choices o (meant unit c system bound choices o m) uncut
+
+pub run_shown : (unit : ProgramUnit) → CanBeCoded unit → (system : State) (bound : ℕ) (choices : List ℕ) (o : Outcome) →
+    Mach (fetch (code_of unit)) 0 unit.calls system bound (listed choices) o → (o.ending ≡ outcome.turns → ⊥) → IsShown unit system choices o.ending o.shown
+run_shown unit c system bound choices o m uncut = shown unit system bound choices o (meant unit c system bound choices o m) uncut
