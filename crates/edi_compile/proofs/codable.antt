@@ -6,3 +6,4 @@ pub mod Expressions
 pub mod Bodies
 pub mod Wholes
 pub mod Following
+pub mod Few

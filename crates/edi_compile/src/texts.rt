@@ -1,7 +1,7 @@
 //! Texts that are whole.
 
-ghost use Rattle.std.specs.Prelude.{IfOk};
-ghost use Rattle.edi_unit.specs.View.{unit_of};
+ghost use Rattle.std.specs.Prelude.{◌≤◌, IfOk, length};
+ghost use Rattle.edi_unit.specs.View.{blocks_of, unit_of};
 ghost use Rattle.edi_texts.specs.Answers.{TextAnswers};
 ghost use Rattle.edi_texts.specs.Run.{IsCodeFor};
 ghost use Rattle.edi_compile.specs.Compiled.{IsFrontOf};
@@ -29,9 +29,11 @@ pub fn compile(alloc: Global, text: &[u8]) -> Result<Code, Refusal>
 }
 
 /// The resolved unit of a text, or the text's first fault, as `compile` has it. The unit can be coded, as `translate` asks: it
-/// fits, its records have fields, its lines are words, and its code is as short as `compile` says.
+/// fits, its records have fields, its lines are words, and its code is as short as `compile` says. It has at most 4,194,304
+/// blocks.
 pub fn front(alloc: Global, text: &[u8]) -> Result<Unit, Refusal>
     ensures exact { TextAnswers (λ unit. IsFrontOf text.now (unit_of unit)) text.now result }
+    ensures few { IfOk result (λ unit. length (blocks_of unit.blocks) ≤ 4194304) }
 {
     unit_by(alloc, scan(alloc, text))
 }
