@@ -13,7 +13,7 @@ swap true true c = refl
 swap true false c = refl
 swap false b c = refl
 
-members_at : (l : List Name) (i : ℕ) → i < length l → (p : Name) → has (name_at l i ∷ without_index l i) p ≡ has l p
+pub members_at : (l : List Name) (i : ℕ) → i < length l → (p : Name) → has (name_at l i ∷ without_index l i) p ≡ has l p
 members_at [] i h p = absurd (omega (arith, h))
 members_at (x ∷ xs) zero h p = refl
 members_at (x ∷ xs) (suc i) h p =

@@ -8,3 +8,8 @@ pub mod Kept
 pub mod Walk
 pub mod Served
 pub mod Coding
+pub mod Again
+pub mod Kernels
+pub mod KernelStints
+pub mod KernelSearch
+pub mod All

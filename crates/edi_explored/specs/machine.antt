@@ -3,3 +3,4 @@ pub mod Alike
 pub mod Twins
 pub mod Machines
 pub mod PutBacks
+pub mod Kernels

@@ -7,14 +7,17 @@ ghost use Rattle.edi_calls.specs.Names.{Name};
 ghost use Rattle.edi_calls.specs.Outcome.{Outcome, turns};
 ghost use Rattle.edi_calls.specs.State.{State};
 ghost use Rattle.edi_unit.specs.Tree.{ProgramUnit};
+ghost use Rattle.edi_target.specs.Check.{CodeParts};
 ghost use Rattle.edi_target.specs.Fetch.{fetch};
 ghost use Rattle.edi_target.specs.Mach.{Mach, Machine};
 ghost use Rattle.edi_scheme.specs.Code.{code_of};
 ghost use Rattle.edi_follows.specs.Theorem.{CanBeCoded};
 ghost use Rattle.edi_explored.specs.Reached.{IsReached, IsShown};
 ghost use Rattle.edi_kernel.specs.Kept.{SameKept};
+ghost use Rattle.edi_kernel.specs.declared.kept.Kept.{Kept};
 ghost use Rattle.edi_follows.specs.places.Coded.{Coded};
 ghost use Rattle.edi_explored.specs.Covered.{AllTold, AllToldBelow, Report};
+ghost use Rattle.edi_explored.specs.machine.Kernels.{FollowedKernels, IsUnitCode};
 ghost use Rattle.edi_explored.specs.machine.Machines.{FollowedMachines, ServesAs};
 ghost use Rattle.edi_explored.specs.machine.PutBacks.{FollowedPutBacks};
 
@@ -54,6 +57,33 @@ pub fn put_backs_are_all<P: PutBack>()
     ensures of_code { (unit : ProgramUnit) → CanBeCoded unit → (system : State) (report : Report) (begin most : ℕ) →
         ((g : Coded) → g.unit ≡ unit → g.fetched ≡ fetch (code_of unit) → FollowedPutBacks g system report ℕ begin P.is P.has) →
         (((n : ℕ) → P.has n begin) → AllTold unit system report) × (P.has most begin → AllToldBelow most unit system report) }
+{}
+
+/// What a search with a kernel keeps of states between two stints, by numbers.
+pub trait Searched {
+    /// The live processes.
+    ghost processes: { ℕ → List Kept };
+
+    /// The slots of those that are ready, in the order in which they were.
+    ghost slots: { ℕ → List ℕ };
+
+    /// The system that is put back.
+    ghost system: { ℕ → State };
+
+    /// The search has the start of the program, and what fewer than so many moves lead to from there.
+    ghost begun: { ℕ → Type 0 };
+
+    /// It has the state, and what fewer than so many moves lead to from there.
+    ghost has: { ℕ → ℕ → Type 0 };
+}
+
+/// The same in words of the kernel alone: where a search has put back each state that it has, and has had a stint from there of each process that is
+/// ready, within `bound` turns, its report tells all endings of the program.
+pub fn kernels_are_all<S: Searched>()
+    ensures all { (unit : ProgramUnit) → CanBeCoded unit → (code : CodeParts) → IsUnitCode unit code → (start : State) (bound : ℕ) (report : Report) →
+        FollowedKernels code start bound report ℕ S.processes S.slots S.system S.begun S.has → ((n : ℕ) → S.begun n) → AllTold unit start report }
+    ensures below { (unit : ProgramUnit) → CanBeCoded unit → (code : CodeParts) → IsUnitCode unit code → (start : State) (bound most : ℕ) (report : Report) →
+        FollowedKernels code start bound report ℕ S.processes S.slots S.system S.begun S.has → S.begun most → AllToldBelow most unit start report }
 {}
 
 /// What a run of the code of a unit comes to with some choices and some bound, these choices reach in the meaning, with all that is shown, unless

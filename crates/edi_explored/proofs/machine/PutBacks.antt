@@ -9,6 +9,7 @@ use Rattle.edi_calls.specs.Ready.{has, stays, joins}
 use Rattle.edi_calls.proofs.Names.{Once}
 use Rattle.edi_calls.proofs.Tables.{same-equal}
 use Rattle.edi_meaning.proofs.Sound.{or_true, has-append, once-append}
+use Rattle.edi_target.proofs.segments.Families.{Sound}
 use Rattle.edi_target.specs.Op as op
 use Rattle.edi_target.specs.Op.{Instruction}
 use Rattle.edi_target.specs.Mach.{Machine, Stepped, went, ended, step, entered}
@@ -229,10 +230,10 @@ module _ (g : Coded) (system : State) (report : Report) (V : Type 0) (begin : V)
       subst (λ x. StintedTwins told x y) one (subst (StintedTwins told (stint g.fetched (steps + more) t p rest)) two
       (twins_stint told g.fetched (steps + more) t q p rest others w r.members))
 
-  from_put : (n : ℕ) (v : V) (t : Machine) (p : Name) (others : List Name) → Has (suc n) v → Keeps v t (p ∷ others) → t.marks ≡ [] →
+  from_put : (n : ℕ) (v : V) (t : Machine) (p : Name) (others : List Name) → Has (suc n) v → Keeps v t (p ∷ others) → t.marks ≡ [] → Sound t.activities →
       (m : List ℕ) × ServesAs g t m × FollowedFrom g system report V begin Keeps Has n (record t { memory = m }) p others
-  from_put n v t p others h k e =
-      let l = f.follows n v k.machine k.order p others h k.put k.reordered in
+  from_put n v t p others h k e nested =
+      let l = f.follows n v k.machine k.order p others h k.put (subst Sound k.other.activities nested) k.reordered in
       let w : Twin told k.machine t = record {
         memory = k.other.memory;
         activities = k.other.activities;
@@ -270,14 +271,14 @@ module _ (g : Coded) (system : State) (report : Report) (V : Type 0) (begin : V)
   put_backs_followed = record {
     forgets = forgets;
     follows = from_put;
-    stands = λ n v t names h k all.
+    stands = λ n v t names h k nested all.
         let back : Other told t k.machine = record {
           memory = sym k.other.memory;
           activities = sym k.other.activities;
           system = alike_back told k.machine.system t.system k.other.system;
         } in
         tells_same report outcome.standstill k.machine.system.shown t.system.shown k.other.system.shown
-        (f.stands n v k.machine k.order h k.put
+        (f.stands n v k.machine k.order h k.put (subst Sound k.other.activities nested)
         (λ m serves p others r. all k.machine back (f.unmarked v k.machine k.order k.put) (f.some v k.machine k.order k.put) m serves p others
         (record {
           members = λ x. r.members x ∙ sym (k.reordered.members x);

@@ -260,7 +260,7 @@ module _ (g : Coded) (system : State) (report : Report) (V : Type 0) (begin : V)
       ((p : Name) → has names p ≡ true → CannotGo g.unit s p) → Tells report outcome.standstill s.world.system.now.shown
   stands_by n v s names h c stuck =
       subst (Tells report outcome.standstill) (ap (λ (y : State). y.shown) c.related.system)
-      (f.stands n v c.machine names h c.keeps
+      (f.stands n v c.machine names h c.keeps c.kept.sound
       (λ q o unmarked some m serves p others r. with_some q o unmarked m serves p others r q.turns refl some))
     where
       with_some : (q : Machine) → Other (tells_shown report) c.machine q → q.marks ≡ [] → (m : List ℕ) → ServesAs g q m → (p : Name) (others : List Name) →
@@ -344,14 +344,14 @@ module _ (g : Coded) (system : State) (report : Report) (V : Type 0) (begin : V)
     ];
     reports = λ n v s p others steps ending shown h c e. elim c [
       | inl c ↦
-          let r = f.follows n v c.machine p others h c.keeps c.unmarked in
+          let r = f.follows n v c.machine p others h c.keeps c.unmarked c.kept.sound in
           reports_from n (record c.machine { memory = r.0 }) p others steps s ending shown r.2 (lands v s p others steps c r.0 r.1) e
       | inr c ↦ reports_first n s.world.turns steps ending shown (subst (Has (suc n)) c.is h)
           (sym (ap (λ x. stint g.unit steps x []) (is_begun v s (p ∷ others) c)) ∙ ap (stint g.unit steps s) (sym (alone_is p others c.alone).0) ∙ e)
     ];
     leads = λ n v s t p others joined steps h c e. elim c [
       | inl c ↦
-          let r = f.follows n v c.machine p others h c.keeps c.unmarked in
+          let r = f.follows n v c.machine p others h c.keeps c.unmarked c.kept.sound in
           leads_from n (record c.machine { memory = r.0 }) p others (stint g.unit steps s p) t joined r.2 (lands v s p others steps c r.0 r.1) e
       | inr c ↦
           let r : (w : V) × Has n w × Cover w t joined = leads_first n s.world.turns steps t joined (subst (Has (suc n)) c.is h)

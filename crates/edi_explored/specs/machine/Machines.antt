@@ -7,6 +7,7 @@ use Rattle.edi_calls.specs.Outcome as outcome
 use Rattle.edi_calls.specs.Outcome.{Ending}
 use Rattle.edi_calls.specs.Ready.{stays}
 use Rattle.edi_meaning.specs.Step.{Processes, start}
+use Rattle.edi_target.proofs.segments.Families.{Sound}
 use Rattle.edi_target.specs.Mach as target
 use Rattle.edi_target.specs.Mach.{Machine}
 use Rattle.edi_kernel.specs.Stints.{stint, switched, over}
@@ -38,10 +39,10 @@ module _ (g : Coded) (system : State) (report : Report) (V : Type 0) (begin : V)
   pub record FollowedMachines : Type 0 where
     pub forgets : (v : V) (t u : Machine) (names other : List Name) → Keeps v t names → Other (tells_shown report) t u → Reordered names other → Keeps v u other
     -- from some memory that serves
-    pub follows : (n : ℕ) (v : V) (t : Machine) (p : Name) (others : List Name) → Has (suc n) v → Keeps v t (p ∷ others) → t.marks ≡ [] →
+    pub follows : (n : ℕ) (v : V) (t : Machine) (p : Name) (others : List Name) → Has (suc n) v → Keeps v t (p ∷ others) → t.marks ≡ [] → Sound t.activities →
         (m : List ℕ) × ServesAs g t m × FollowedFrom n (record t { memory = m }) p others
     -- a standstill is told where each of the ready ones only fails, with turns left, from each memory that serves
-    pub stands : (n : ℕ) (v : V) (t : Machine) (names : List Name) → Has (suc n) v → Keeps v t names →
+    pub stands : (n : ℕ) (v : V) (t : Machine) (names : List Name) → Has (suc n) v → Keeps v t names → Sound t.activities →
         ((q : Machine) → Other (tells_shown report) t q → q.marks ≡ [] → 0 < q.turns → (m : List ℕ) → ServesAs g q m →
         (p : Name) (others : List Name) → Reordered names (p ∷ others) → Fails g (record q { memory = m }) p others) →
         Tells report outcome.standstill t.system.shown

@@ -7,6 +7,7 @@ use Rattle.edi_calls.specs.Outcome as outcome
 use Rattle.edi_calls.specs.Outcome.{Ending}
 use Rattle.edi_calls.specs.Ready.{stays}
 use Rattle.edi_calls.proofs.Names.{Once}
+use Rattle.edi_target.proofs.segments.Families.{Sound}
 use Rattle.edi_target.specs.Mach as target
 use Rattle.edi_target.specs.Mach.{Machine}
 use Rattle.edi_kernel.specs.Stints.{Stint, unfinished, stint, switched, over}
@@ -38,9 +39,9 @@ module _ (g : Coded) (system : State) (report : Report) (V : Type 0) (begin : V)
     pub once : (v : V) (t : Machine) (order : List Name) → PutBack v t order → Once order
     -- one stint of each ready process, from some memory that serves, with the others in the kernel's order
     pub follows : (n : ℕ) (v : V) (t : Machine) (order : List Name) (p : Name) (others : List Name) → Has (suc n) v → PutBack v t order →
-        Reordered order (p ∷ others) → (m : List ℕ) × ServesAs g t m × (rest : List Name) × Reordered rest others × (steps : ℕ)
+        Sound t.activities → Reordered order (p ∷ others) → (m : List ℕ) × ServesAs g t m × (rest : List Name) × Reordered rest others × (steps : ℕ)
         × IsFollowed n rest (stint g.fetched steps (record t { memory = m }) p rest)
-    pub stands : (n : ℕ) (v : V) (t : Machine) (order : List Name) → Has (suc n) v → PutBack v t order →
+    pub stands : (n : ℕ) (v : V) (t : Machine) (order : List Name) → Has (suc n) v → PutBack v t order → Sound t.activities →
         ((m : List ℕ) → ServesAs g t m → (p : Name) (others : List Name) → Reordered order (p ∷ others) → Fails g (record t { memory = m }) p others) →
         Tells report outcome.standstill t.system.shown
     -- the first stint, behind the entry of the program, with some bound

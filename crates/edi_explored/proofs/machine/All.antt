@@ -1,0 +1,46 @@
+-- A search that has followed one stint of each ready process with a kernel has found all.
+use Rattle.std.proofs.Common.{ℕ, List, Option, None, sym, ap}
+use Rattle.edi_calls.specs.State.{State}
+use Rattle.edi_unit.specs.Tree.{ProgramUnit}
+use Rattle.edi_target.specs.Check.{CodeParts}
+use Rattle.edi_target.specs.Fetch.{fetch}
+use Rattle.edi_kernel.specs.declared.kept.Kept.{Kept}
+use Rattle.edi_follows.specs.Theorem.{CanBeCoded}
+use Rattle.edi_follows.specs.places.Coded.{Coded}
+use Rattle.edi_follows.proofs.Whole.{steps, starts}
+use Rattle.edi_follows.proofs.kernel.Meaning.{steps_queue}
+use Rattle.edi_explored.specs.Covered.{Report, AllTold, AllToldBelow}
+use Rattle.edi_explored.specs.machine.PutBacks.{KeepsBy}
+use Rattle.edi_explored.specs.machine.Kernels.{IsCodeOf, IsUnitCode, FollowedKernels}
+use Rattle.edi_explored.proofs.machine.Coding.{coded}
+use Rattle.edi_explored.proofs.machine.KernelStints.{PutBack, HasIt}
+use Rattle.edi_explored.proofs.machine.PutBacks.{put_backs_followed}
+use Rattle.edi_explored.proofs.machine.KernelSearch.{kernels_followed}
+use Rattle.edi_explored.proofs.machine.Tied.{machines_below, machines_all}
+
+module _ (unit : ProgramUnit) (c : CanBeCoded unit) (code : CodeParts) (is : IsUnitCode unit code) (start : State) (bound : ℕ) (report : Report) (V : Type 0)
+    (processes : V → List Kept) (slots : V → List ℕ) (system : V → State) (Begun : ℕ → Type 0) (Has : ℕ → V → Type 0)
+    (f : FollowedKernels code start bound report V processes slots system Begun Has) where
+  abbrev g : Coded
+  g = coded unit c
+
+  is_code : IsCodeOf g code
+  is_code = record { fetched = ap fetch (sym is.words); entry = is.entry; calls = is.calls }
+
+  abbrev Back : Option V → Rattle.edi_target.specs.Mach.Machine → List Rattle.edi_calls.specs.Names.Name → Type 0
+  Back = PutBack g code is_code start bound report V processes slots system Begun Has
+
+  abbrev Holding : ℕ → Option V → Type 0
+  Holding = HasIt g code is_code start bound report V processes slots system Begun Has
+
+  pub kernels_all : ((n : ℕ) → Begun n) → AllTold unit start report
+  kernels_all h =
+      machines_all g start report (Option V) None (KeepsBy g start report (Option V) None Back Holding) Holding
+      (put_backs_followed g start report (Option V) None Back Holding
+      (kernels_followed g code is_code start bound report V processes slots system Begun Has f (starts g))) (steps g) steps_queue (starts g) h
+
+  pub kernels_below : (most : ℕ) → Begun most → AllToldBelow most unit start report
+  kernels_below most h =
+      machines_below g start report (Option V) None (KeepsBy g start report (Option V) None Back Holding) Holding
+      (put_backs_followed g start report (Option V) None Back Holding
+      (kernels_followed g code is_code start bound report V processes slots system Begun Has f (starts g))) (steps g) steps_queue (starts g) most h
