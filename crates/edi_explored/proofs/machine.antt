@@ -12,4 +12,5 @@ pub mod Again
 pub mod Kernels
 pub mod KernelStints
 pub mod KernelSearch
+pub mod Levels
 pub mod All

@@ -4,3 +4,4 @@ pub mod Twins
 pub mod Machines
 pub mod PutBacks
 pub mod Kernels
+pub mod Levels

@@ -1,7 +1,7 @@
 //! A search over the machine. What it keeps stands for machines, and so for the states of the meaning that are related to them: where it has
 //! followed the machines, its report has all endings of the program. Its laws rest on the theorem that code does what the program means.
 
-ghost use Rattle.std.specs.Prelude.{◌≡◌, ℕ, ◌^◌, List, length};
+ghost use Rattle.std.specs.Prelude.{◌≡◌, ℕ, suc, ◌^◌, List, length};
 ghost use Rattle.edi_calls.specs.Choice.{listed};
 ghost use Rattle.edi_calls.specs.Names.{Name};
 ghost use Rattle.edi_calls.specs.Outcome.{Outcome, turns};
@@ -18,6 +18,7 @@ ghost use Rattle.edi_kernel.specs.declared.kept.Kept.{Kept};
 ghost use Rattle.edi_follows.specs.places.Coded.{Coded};
 ghost use Rattle.edi_explored.specs.Covered.{AllTold, AllToldBelow, Report};
 ghost use Rattle.edi_explored.specs.machine.Kernels.{FollowedKernels, IsUnitCode};
+ghost use Rattle.edi_explored.specs.machine.Levels.{IsClosed, IsLevelled, StateTable};
 ghost use Rattle.edi_explored.specs.machine.Machines.{FollowedMachines, ServesAs};
 ghost use Rattle.edi_explored.specs.machine.PutBacks.{FollowedPutBacks};
 
@@ -84,6 +85,15 @@ pub fn kernels_are_all<S: Searched>()
         FollowedKernels code start bound report ℕ S.processes S.slots S.system S.begun S.has → ((n : ℕ) → S.begun n) → AllTold unit start report }
     ensures below { (unit : ProgramUnit) → CanBeCoded unit → (code : CodeParts) → IsUnitCode unit code → (start : State) (bound most : ℕ) (report : Report) →
         FollowedKernels code start bound report ℕ S.processes S.slots S.system S.begun S.has → S.begun most → AllToldBelow most unit start report }
+{}
+
+/// A breadth-first search. Where it has expanded each of its states, and these lead to no other, its report tells all endings. Where it has expanded
+/// those found at depths below `depth`, it tells all of the executions that have at most `depth` moves.
+pub fn expanded_is_all()
+    ensures all { (unit : ProgramUnit) → CanBeCoded unit → (code : CodeParts) → IsUnitCode unit code → (start : State) (bound : ℕ) (report : Report)
+        (table : StateTable) (count : ℕ) → IsClosed code start bound report table count → AllTold unit start report }
+    ensures below { (unit : ProgramUnit) → CanBeCoded unit → (code : CodeParts) → IsUnitCode unit code → (start : State) (bound : ℕ) (report : Report)
+        (table : StateTable) (starts : ℕ → ℕ) (depth : ℕ) → IsLevelled code start bound report table starts depth → AllToldBelow (suc depth) unit start report }
 {}
 
 /// What a run of the code of a unit comes to with some choices and some bound, these choices reach in the meaning, with all that is shown, unless

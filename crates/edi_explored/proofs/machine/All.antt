@@ -1,5 +1,6 @@
 -- A search that has followed one stint of each ready process with a kernel has found all.
-use Rattle.std.proofs.Common.{ℕ, List, Option, None, sym, ap}
+use Rattle.std.specs.Prelude.{⊤}
+use Rattle.std.proofs.Common.{ℕ, suc, ◌-◌, ◌<◌, ◌≤◌, List, Option, None, sym, ap, arith}
 use Rattle.edi_calls.specs.State.{State}
 use Rattle.edi_unit.specs.Tree.{ProgramUnit}
 use Rattle.edi_target.specs.Check.{CodeParts}
@@ -12,10 +13,12 @@ use Rattle.edi_follows.proofs.kernel.Meaning.{steps_queue}
 use Rattle.edi_explored.specs.Covered.{Report, AllTold, AllToldBelow}
 use Rattle.edi_explored.specs.machine.PutBacks.{KeepsBy}
 use Rattle.edi_explored.specs.machine.Kernels.{IsCodeOf, IsUnitCode, FollowedKernels}
+use Rattle.edi_explored.specs.machine.Levels.{StateTable, IsClosed, IsLevelled}
 use Rattle.edi_explored.proofs.machine.Coding.{coded}
 use Rattle.edi_explored.proofs.machine.KernelStints.{PutBack, HasIt}
 use Rattle.edi_explored.proofs.machine.PutBacks.{put_backs_followed}
 use Rattle.edi_explored.proofs.machine.KernelSearch.{kernels_followed}
+use Rattle.edi_explored.proofs.machine.Levels.{closed_followed, levels_followed}
 use Rattle.edi_explored.proofs.machine.Tied.{machines_below, machines_all}
 
 module _ (unit : ProgramUnit) (c : CanBeCoded unit) (code : CodeParts) (is : IsUnitCode unit code) (start : State) (bound : ℕ) (report : Report) (V : Type 0)
@@ -44,3 +47,17 @@ module _ (unit : ProgramUnit) (c : CanBeCoded unit) (code : CodeParts) (is : IsU
       machines_below g start report (Option V) None (KeepsBy g start report (Option V) None Back Holding) Holding
       (put_backs_followed g start report (Option V) None Back Holding
       (kernels_followed g code is_code start bound report V processes slots system Begun Has f (starts g))) (steps g) steps_queue (starts g) most h
+
+-- ---- a search by levels
+
+module _ (unit : ProgramUnit) (c : CanBeCoded unit) (code : CodeParts) (is : IsUnitCode unit code) (start : State) (bound : ℕ) (report : Report)
+    (table : StateTable) where
+  pub closed_all : (count : ℕ) → IsClosed code start bound report table count → AllTold unit start report
+  closed_all count f =
+      kernels_all unit c code is start bound report ℕ table.processes table.slots table.system (λ n. ⊤) (λ n v. v < count)
+      (closed_followed code start bound report table count f) (λ n. tt)
+
+  pub levels_below : (starts : ℕ → ℕ) (depth : ℕ) → IsLevelled code start bound report table starts depth → AllToldBelow (suc depth) unit start report
+  levels_below starts depth f =
+      kernels_below unit c code is start bound report ℕ table.processes table.slots table.system (λ n. n ≤ suc depth) (λ n v. v < starts (suc depth - n))
+      (levels_followed code start bound report table starts depth f) (suc depth) (omega arith)

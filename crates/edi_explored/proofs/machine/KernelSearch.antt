@@ -1,5 +1,5 @@
 -- A search that has followed one stint of each ready process with a kernel has followed what it puts back.
-use Rattle.std.proofs.Common.{◌≡◌, ℕ, zero, suc, ◌<◌, true, false, ◌||◌, List, [], ◌∷◌, length, map, Option, Some, None, refl, sym, ap, subst, ◌∙◌, arith}
+use Rattle.std.proofs.Common.{◌≡◌, inl, inr, ℕ, zero, suc, ◌<◌, true, false, ◌||◌, List, [], ◌∷◌, length, map, Option, Some, None, refl, sym, ap, subst, ◌∙◌, arith}
 use Rattle.edi_calls.specs.Names.{Name}
 use Rattle.edi_calls.specs.Outcome as outcome
 use Rattle.edi_calls.specs.Ready.{has, name_at, without_index}
@@ -160,15 +160,18 @@ module _ (g : Coded) (code : CodeParts) (is : IsCodeOf g code) (start : State) (
       ((m : List ℕ) → ServesAs g t m → (name : Name) (others : List Name) → Reordered order (name ∷ others) → Fails g (record t { memory = m }) name others) →
       Tells report outcome.standstill t.system.shown
   stands n v t order h p nested all =
-      let apart : AreApart (processes v) = are_apart (processes v) p.kernel t order p.back p.holds nested in
-      subst (Tells report outcome.standstill) (ap (λ (y : State). y.shown) (sym p.is_system))
-      (f.stands n v h apart (λ i among.
-      let s : Stints n v i = f.follows n v h apart i among in
-      failed v t order p n i s among (all s.back.store (served v t order p n i s among) (who v t order p n i s among) (rest v t order p n i s among)
-      (record {
-        members = first_members v t order p n i s among;
-        once = λ o. (rest_without v t order p n i s among, rest_once v t order p n i s among);
-      }))))
+      elim (f.stands n v h (are_apart (processes v) p.kernel t order p.back p.holds nested)) [
+        | inl told ↦ subst (Tells report outcome.standstill) (ap (λ (y : State). y.shown) (sym p.is_system)) told
+        | inr x ↦ absurd (x.goes (all_failed x.index x.one x.among))
+      ]
+    where
+      all_failed : (i : ℕ) (s : Stints n v i) → i < length (slots v) → IsFailed s.end s.after
+      all_failed i s among =
+          failed v t order p n i s among (all s.back.store (served v t order p n i s among) (who v t order p n i s among) (rest v t order p n i s among)
+          (record {
+            members = first_members v t order p n i s among;
+            once = λ o. (rest_without v t order p n i s among, rest_once v t order p n i s among);
+          }))
 
   -- ---- the first stint
 

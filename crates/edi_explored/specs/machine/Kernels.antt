@@ -102,6 +102,13 @@ module _ (code : CodeParts) (start : State) (bound : ℕ) (report : Report) (V :
     pub free : is_over end ≡ false → after.taken ≡ None
     pub found : IsFound n end after now
 
+  -- one of the stints was more than a failed attempt
+  pub record OneGoes (n : ℕ) (v : V) : Type 0 where
+    pub index : ℕ
+    pub among : index < length (slots v)
+    pub one : StintOf n v index
+    pub goes : IsFailed one.end one.after → ⊥
+
   -- THE SEARCH HAS FOLLOWED EVERYTHING within n moves of what it has: `Has n v` says that it has v, and all that fewer than n moves lead to from
   -- there, and `Begun n` says so of the start of the program
   pub record FollowedKernels : Type 0 where
@@ -110,6 +117,5 @@ module _ (code : CodeParts) (start : State) (bound : ℕ) (report : Report) (V :
     -- what is had was kept of some kernel, whose ready list was this
     pub kept : (n : ℕ) (v : V) → Has (suc n) v → (k : KernelState) × IsBack (processes v) k × (ready_slots k.table ≡ slots v)
     pub follows : (n : ℕ) (v : V) → Has (suc n) v → AreApart (processes v) → (index : ℕ) → index < length (slots v) → StintOf n v index
-    -- where all have failed, a standstill is told
-    pub stands : (n : ℕ) (v : V) (has : Has (suc n) v) (apart : AreApart (processes v)) → ((index : ℕ) (among : index < length (slots v)) →
-        IsFailed (follows n v has apart index among).end (follows n v has apart index among).after) → Tells report outcome.standstill (system v).shown
+    -- a standstill is told, or one of them goes
+    pub stands : (n : ℕ) (v : V) → Has (suc n) v → AreApart (processes v) → Tells report outcome.standstill (system v).shown ⊎ OneGoes n v
