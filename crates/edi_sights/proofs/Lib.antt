@@ -3,3 +3,4 @@ pub mod Counted
 pub mod Walking
 pub mod Faulting
 pub mod Agreeing
+pub mod told

@@ -5,6 +5,7 @@
 mod answer;
 mod awaits;
 mod declarations;
+pub mod laws;
 mod numbering;
 mod programs;
 mod statements;
