@@ -1,4 +1,5 @@
 pub mod LoadedFiles
 pub mod OnFilesLemmas
+pub mod Shown
 pub mod Units
 pub mod Unmounted

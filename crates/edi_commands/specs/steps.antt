@@ -2,3 +2,4 @@
 pub mod Loaded
 pub mod NotMounted
 pub mod OnFiles
+pub mod OnTerminal

@@ -1,5 +1,6 @@
 //! The examples, a file of scripts for each subject; `play`, `script` and `world` play them.
 
+mod checks;
 mod disks;
 mod editings;
 mod faults;

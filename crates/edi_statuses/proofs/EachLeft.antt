@@ -7,7 +7,7 @@ use Rattle.edi_system.specs.Parts.{Grows, IsValid, Shrinks}
 use Rattle.edi_words.specs.Words.{Command}
 use Rattle.edi_statuses.specs.declared.status.Status.{Status}
 use Rattle.edi_statuses.specs.EachObject.{DevicesStay, Handed, KeepsImage, LeavesEach, MayBeImage, UnusedStay, is_before_drive, stops_first}
-use Rattle.edi_statuses.specs.EachObject.{uses_devices, uses_drive, uses_files, uses_input}
+use Rattle.edi_statuses.specs.EachObject.{uses_devices, uses_drive, uses_files, uses_input, uses_kernel}
 use Rattle.edi_statuses.specs.Outside.{Outside}
 
 -- ---- the number of blocks
@@ -73,27 +73,27 @@ asked false stops used none = absurd (true≢false (sym used))
 
 module _ {F D S T P K : Type 0} (before after : Handed F D S T P K) where
   -- a command that sees all devices has not come to them
-  pub untouched : (c : Command) (s : Status) → uses_drive c ≡ true → uses_input c ≡ true → uses_devices c ≡ true
+  pub untouched : (c : Command) (s : Status) → uses_drive c ≡ true → uses_input c ≡ true → uses_devices c ≡ true → uses_kernel c ≡ true
       → (stops_first c s ≡ true → is_before_drive s ≡ true) → (uses_files c ≡ false → after.files ≡ before.files)
       → (is_before_drive s ≡ true → DevicesStay before after) → UnusedStay (Some c) s before after
-  untouched c s drive input devices first files stay = record {
+  untouched c s drive input devices kernel first files stay = record {
     files = files;
     drive = λ none. (stay (first (asked (uses_drive c) (stops_first c s) drive none))).drive;
     input = λ none. (stay (first (asked (uses_input c) (stops_first c s) input none))).input;
     printer = λ none. (stay (first (asked (uses_devices c) (stops_first c s) devices none))).printer;
-    kernel = λ none. (stay (first (asked (uses_devices c) (stops_first c s) devices none))).kernel;
+    kernel = λ none. (stay (first (asked (uses_kernel c) (stops_first c s) kernel none))).kernel;
   }
 
   -- so of one that sees the terminal and the printer alone
-  pub untouched_alone : (c : Command) (s : Status) → uses_devices c ≡ true → (stops_first c s ≡ true → is_before_drive s ≡ true)
+  pub untouched_alone : (c : Command) (s : Status) → uses_devices c ≡ true → uses_kernel c ≡ true → (stops_first c s ≡ true → is_before_drive s ≡ true)
       → (uses_files c ≡ false → after.files ≡ before.files) → after.drive ≡ before.drive → after.input ≡ before.input
       → (is_before_drive s ≡ true → DevicesStay before after) → UnusedStay (Some c) s before after
-  untouched_alone c s devices first files drive input stay = record {
+  untouched_alone c s devices kernel first files drive input stay = record {
     files = files;
     drive = λ none. drive;
     input = λ none. input;
     printer = λ none. (stay (first (asked (uses_devices c) (stops_first c s) devices none))).printer;
-    kernel = λ none. (stay (first (asked (uses_devices c) (stops_first c s) devices none))).kernel;
+    kernel = λ none. (stay (first (asked (uses_kernel c) (stops_first c s) kernel none))).kernel;
   }
 
   -- so of one that sees none of them, but the drive

@@ -12,11 +12,11 @@ use Rattle.edi_statuses.specs.Outside.{Outside, seen, SameFiles, Lent}
 use Rattle.edi_statuses.specs.Steps.{AfterStep, goes, Ready}
 use Rattle.edi_statuses.specs.Executions.{Runnable, text, code, BrokeRun}
 use Rattle.edi_statuses.specs.Sessions.{BootSteps, EndedUnkept, EndedWhole, HoldsSession}
-use Rattle.edi_statuses.specs.Commands.{Comes, Does, IsDone, IsNothing, OnlyKeeps, OnlyBlocks, OnlyShows, KeepsCode, Runs, AreNew, AreMigrated, ArePut}
+use Rattle.edi_statuses.specs.Commands.{Comes, Does, IsDone, IsNothing, OnlyKeeps, OnlyBlocks, OnlyShows, ShowsReport, KeepsCode, Runs, AreNew, AreMigrated, ArePut}
 use Rattle.edi_statuses.specs.Commands.{RunSteps, ExecSteps, TextSteps, OldSteps, PutSteps, GetSteps, ListSteps, DemoSteps}
 use Rattle.edi_statuses.specs.Commands.{Demonstrates, OnItsOwn, with_own}
-use Rattle.edi_statuses.specs.Means.{AtRecord, HasBegun, BrokeDemo, ComesToBreak, Means, MeansOf, MeansRefused, RanWhole, RanUnkept, Wants, IsOpen}
-use Rattle.edi_statuses.specs.Means.{ArePutInPart, with_shown}
+use Rattle.edi_statuses.specs.Broken.{AtRecord, HasBegun, BrokeDemo, RanWhole, RanUnkept, IsOpen, ArePutInPart}
+use Rattle.edi_statuses.specs.Means.{ComesToBreak, Means, MeansOf, MeansRefused, Wants, with_shown}
 use Rattle.edi_statuses.proofs.Terminal.{StillTold, asks_later, fetch_fails_later, run_later, exec_later, text_later, old_later, put_later, get_later, nothing_later, begun_later}
 use Rattle.edi_statuses.proofs.Terminal.{drive_later, keeps_later, blocks_later, code_later, runs_later, whole_later, unkept_later, broke_later}
 use Rattle.edi_statuses.proofs.Terminal.{record_later, does_later, list_later, shows_later, front_later, demo_later}
@@ -257,6 +257,19 @@ module _ (b m : Outside) (y : Option (List ℕ)) (still : StillTold m.shown y) w
         (h.0, list_later b m y still file (goes h.0) h.1, front_later b m y still (listing_of h.0.words) shown kernel h.2);
   }
 
+  check_is : (file shown : List ℕ) (kernel : Lent) → Later (words.check file) shown kernel
+  check_is file shown kernel = record {
+    comes = λ s. does_later b m y still (TextSteps before_ file) (TextSteps seen_later file) (λ a. IsDone (ShowsReport a.1))
+        (λ a. IsDone (ShowsReport a.1)) s shown kernel (text_later b m y still file)
+        (λ a h. (h.0, (h.1.0, h.1.1, shows_later b m y still h.1.0 shown kernel h.1.2)));
+    wants = nothing_later b m y still shown kernel;
+    files = λ h. absurd h;
+    drive = λ h. absurd h;
+    input = λ h. absurd h;
+    output = λ h.
+        (h.0, text_later b m y still file (goes h.0) h.1, (h.2.0, h.2.1, front_later b m y still h.2.0 shown kernel h.2.2));
+  }
+
   -- one that is not there
   none_is : (c : Command) (shown : List ℕ) (kernel : Lent) → ((s : Status) → Comes c s before_ m shown kernel → ⊥)
       → (Wants c before_ m shown kernel → Wants c seen_later later_ shown kernel) → (ComesToBreak status.FileFault c before_ m shown kernel → ⊥)
@@ -282,8 +295,7 @@ module _ (b m : Outside) (y : Option (List ℕ)) (still : StillTold m.shown y) w
   each_is (words.list file) shown kernel = list_is file shown kernel
   each_is (words.demo n options) shown kernel = demo_is n options shown kernel
   each_is (words.boot options) shown kernel = boot_is options shown kernel
-  each_is (words.check file) shown kernel =
-      none_is (words.check file) shown kernel (λ s h. h) (nothing_later b m y still shown kernel) (λ h. h) (λ h. h) (λ h. h) (λ h. h)
+  each_is (words.check file) shown kernel = check_is file shown kernel
   each_is (words.walk file choices turns) shown kernel =
       none_is (words.walk file choices turns) shown kernel (λ s h. h) (nothing_later b m y still shown kernel) (λ h. h) (λ h. h) (λ h. h) (λ h. h)
   each_is (words.watch file points out options) shown kernel =

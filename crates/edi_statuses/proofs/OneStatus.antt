@@ -1,5 +1,5 @@
 -- Contents that are told decide the status of a command and what it shows before the line of the status.
-use Rattle.std.proofs.Common.{◌≡◌, ◌∙◌, ℕ, List, [], ◌∷◌, ◌++◌, Option, Some, None, IsSome, true≢false, false, refl, sym, ap, subst, rules}
+use Rattle.std.proofs.Common.{◌≡◌, ◌∙◌, ℕ, List, [], ◌∷◌, ◌++◌, Option, Some, None, IsSome, true≢false, false, refl, sym, ap, subst, inl, inr, rules}
 use Rattle.std.proofs.lemmas.List.{append_cancel_left}
 use Rattle.edi_told.specs.Told.{WhereTold}
 use Rattle.edi_calls.specs.Choice.{Choices}
@@ -8,6 +8,9 @@ use Rattle.edi_calls.specs.State.{State, fresh}
 use Rattle.edi_target.specs.Fetch.{fetch}
 use Rattle.edi_target.proofs.Runs.{runs_are_determined}
 use Rattle.edi_texts.proofs.Executions.{one_outcome}
+use Rattle.edi_unit.specs.Fits.{Fits}
+use Rattle.edi_unit.specs.Tree.{ProgramUnit}
+use Rattle.edi_disjoint.proofs.One.{one_report}
 use Rattle.edi_utils.specs.Demo.{demo_text}
 use Rattle.edi_utils.specs.Listing.{listing_of}
 use Rattle.edi_words.specs.Words as words
@@ -15,10 +18,10 @@ use Rattle.edi_words.specs.Words.{ChoicesFrom, Command}
 use Rattle.edi_statuses.specs.declared.status.Status.{Status}
 use Rattle.edi_statuses.specs.Outside.{Outside, Devices, devices_of, system_on, KernelLeft, Lent}
 use Rattle.edi_statuses.specs.Executions.{Runnable, text, code, HasOutcome, HasRun, status_of}
-use Rattle.edi_statuses.specs.Commands.{Comes, IsDone, OnlyBlocks, OnlyKeeps, OnlyShows, KeepsCode, Runs, AreNew, AreMigrated, ArePut}
+use Rattle.edi_statuses.specs.Commands.{Comes, IsDone, OnlyBlocks, OnlyKeeps, OnlyShows, ShowsReport, KeepsCode, Runs, AreNew, AreMigrated, ArePut}
 use Rattle.edi_statuses.specs.Commands.{RunSteps, ExecSteps, TextSteps, OldSteps, PutSteps, GetSteps, ListSteps, DemoSteps}
 use Rattle.edi_statuses.specs.Commands.{Demonstrates, size_shown, with_own}
-use Rattle.edi_statuses.specs.Steps.{Ready}
+use Rattle.edi_statuses.specs.Steps.{goes, ◌>>=◌, Accepts, Ready}
 use Rattle.edi_statuses.specs.Means.{IsTold, OneStatus, is_session}
 use Rattle.edi_statuses.proofs.StepLemmas.{IsOne, TextsAreOne, ready_one, then_one, tests_one, fetches_one, choices_one, accepts_one, mounts_one}
 use Rattle.edi_statuses.proofs.StepLemmas.{loads_one, old_one, has_place_one, reads_one, IsOneEffect, does_one}
@@ -111,6 +114,10 @@ module _ (each : TextsAreOne) (before after behind : Outside) (is_told : IsTold 
   shows_one : (all : List ℕ) → IsOneEffect before after behind (IsDone (OnlyShows all))
   shows_one all s t shown bytes kernel other h k = (h.0 ∙ sym k.0, h.1.shown_ ∙ sym k.1.shown_)
 
+  report_one : (unit : ProgramUnit) → Fits unit → IsOneEffect before after behind (IsDone (ShowsReport unit))
+  report_one unit fits s t shown bytes kernel other h k =
+      (h.0 ∙ sym k.0, h.1.2.shown_ ∙ one_report unit fits h.1.0 k.1.0 h.1.1 k.1.1 ∙ sym k.1.2.shown_)
+
   code_one : (out bytes_ : List ℕ) → IsOneEffect before after behind (IsDone (KeepsCode out bytes_))
   code_one out bytes_ s t shown bytes kernel other h k = (h.0 ∙ sym k.0, h.1.keeps.shown_ ∙ sym k.1.keeps.shown_)
 
@@ -127,6 +134,15 @@ module _ (each : TextsAreOne) (before after behind : Outside) (is_told : IsTold 
   compile_steps : (file : List ℕ) → IsOne (TextSteps before file)
   compile_steps file =
       then_one _ _ (fetches_one before is_told.files file) (λ bytes. then_one _ _ (accepts_one each bytes) (λ unit. ready_one _))
+
+  accepted_fits : (bytes : List ℕ) (a : List ℕ × ProgramUnit) → (Accepts bytes >>= λ unit. Ready (bytes, unit)) (goes a) → Fits a.1
+  accepted_fits bytes a (inl never) = absurd never
+  accepted_fits bytes a (inr h) = subst (λ (x : List ℕ × ProgramUnit). Fits x.1) (sym h.2) (each.fits bytes h.0 h.1)
+
+  -- the unit of a text that was fetched fits
+  unit_fits : (file : List ℕ) (a : List ℕ × ProgramUnit) → TextSteps before file (goes a) → Fits a.1
+  unit_fits file a (inl never) = absurd never
+  unit_fits file a (inr h) = accepted_fits h.0 a h.2
 
   old_steps : (blocks : ℕ) (file : List ℕ) → IsOne (OldSteps before blocks file)
   old_steps blocks file =
@@ -151,27 +167,30 @@ module _ (each : TextsAreOne) (before after behind : Outside) (is_told : IsTold 
   -- each command has one status and shows one thing
   comes_one : (c : Command) → is_session c ≡ false → IsOneEffect before after behind (Comes c)
   comes_one (words.run file o) no_session = does_one before after behind (RunSteps before file o.choices)
-      (λ a. Runs (text a.0) o.turns a.1 o.record_file) (text_steps file o.choices) (λ a. runs_one (text a.0) o.turns a.1 o.record_file)
+      (λ a. Runs (text a.0) o.turns a.1 o.record_file) (text_steps file o.choices) (λ a went. runs_one (text a.0) o.turns a.1 o.record_file)
   comes_one (words.replay file choices turns) no_session = does_one before after behind (RunSteps before file (words.file choices))
-      (λ a. Runs (text a.0) turns a.1 None) (text_steps file (words.file choices)) (λ a. runs_one (text a.0) turns a.1 None)
+      (λ a. Runs (text a.0) turns a.1 None) (text_steps file (words.file choices)) (λ a went. runs_one (text a.0) turns a.1 None)
   comes_one (words.exec file o) no_session = does_one before after behind (ExecSteps before file o.choices)
-      (λ a. Runs (code a.0) o.turns a.1 o.record_file) (code_steps file o.choices) (λ a. runs_one (code a.0) o.turns a.1 o.record_file)
+      (λ a. Runs (code a.0) o.turns a.1 o.record_file) (code_steps file o.choices) (λ a went. runs_one (code a.0) o.turns a.1 o.record_file)
   comes_one (words.compile file out) no_session = does_one before after behind (TextSteps before file)
-      (λ a. IsDone (KeepsCode out a.0)) (compile_steps file) (λ a. code_one out a.0)
+      (λ a. IsDone (KeepsCode out a.0)) (compile_steps file) (λ a went. code_one out a.0)
   comes_one (words.newdisk blocks None) no_session = does_one before after behind (Ready blocks)
-      (λ n. IsDone (OnlyBlocks (AreNew n))) (ready_one blocks) (λ n. blocks_one (AreNew n))
+      (λ n. IsDone (OnlyBlocks (AreNew n))) (ready_one blocks) (λ n went. blocks_one (AreNew n))
   comes_one (words.newdisk blocks (Some file)) no_session = does_one before after behind (OldSteps before blocks file)
-      (λ old. IsDone (OnlyBlocks (AreMigrated blocks old))) (old_steps blocks file) (λ old. blocks_one (AreMigrated blocks old))
+      (λ old. IsDone (OnlyBlocks (AreMigrated blocks old))) (old_steps blocks file) (λ old went. blocks_one (AreMigrated blocks old))
   comes_one (words.put file title) no_session = does_one before after behind (PutSteps before file title)
-      (λ bytes. IsDone (OnlyBlocks (ArePut title bytes))) (put_steps file title) (λ bytes. blocks_one (ArePut title bytes))
+      (λ bytes. IsDone (OnlyBlocks (ArePut title bytes))) (put_steps file title) (λ bytes went. blocks_one (ArePut title bytes))
   comes_one (words.get title file) no_session = does_one before after behind (GetSteps before title)
-      (λ bytes. IsDone (OnlyKeeps ((file, bytes) ∷ []))) (get_steps title) (λ bytes. keeps_one ((file, bytes) ∷ []))
+      (λ bytes. IsDone (OnlyKeeps ((file, bytes) ∷ []))) (get_steps title) (λ bytes went. keeps_one ((file, bytes) ∷ []))
   comes_one (words.list file) no_session = does_one before after behind (ListSteps before file)
-      (λ parts. IsDone (OnlyShows (listing_of parts.words))) (list_steps file) (λ parts. shows_one (listing_of parts.words))
+      (λ parts. IsDone (OnlyShows (listing_of parts.words))) (list_steps file) (λ parts went. shows_one (listing_of parts.words))
   comes_one (words.demo n o) no_session = does_one before after behind (DemoSteps before o.choices)
-      (λ choices. Demonstrates n o.turns choices o.record_file) (demo_steps o.choices) (λ choices. demo_one n o.turns choices o.record_file)
+      (λ choices. Demonstrates n o.turns choices o.record_file) (demo_steps o.choices) (λ choices went. demo_one n o.turns choices o.record_file)
+  comes_one (words.check file) no_session = does_one before after behind (TextSteps before file)
+      (λ a. IsDone (ShowsReport a.1)) (compile_steps file) (λ a went. report_one a.1 (unit_fits file a went))
   comes_one (words.boot o) no_session = absurd (true≢false no_session)
-  comes_one _ no_session = λ s t shown bytes kernel other h k. absurd h
+  comes_one (words.walk file choices turns) no_session = λ s t shown bytes kernel other h k. absurd h
+  comes_one (words.watch file points out o) no_session = λ s t shown bytes kernel other h k. absurd h
 
 -- THE LAW
 pub one_status : TextsAreOne → OneStatus

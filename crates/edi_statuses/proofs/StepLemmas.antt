@@ -6,6 +6,7 @@ use Rattle.std.specs.Prelude.{⊤}
 use Rattle.edi_image.specs.migrate.OldImage.{old_fault_of}
 use Rattle.edi_words.specs.Words.{ChoicesFrom, nowhere, file, seed}
 use Rattle.edi_trace.specs.Lines.{Reading, values, bad_line, read_of}
+use Rattle.edi_unit.specs.Fits.{Fits}
 use Rattle.edi_unit.specs.Tree.{ProgramUnit}
 use Rattle.edi_texts.specs.declared.kind.RefusalKind.{RefusalKind}
 use Rattle.edi_texts.specs.declared.refusal.Pass.{Pass}
@@ -80,12 +81,13 @@ tests_one passes refusal (goes a) (stops t) h k = absurd (true≢false (sym h �
 tests_one passes refusal (stops s) (goes b) h k = absurd (true≢false (sym k ∙ h.0))
 tests_one passes refusal (stops s) (stops t) h k = ap (λ x. stops x) (h.1 ∙ sym k.1)
 
--- no text has two first faults, or one beside a unit, or two units
+-- no text has two first faults, or one beside a unit, or two units; and a unit that it has fits
 pub record TextsAreOne : Type 0 where
   pub one_fault : (text : List ℕ) (p q : Pass) (k l : RefusalKind) (m n : ℕ) → IsFault text p k m → IsFault text q l n
       → (p ≡ q) × (k ≡ l) × (m ≡ n)
   pub not_both : (text : List ℕ) (p : Pass) (k : RefusalKind) (m : ℕ) (unit : ProgramUnit) → IsFault text p k m → IsUnit text unit → ⊥
   pub one_unit : (text : List ℕ) (one other : ProgramUnit) → IsUnit text one → IsUnit text other → one ≡ other
+  pub fits : (text : List ℕ) (unit : ProgramUnit) → IsUnit text unit → Fits unit
 
 -- ---- the steps
 
@@ -169,7 +171,7 @@ module _ (before after behind : Outside) where
       (s t : Status) (shown bytes : List ℕ) (kernel other : Lent)
       → effect s before after shown kernel → effect t before behind bytes other → (s ≡ t) × (shown ≡ bytes)
 
-  pub does_one : {A : Type 0} (steps : AfterStep A → Type 0) (effect : A → CommandEffect) → IsOne steps → ((a : A) → IsOneEffect (effect a))
+  pub does_one : {A : Type 0} (steps : AfterStep A → Type 0) (effect : A → CommandEffect) → IsOne steps → ((a : A) → steps (goes a) → IsOneEffect (effect a))
       → IsOneEffect (Does steps effect)
   does_one steps effect one ones s t shown bytes kernel other (inl h) (inl k) =
       (ap (λ r. status_or s r) (one (stops s) (stops t) h.0 k.0), h.1.shown_ ∙ sym k.1.shown_)
@@ -179,4 +181,4 @@ module _ (before after behind : Outside) where
       absurd (not_both h.0 t (one (goes h.0) (stops t) h.1 k.0))
   does_one steps effect one ones s t shown bytes kernel other (inr h) (inr k) =
       let same = ap (λ x. value_or h.0 x) (one (goes h.0) (goes k.0) h.1 k.1) in
-      ones k.0 s t shown bytes kernel other (subst (λ a. effect a s before after shown kernel) same h.2) k.2
+      ones k.0 k.1 s t shown bytes kernel other (subst (λ a. effect a s before after shown kernel) same h.2) k.2

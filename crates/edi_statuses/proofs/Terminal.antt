@@ -23,7 +23,9 @@ use Rattle.edi_session.specs.Session.{IsMomentOfSession}
 use Rattle.edi_statuses.specs.Sessions.{BootSteps, BrokeSession, HasEnded, EndedWhole, HoldsSession, shell_on}
 use Rattle.edi_statuses.specs.Commands.{CommandEffect, Does, IsNothing, OnlyKeeps, OnlyBlocks, OnlyShows, KeepsCode, Runs, HasPlace, ReadsTitle}
 use Rattle.edi_statuses.specs.Commands.{RunSteps, ExecSteps, TextSteps, OldSteps, PutSteps, GetSteps, ListSteps, DemoSteps}
-use Rattle.edi_statuses.specs.Means.{AsksDrive, AtRecord, FetchFails, HasNotBegun, ChangesDrive, ShowsFront, RanWhole, RanUnkept, with_shown}
+use Rattle.edi_statuses.specs.Broken.{AtRecord, HasNotBegun, ChangesDrive, ShowsFront, RanWhole, RanUnkept}
+use Rattle.edi_statuses.specs.Facts.{FirstFile, no_file, file_named, file_of_choices, facts_of}
+use Rattle.edi_statuses.specs.Means.{AsksDrive, FetchFails, IsThere, with_shown}
 
 -- what is told later was told before
 abbrev pub StillTold : {A : Type 0} → (x y : Option A) → Type 0
@@ -200,17 +202,13 @@ module _ (b m : Outside) (y : Option (List ℕ)) (still : StillTold m.shown y) w
   there_later (words.file name) h = h
   there_later (words.seed n) h = h
 
+  is_there_later : (first : FirstFile) → IsThere first seen_then → IsThere first seen_now
+  is_there_later no_file h = absurd h
+  is_there_later (file_named name) h = h
+  is_there_later (file_of_choices from) h = there_later from h
+
   pub fetch_fails_later : (c : Command) → FetchFails c seen_then → FetchFails c seen_now
-  fetch_fails_later (words.run file o) h = h
-  fetch_fails_later (words.replay file choices turns) h = h
-  fetch_fails_later (words.exec file o) h = h
-  fetch_fails_later (words.boot o) h = there_later o.choices h
-  fetch_fails_later (words.compile file out) h = h
-  fetch_fails_later (words.newdisk blocks (Some file)) h = h
-  fetch_fails_later (words.put file title) h = h
-  fetch_fails_later (words.list file) h = h
-  fetch_fails_later (words.demo n o) h = there_later o.choices h
-  fetch_fails_later _ h = absurd h
+  fetch_fails_later c h = is_there_later (facts_of c).fetches h
 
   -- ---- the effects
 

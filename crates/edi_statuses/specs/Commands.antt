@@ -1,4 +1,4 @@
--- Words of contracts. THE COMMANDS: the steps of each in their order, and its effect.
+-- Definition. THE COMMANDS: the steps of each in their order, and its effect.
 use Rattle.std.specs.Prelude.{IfSome, ◌≡◌, ◌≤◌, ◌⊎◌, ℕ, ◌-◌, ◌==◌, Bool, true, false, ◌&&◌, ◌||◌, nat_lt, if◌then◌else◌, is_none}
 use Rattle.std.specs.Prelude.{List, [], ◌∷◌, ◌++◌, length, Option, Some, None, option_map, Result, Ok, Err}
 use Rattle.edi_told.specs.Told.{WhereTold}
@@ -20,6 +20,7 @@ use Rattle.edi_image.specs.migrate.OldFiles.{migrated_slots}
 use Rattle.edi_target.specs.Check.{CodeParts}
 use Rattle.edi_target.specs.File.{code_bytes}
 use Rattle.edi_unit.specs.Tree.{ProgramUnit}
+use Rattle.edi_disjoint.specs.Report.{IsReport}
 use Rattle.edi_utils.specs.Demo.{demo_text, demo_line}
 use Rattle.edi_utils.specs.Listing.{listing_of}
 use Rattle.edi_texts.specs.Run.{IsCodeFor}
@@ -49,7 +50,7 @@ ExecSteps o file from =
     Fetches o file >>= λ bytes. ReadsChoices o from >>= λ choices. Loads bytes >>= λ parts. Mounts o >>= λ done.
     Ready (parts, choices)
 
--- `compile FILE OUT`: fetches the text, compiles
+-- `compile FILE OUT` and `check FILE`: fetches the text, reads it
 abbrev pub TextSteps : Outside → (file : List ℕ) → AfterStep (List ℕ × ProgramUnit) → Type 0
 TextSteps o file = Fetches o file >>= λ bytes. Accepts bytes >>= λ unit. Ready (bytes, unit)
 
@@ -137,6 +138,10 @@ pub record OnlyShows (bytes : List ℕ) (before after : Outside) (shown : List �
   pub shown_ : shown ≡ bytes
   pub same : IsAsBefore before after
   pub kernel_same : kernel.after ≡ kernel.before
+
+-- the report on the branches of a program is shown, and nothing else is changed
+abbrev pub ShowsReport : ProgramUnit → Outside → Outside → (shown : List ℕ) → Lent → Type 0
+ShowsReport unit before after shown kernel = (report : List ℕ) × IsReport unit report × OnlyShows report before after shown kernel
 
 -- A program is run to its ending, which the status tells, and the record of its choices is kept.
 pub record Runs (program : Runnable) (bound : ℕ) (choices : Choices) (record_file : Option (List ℕ)) (s : Status)
@@ -240,4 +245,7 @@ Comes (words.list file) s before after shown kernel =
     Does (ListSteps before file) (λ parts. IsDone (OnlyShows (listing_of parts.words))) s before after shown kernel
 Comes (words.demo n o) s before after shown kernel =
     Does (DemoSteps before o.choices) (λ choices. Demonstrates n o.turns choices o.record_file) s before after shown kernel
-Comes _ s before after shown kernel = ⊥
+Comes (words.check file) s before after shown kernel =
+    Does (TextSteps before file) (λ a. IsDone (ShowsReport a.1)) s before after shown kernel
+Comes (words.walk file choices turns) s before after shown kernel = ⊥
+Comes (words.watch file points out o) s before after shown kernel = ⊥

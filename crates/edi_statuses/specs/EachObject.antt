@@ -1,6 +1,6 @@
--- Words of contracts. What a call leaves of each object by itself, whatever it or the others tell: which objects a command uses, which
--- it has not come to, how many blocks the drive has, and what each object holds that tells it.
-use Rattle.std.specs.Prelude.{◌≡◌, ◌≤◌, ◌<◌, ◌⊎◌, ℕ, Bool, true, false, not, ◌&&◌, ◌||◌, List, Option, Some, None, is_none, ⊤}
+-- Definition. What a call leaves of each object by itself, whatever it or the others tell: which objects a command uses, which
+-- it has not come to, how many blocks the drive has, and what each object holds that tells it. All of it is read off the table of commands.
+use Rattle.std.specs.Prelude.{◌≡◌, ◌≤◌, ◌<◌, ◌⊎◌, ℕ, Bool, true, false, not, ◌&&◌, ◌||◌, List, [], ◌∷◌, Option, Some, None, is_none, ⊤}
 use Rattle.edi_told.specs.Faults.{CountRose}
 use Rattle.edi_told.specs.Told.{WhereTold}
 use Rattle.edi_catalog.specs.Taken.{IsOfCount}
@@ -11,36 +11,31 @@ use Rattle.edi_words.specs.Words.{ChoicesFrom, Command, Options}
 use Rattle.edi_statuses.specs.declared.status.Status.{Status}
 use Rattle.edi_statuses.specs.declared.status.Status.TheVariants as status
 use Rattle.edi_statuses.specs.Outside.{Outside}
+use Rattle.edi_statuses.specs.Facts.{FirstFile, no_file, file_named, file_of_choices, facts_of}
+use Rattle.edi_statuses.specs.Facts.{DriveUse, leaves_drive, mounts_last, mounts_first, formats_to}
 
 -- ---- which objects a command uses
 
--- a run and a session see the terminal and the printer, and run on the lent kernel
+-- the terminal and the printer
 abbrev pub uses_devices : Command → Bool
-uses_devices (words.run file o) = true
-uses_devices (words.replay file choices turns) = true
-uses_devices (words.exec file o) = true
-uses_devices (words.boot o) = true
-uses_devices (words.demo n o) = true
-uses_devices _ = false
+uses_devices c = (facts_of c).devices
 
--- and the input, but for the demonstration, which has one of its own
+abbrev pub uses_kernel : Command → Bool
+uses_kernel c = (facts_of c).kernel
+
 abbrev pub uses_input : Command → Bool
-uses_input (words.demo n o) = false
-uses_input c = uses_devices c
+uses_input c = (facts_of c).input
+
+abbrev pub asks_for_drive : DriveUse → Bool
+asks_for_drive leaves_drive = false
+asks_for_drive other = true
 
 abbrev pub uses_drive : Command → Bool
-uses_drive (words.newdisk blocks old) = true
-uses_drive (words.put file title) = true
-uses_drive (words.get title file) = true
-uses_drive c = uses_input c
+uses_drive c = asks_for_drive (facts_of c).drive
 
 -- of what these show there is only the line of their status
 abbrev pub is_silent : Command → Bool
-is_silent (words.compile file out) = true
-is_silent (words.newdisk blocks old) = true
-is_silent (words.put file title) = true
-is_silent (words.get title file) = true
-is_silent _ = false
+is_silent c = (facts_of c).silent
 
 -- the choices stand in a file
 abbrev pub is_in_file : ChoicesFrom → Bool
@@ -52,11 +47,20 @@ is_in_file (words.seed n) = false
 abbrev pub names_file : Options → Bool
 names_file o = is_in_file o.choices || not (is_none o.record_file)
 
+abbrev pub is_fetched : FirstFile → Bool
+is_fetched no_file = false
+is_fetched (file_named name) = true
+is_fetched (file_of_choices from) = is_in_file from
+
+abbrev pub has_names : List (List ℕ) → Bool
+has_names [] = false
+has_names (name ∷ names) = true
+
+-- a file is fetched or kept
 abbrev pub uses_files : Command → Bool
-uses_files (words.newdisk blocks None) = false
-uses_files (words.boot o) = names_file o
-uses_files (words.demo n o) = names_file o
-uses_files _ = true
+uses_files c =
+    let f = facts_of c in
+    is_fetched f.fetches || (has_names f.keeps || not (is_none f.record_file))
 
 -- so, where there is a command
 abbrev pub command_does : (Command → Bool) → Option Command → Bool
@@ -87,11 +91,15 @@ is_before_format (status.BadImage broken) = true
 is_before_format status.DiskFull = true
 is_before_format s = false
 
--- A command with this status has come to no object but the files. `get` asks the drive first.
+-- A command with this status has come to no object but the files. One that asks the drive first has always come to it.
+abbrev pub stops_by : DriveUse → Status → Bool
+stops_by leaves_drive s = is_before_drive s
+stops_by mounts_last s = is_before_drive s
+stops_by mounts_first s = false
+stops_by (formats_to blocks) s = is_before_format s
+
 abbrev pub stops_first : Command → Status → Bool
-stops_first (words.newdisk blocks old) s = is_before_format s
-stops_first (words.get title file) s = false
-stops_first c s = is_before_drive s
+stops_first c s = stops_by (facts_of c).drive s
 
 -- whether it may have come to an object that it uses
 abbrev pub comes_to : (Command → Bool) → Option Command → Status → Bool
@@ -117,7 +125,7 @@ pub record UnusedStay {F D S T P K : Type 0} (c : Option Command) (s : Status) (
   pub drive : comes_to uses_drive c s ≡ false → after.drive ≡ before.drive
   pub input : comes_to uses_input c s ≡ false → after.input ≡ before.input
   pub printer : comes_to uses_devices c s ≡ false → after.printer ≡ before.printer
-  pub kernel : comes_to uses_devices c s ≡ false → after.kernel ≡ before.kernel
+  pub kernel : comes_to uses_kernel c s ≡ false → after.kernel ≡ before.kernel
 
 -- the devices and the kernel are not touched
 pub record DevicesStay {F D S T P K : Type 0} (before after : Handed F D S T P K) : Type 0 where
@@ -163,15 +171,15 @@ CountsNew status.OutputFault wanted old new had has = (new ≡ old) ⊎ CountRos
 CountsNew s wanted old new had has = new ≡ old
 
 -- every other command leaves it, and the status of one that mounts the drive fits it
+abbrev pub CountsUsed : DriveUse → Status → (old new had has : ℕ) → Type 0
+CountsUsed leaves_drive s old new had has = new ≡ old
+CountsUsed mounts_last s old new had has = (new ≡ old) × FitsCount s old
+CountsUsed mounts_first s old new had has = (new ≡ old) × FitsGet s old
+CountsUsed (formats_to blocks) s old new had has = CountsNew s blocks old new had has
+
 abbrev pub CountsBlocks : Option Command → Status → (old new had has : ℕ) → Type 0
-CountsBlocks (Some (words.newdisk blocks image)) s old new had has = CountsNew s blocks old new had has
-CountsBlocks (Some (words.run file o)) s old new had has = (new ≡ old) × FitsCount s old
-CountsBlocks (Some (words.replay file choices turns)) s old new had has = (new ≡ old) × FitsCount s old
-CountsBlocks (Some (words.exec file o)) s old new had has = (new ≡ old) × FitsCount s old
-CountsBlocks (Some (words.boot o)) s old new had has = (new ≡ old) × FitsCount s old
-CountsBlocks (Some (words.put file title)) s old new had has = (new ≡ old) × FitsCount s old
-CountsBlocks (Some (words.get title file)) s old new had has = (new ≡ old) × FitsGet s old
-CountsBlocks c s old new had has = new ≡ old
+CountsBlocks None s old new had has = new ≡ old
+CountsBlocks (Some c) s old new had has = CountsUsed (facts_of c).drive s old new had has
 
 -- ---- what each object holds that tells it, whatever the others tell
 
@@ -179,10 +187,13 @@ CountsBlocks c s old new had has = new ≡ old
 abbrev pub KeepsImage : (old new : List (List ℕ)) → Type 0
 KeepsImage old new = mount_fault_of old ≡ None → mount_fault_of new ≡ None
 
--- `newdisk` puts another image in its place
+-- a format puts another image in its place
+abbrev pub is_format : DriveUse → Bool
+is_format (formats_to blocks) = true
+is_format other = false
+
 abbrev pub formats : Command → Bool
-formats (words.newdisk blocks old) = true
-formats c = false
+formats c = is_format (facts_of c).drive
 
 -- A valid image stays one, the input only loses its first bytes, and what the printer has taken only grows.
 pub record LeavesEach (c : Option Command) (before after : Outside) : Type 0 where

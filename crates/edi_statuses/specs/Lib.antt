@@ -2,11 +2,13 @@ pub mod Counts
 pub mod Lines
 pub mod Showing
 pub mod Outside
-pub mod EachObject
 pub mod Steps
 pub mod Executions
 pub mod Sessions
 pub mod Commands
+pub mod Broken
+pub mod Facts
+pub mod EachObject
 pub mod Means
 pub mod OnFiles
 pub mod Rows

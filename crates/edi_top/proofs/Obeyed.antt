@@ -21,35 +21,17 @@ use Rattle.edi_commands.specs.run.RunMeans.{replaying}
 use Rattle.edi_commands.proofs.run.Meaning.{replayed}
 use Rattle.edi_top.specs.Built.{built}
 use Rattle.edi_statuses.specs.Lines.{text_of}
-use Rattle.edi_statuses.specs.EachObject.{CountsBlocks, CountsNew, FitsCount, FitsGet, Handed, KeepsImage, LeavesEach, UnusedStay, comes_to, formats, handed, stops_first}
-use Rattle.edi_statuses.specs.EachObject.{uses_devices, uses_drive, uses_input}
+use Rattle.edi_statuses.specs.Facts.{DriveUse, leaves_drive, mounts_last, mounts_first, formats_to, facts_of}
+use Rattle.edi_statuses.specs.EachObject.{CountsBlocks, CountsNew, CountsUsed, FitsCount, FitsGet, Handed, KeepsImage, LeavesEach, UnusedStay}
+use Rattle.edi_statuses.specs.EachObject.{comes_to, formats, handed, stops_by, stops_first, uses_devices, uses_drive, uses_input, uses_kernel}
 use Rattle.edi_statuses.specs.Means.{Came}
 
 pub no_words : (f : Option commands.Command) (x : Option Command) → option_map view f ≡ x → f ≡ None → built x ≡ None
 no_words f x exact none = subst (λ y. built y ≡ None) exact (subst (λ g. built (option_map view g) ≡ None) (sym none) refl)
 
--- a command that is none of those that are built
-pub not_built : (c : commands.Command) → ((file : Bor Text) (o : Options) → c ≡ command.Run file o → ⊥)
-    → ((file choices : Bor Text) (turns : ℕ) → c ≡ command.Replay file choices turns → ⊥)
-    → ((file : Bor Text) (o : Options) → c ≡ command.Exec file o → ⊥) → ((file out : Bor Text) → c ≡ command.Compile file out → ⊥)
-    → ((blocks : ℕ) (old : Option (Bor Text)) → c ≡ command.NewDisk blocks old → ⊥)
-    → ((file title : Bor Text) → c ≡ command.Put file title → ⊥) → ((title file : Bor Text) → c ≡ command.Get title file → ⊥)
-    → ((file : Bor Text) → c ≡ command.List file → ⊥) → ((n : ℕ) (o : Options) → c ≡ command.Demo n o → ⊥)
-    → ((o : Options) → c ≡ command.Boot o → ⊥)
-    → built (Some (view c)) ≡ None
-not_built (command.Run file o) run replay exec compile new put get list demo boot = absurd (run file o refl)
-not_built (command.Replay file choices turns) run replay exec compile new put get list demo boot = absurd (replay file choices turns refl)
-not_built (command.Exec file o) run replay exec compile new put get list demo boot = absurd (exec file o refl)
-not_built (command.Compile file out) run replay exec compile new put get list demo boot = absurd (compile file out refl)
-not_built (command.NewDisk blocks old) run replay exec compile new put get list demo boot = absurd (new blocks old refl)
-not_built (command.Put file title) run replay exec compile new put get list demo boot = absurd (put file title refl)
-not_built (command.Get title file) run replay exec compile new put get list demo boot = absurd (get title file refl)
-not_built (command.Boot o) run replay exec compile new put get list demo boot = absurd (boot o refl)
-not_built (command.List file) run replay exec compile new put get list demo boot = absurd (list file refl)
-not_built (command.Demo n o) run replay exec compile new put get list demo boot = absurd (demo n o refl)
-not_built (command.Check file) run replay exec compile new put get list demo boot = refl
-not_built (command.Walk file choices turns) run replay exec compile new put get list demo boot = refl
-not_built (command.Watch file stops out o) run replay exec compile new put get list demo boot = refl
+-- a command that is not built
+pub not_built : (c d : commands.Command) → c ≡ d → built (Some (view d)) ≡ None → built (Some (view c)) ≡ None
+not_built c d is none = subst (λ x. built (Some (view x)) ≡ None) (sym is) none
 
 -- a command as the code has it
 pub obeyed_so : (c d : commands.Command) (s : Status) (due : Bool) (before after : Outside) (kernel : Lent) → c ≡ d
@@ -115,23 +97,25 @@ fits_closed : (s t : Status) (count : ℕ) → (t ≡ s) ⊎ (t ≡ status.Outpu
 fits_closed s t count (inl same) h = subst (λ x. FitsCount x count) (sym same) h
 fits_closed s t count (inr fault) h = subst (λ x. FitsCount x count) (sym fault) tt
 
+get_closed : (s t : Status) (count : ℕ) → (t ≡ s) ⊎ (t ≡ status.OutputFault) → FitsGet s count → FitsGet t count
+get_closed s t count (inl same) h = subst (λ x. FitsGet x count) (sym same) h
+get_closed s t count (inr fault) h = subst (λ x. FitsGet x count) (sym fault) tt
+
+used_closed : (drive : DriveUse) (s t : Status) (old new had has : ℕ) → (t ≡ s) ⊎ (t ≡ status.OutputFault) → (text_of s ≡ None → t ≡ s)
+    → (s ≡ status.DriveFault → CountRose had has) → CountsUsed drive s old new had has → CountsUsed drive t old new had has
+used_closed leaves_drive s t old new had has which silent cause h = h
+used_closed mounts_last s t old new had has which silent cause h = (h.0, fits_closed s t old which h.1)
+used_closed mounts_first s t old new had has which silent cause h = (h.0, get_closed s t old which h.1)
+used_closed (formats_to blocks) s t old new had has (inl same) silent cause h =
+    subst (λ x. CountsNew x blocks old new had has) (sym same) h
+used_closed (formats_to blocks) s t old new had has (inr fault) silent cause h =
+    subst (λ x. CountsNew x blocks old new had has) (sym fault) (cut_short s t blocks old new had has fault silent cause h)
+
 -- the status of a command is answered, or a fault of the output in its place
 pub counts_closed : (c : Option Command) (s t : Status) (old new had has : ℕ) → (t ≡ s) ⊎ (t ≡ status.OutputFault) → (text_of s ≡ None → t ≡ s)
     → (s ≡ status.DriveFault → CountRose had has) → CountsBlocks c s old new had has → CountsBlocks c t old new had has
-counts_closed (Some (words.run file o)) s t old new had has which silent cause h = (h.0, fits_closed s t old which h.1)
-counts_closed (Some (words.replay file choices turns)) s t old new had has which silent cause h = (h.0, fits_closed s t old which h.1)
-counts_closed (Some (words.exec file o)) s t old new had has which silent cause h = (h.0, fits_closed s t old which h.1)
-counts_closed (Some (words.boot o)) s t old new had has which silent cause h = (h.0, fits_closed s t old which h.1)
-counts_closed (Some (words.put file title)) s t old new had has which silent cause h = (h.0, fits_closed s t old which h.1)
-counts_closed (Some (words.get title file)) s t old new had has (inl same) silent cause h =
-    (h.0, subst (λ x. FitsGet x old) (sym same) h.1)
-counts_closed (Some (words.get title file)) s t old new had has (inr fault) silent cause h =
-    (h.0, subst (λ x. FitsGet x old) (sym fault) tt)
-counts_closed (Some (words.newdisk blocks image)) s t old new had has (inl same) silent cause h =
-    subst (λ x. CountsNew x blocks old new had has) (sym same) h
-counts_closed (Some (words.newdisk blocks image)) s t old new had has (inr fault) silent cause h =
-    subst (λ x. CountsNew x blocks old new had has) (sym fault) (cut_short s t blocks old new had has fault silent cause h)
-counts_closed c s t old new had has which silent cause h = h
+counts_closed None s t old new had has which silent cause h = h
+counts_closed (Some c) s t old new had has which silent cause h = used_closed (facts_of c).drive s t old new had has which silent cause h
 
 -- a fault of the drive has its cause
 pub drive_rose : (s : Status) (had has : Counts) → NoneFalls had has → HasCause s had has → s ≡ status.DriveFault → CountRose had.drive has.drive
@@ -141,16 +125,16 @@ drive_rose s had has later cause is = subst (λ x. HasCause x had has) is cause
 pub counts_of_none : (c : Option Command) (s : Status) (n had : ℕ) → c ≡ None → CountsBlocks c s n n had had
 counts_of_none c s n had none = subst (λ x. CountsBlocks x s n n had had) (sym none) refl
 
--- where memory was wanting for the words, no command has begun
+-- where memory ran out before the words were read, no command has begun
+used_unread : (drive : DriveUse) (n had : ℕ) → CountsUsed drive status.NoMemory n n had had
+used_unread leaves_drive n had = refl
+used_unread mounts_last n had = (refl, tt)
+used_unread mounts_first n had = (refl, tt)
+used_unread (formats_to blocks) n had = refl
+
 pub counts_unread : (c : Option Command) (s : Status) (n had : ℕ) → s ≡ status.NoMemory → CountsBlocks c s n n had had
-counts_unread (Some (words.run file o)) s n had wants = (refl, subst (λ x. FitsCount x n) (sym wants) tt)
-counts_unread (Some (words.replay file choices turns)) s n had wants = (refl, subst (λ x. FitsCount x n) (sym wants) tt)
-counts_unread (Some (words.exec file o)) s n had wants = (refl, subst (λ x. FitsCount x n) (sym wants) tt)
-counts_unread (Some (words.boot o)) s n had wants = (refl, subst (λ x. FitsCount x n) (sym wants) tt)
-counts_unread (Some (words.put file title)) s n had wants = (refl, subst (λ x. FitsCount x n) (sym wants) tt)
-counts_unread (Some (words.get title file)) s n had wants = (refl, subst (λ x. FitsGet x n) (sym wants) tt)
-counts_unread (Some (words.newdisk blocks image)) s n had wants = subst (λ x. CountsNew x blocks n n had had) (sym wants) refl
-counts_unread c s n had wants = refl
+counts_unread None s n had is = refl
+counts_unread (Some c) s n had is = subst (λ x. CountsUsed (facts_of c).drive x n n had had) (sym is) (used_unread (facts_of c).drive n had)
 
 -- a command as the code has it, and its status
 pub counts_so : (c d : commands.Command) (meant s : Status) (old new had has : ℕ) → c ≡ d → s ≡ meant
@@ -169,10 +153,11 @@ untouched_so c d meant s before after is same h =
     (subst (λ t. UnusedStay (built (Some (view d))) t before after) (sym same) h)
 
 -- a fault of the output is no status of a step
-never_first : (c : Command) → stops_first c status.OutputFault ≡ false
-never_first (words.newdisk blocks old) = refl
-never_first (words.get title file) = refl
-never_first c = refl
+never_first : (drive : DriveUse) → stops_by drive status.OutputFault ≡ false
+never_first leaves_drive = refl
+never_first mounts_last = refl
+never_first mounts_first = refl
+never_first (formats_to blocks) = refl
 
 none_comes : (uses stops never : Bool) → never ≡ false → (uses && not never) ≡ false → (uses && not stops) ≡ false
 none_comes false stops never is h = refl
@@ -184,7 +169,7 @@ comes_less : (uses : Command → Bool) (c : Option Command) (s t : Status) → (
 comes_less uses c s t (inl same) h = subst (λ x. comes_to uses c x ≡ false) same h
 comes_less uses None s t (inr fault) h = refl
 comes_less uses (Some c) s t (inr fault) h =
-    none_comes (uses c) (stops_first c s) (stops_first c status.OutputFault) (never_first c)
+    none_comes (uses c) (stops_first c s) (stops_first c status.OutputFault) (never_first (facts_of c).drive)
     (subst (λ x. comes_to uses (Some c) x ≡ false) fault h)
 
 -- the status of a command is answered, or a fault of the output in its place
@@ -195,5 +180,5 @@ untouched_closed c s t before f d i w w' p k which h = record {
   drive = λ none. h.drive (comes_less uses_drive c s t which none);
   input = λ none. h.input (comes_less uses_input c s t which none);
   printer = λ none. h.printer (comes_less uses_devices c s t which none);
-  kernel = λ none. h.kernel (comes_less uses_devices c s t which none);
+  kernel = λ none. h.kernel (comes_less uses_kernel c s t which none);
 }

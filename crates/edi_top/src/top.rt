@@ -19,7 +19,7 @@ use edi_commands::code::list;
 use edi_commands::disk::{get, new_disk, new_disk_from, put};
 use edi_commands::run::Form::{Code, Text};
 use edi_commands::run::{demonstrate, run_file};
-use edi_commands::text::compile_file;
+use edi_commands::text::{check, compile_file};
 use edi_host::{Drive, Files, Sink, Source};
 use edi_kernel::Kernel;
 use edi_statuses::{Ended, Status, show_status};
@@ -132,7 +132,9 @@ fn perform<F: Files, D: Drive, S: Source, T: Sink, P: Sink>(
             printer,
             kernel,
         ),
-        _ => silent(Status::Words),
+        Command::Check { file } => check(alloc, files, terminal, file),
+        Command::Walk { .. } => silent(Status::Words),
+        Command::Watch { .. } => silent(Status::Words),
     }
 }
 

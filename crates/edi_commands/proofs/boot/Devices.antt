@@ -1,5 +1,5 @@
 -- What a session leaves, in the words of commands.
-use Rattle.std.proofs.Common.{◌≡◌, ◌∙◌, ◌++◌, ◌+◌, ℕ, List, length, None, true, false, sym, subst}
+use Rattle.std.proofs.Common.{◌≡◌, ◌∙◌, ◌++◌, ℕ, List, length, None, true, false, sym, subst}
 use Rattle.edi_calls.specs.State.{State}
 use Rattle.edi_execute.specs.Objects.{Contents}
 use Rattle.edi_execute.specs.Objects as execute

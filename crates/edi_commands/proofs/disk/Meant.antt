@@ -6,7 +6,8 @@ use Rattle.edi_words.specs.Words.{Command}
 use Rattle.edi_statuses.specs.declared.status.Status.{Status}
 use Rattle.edi_statuses.specs.Outside.{Outside, Kept, Keeps, Lent, SameInput, SamePrinted, seen}
 use Rattle.edi_statuses.specs.Commands.{IsNothing, OnlyBlocks, OnlyKeeps}
-use Rattle.edi_statuses.specs.Means.{ChangesDrive, HasNotBegun, Means}
+use Rattle.edi_statuses.specs.Broken.{ChangesDrive, HasNotBegun}
+use Rattle.edi_statuses.specs.Means.{Means}
 use Rattle.edi_statuses.proofs.Told.{same_told, still}
 use Rattle.edi_commands.specs.disk.OnDisk.{MeansOnDisk, RestStays}
 

@@ -12,7 +12,8 @@ use Rattle.edi_statuses.specs.declared.status.Status.TheVariants as status
 use Rattle.edi_statuses.specs.Outside.{Lent, Outside}
 use Rattle.edi_statuses.specs.Commands.{AreNew}
 use Rattle.edi_statuses.specs.EachObject.{CountsNew}
-use Rattle.edi_statuses.specs.Means.{IsOpen, Means}
+use Rattle.edi_statuses.specs.Broken.{IsOpen}
+use Rattle.edi_statuses.specs.Means.{Means}
 use Rattle.edi_commands.specs.steps.OnFiles.{FetchStep}
 use Rattle.edi_commands.specs.disk.OnDisk.{MeansOnDrive, RestStays}
 use Rattle.edi_statuses.proofs.Told.{itself, still, told_so}

@@ -22,7 +22,8 @@ use Rattle.edi_statuses.specs.declared.status.Status.TheVariants as status
 use Rattle.edi_statuses.specs.Outside.{Lent, Outside, seen, still_told}
 use Rattle.edi_statuses.specs.Steps.{Fetches, IsBrokenRule, goes}
 use Rattle.edi_statuses.specs.Commands.{AreMigrated, OldSteps}
-use Rattle.edi_statuses.specs.Means.{IsOpen, Means}
+use Rattle.edi_statuses.specs.Broken.{IsOpen}
+use Rattle.edi_statuses.specs.Means.{Means}
 use Rattle.edi_commands.specs.steps.OnFiles.{files_only}
 use Rattle.edi_commands.specs.disk.OnDisk.{MeansOnDisk, RestStays}
 use Rattle.edi_statuses.proofs.Told.{still, told_so}

@@ -16,7 +16,8 @@ use Rattle.edi_statuses.specs.declared.status.Status.TheVariants as status
 use Rattle.edi_statuses.specs.Outside.{IsNoFile, IsSomeFile, Lent, Outside, seen, still_told}
 use Rattle.edi_statuses.specs.Steps.{AfterStep, Fetches, Mounts, Ready, goes, stops, ◌>>=◌}
 use Rattle.edi_statuses.specs.Commands.{ArePut, HasPlace, PutSteps, is_full}
-use Rattle.edi_statuses.specs.Means.{ArePutInPart, Means}
+use Rattle.edi_statuses.specs.Broken.{ArePutInPart}
+use Rattle.edi_statuses.specs.Means.{Means}
 use Rattle.edi_commands.specs.steps.OnFiles.{FetchStep, files_only}
 use Rattle.edi_commands.proofs.steps.OnFilesLemmas.{fetch_stopped}
 use Rattle.edi_commands.specs.disk.OnDisk.{MeansOnDisk, RestStays}

@@ -21,7 +21,8 @@ use Rattle.edi_statuses.specs.Steps.{goes, stops, Mounts}
 use Rattle.edi_statuses.specs.Executions.{BrokeRun, record_of, text}
 use Rattle.edi_statuses.specs.Commands.{DemoSteps, IsNothing, OnItsOwn, Runs, size_line, with_own}
 use Rattle.edi_statuses.specs.EachObject.{is_in_file}
-use Rattle.edi_statuses.specs.Means.{HasNotBegun, MeansOf, RanUnkept, RanWhole, names_in}
+use Rattle.edi_statuses.specs.Broken.{HasNotBegun, RanUnkept, RanWhole, names_in}
+use Rattle.edi_statuses.specs.Means.{MeansOf}
 use Rattle.edi_statuses.proofs.Told.{same_but, told_so}
 use Rattle.edi_commands.specs.steps.OnFiles.{ChoicesStep, files_only}
 use Rattle.edi_commands.specs.run.CodeRan.{CodeRan}

@@ -18,7 +18,7 @@ use Rattle.edi_statuses.specs.Steps.{goes, Mounts}
 use Rattle.edi_statuses.specs.Executions.{Runnable, HasCode, HasMoment, StandsAt, Ran, BrokeRun, record_of, status_of}
 use Rattle.edi_statuses.specs.Executions as statuses
 use Rattle.edi_statuses.specs.Commands.{Runs}
-use Rattle.edi_statuses.specs.Means.{RanWhole}
+use Rattle.edi_statuses.specs.Broken.{RanWhole}
 use Rattle.edi_commands.specs.steps.OnFiles.{RecordEnd, RecordStep}
 use Rattle.edi_commands.specs.steps.NotMounted.{mount_status}
 use Rattle.edi_commands.specs.run.CodeRan.{CodeRan, RanCode, ending_status, object_status}

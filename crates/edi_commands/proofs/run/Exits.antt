@@ -14,7 +14,7 @@ use Rattle.edi_statuses.specs.Outside.{Outside, IsSomeFile, seen, still_told, Le
 use Rattle.edi_statuses.specs.Steps.{AfterStep, goes, stops, ◌>>=◌, Ready, Fetches, GivesChoices, ReadsChoices, Mounts}
 use Rattle.edi_statuses.specs.Executions.{Runnable, HasCode}
 use Rattle.edi_statuses.specs.Commands.{IsNothing}
-use Rattle.edi_statuses.specs.Means.{HasNotBegun, WentOn}
+use Rattle.edi_statuses.specs.Broken.{HasNotBegun, WentOn}
 use Rattle.edi_commands.specs.steps.OnFiles.{FetchStep, ChoicesStep, files_only}
 use Rattle.edi_commands.specs.run.CodeRan.{CodeRan, RanCode}
 use Rattle.edi_commands.specs.run.RunMeans.{RunCame, RunMeans}

@@ -14,7 +14,8 @@ use Rattle.edi_statuses.specs.EachObject.{LeavesEach, Uses}
 use Rattle.edi_statuses.specs.Steps.{AfterStep, goes, stops, Mounts}
 use Rattle.edi_statuses.specs.Executions.{Runnable, status_of}
 use Rattle.edi_statuses.specs.Commands.{Comes, Does, Runs}
-use Rattle.edi_statuses.specs.Means.{AtRecord, Came, Far, MeansOf, Wants}
+use Rattle.edi_statuses.specs.Broken.{AtRecord}
+use Rattle.edi_statuses.specs.Means.{Came, Far, MeansOf, Wants}
 use Rattle.edi_commands.specs.run.CodeRan.{CodeRan}
 use Rattle.edi_commands.specs.run.RunMeans.{RunMeans, replaying}
 

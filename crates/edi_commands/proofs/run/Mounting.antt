@@ -14,7 +14,7 @@ use Rattle.edi_statuses.specs.Outside.{Outside, seen, still_told, SameBlocks, Sh
 use Rattle.edi_statuses.specs.Lines.{is_due}
 use Rattle.edi_statuses.specs.Steps.{goes, Mounts}
 use Rattle.edi_statuses.specs.Commands.{IsNothing}
-use Rattle.edi_statuses.specs.Means.{HasNotBegun}
+use Rattle.edi_statuses.specs.Broken.{HasNotBegun}
 use Rattle.edi_statuses.proofs.EachLeft.{each_but_drive, keeps_valid}
 use Rattle.edi_statuses.proofs.Told.{same_told, still, told_so, first_told}
 use Rattle.edi_commands.specs.steps.NotMounted.{mount_status}

@@ -22,7 +22,8 @@ use Rattle.edi_statuses.specs.Outside.{Outside, IsSomeFile, seen, still_told, Le
 use Rattle.edi_statuses.specs.Steps.{AfterStep, goes, stops, Fetches, ReadsChoices, Accepts, Loads}
 use Rattle.edi_statuses.specs.Executions.{Runnable, text, code}
 use Rattle.edi_statuses.specs.Commands.{RunSteps, ExecSteps}
-use Rattle.edi_statuses.specs.Means.{Came, ExecAsks, RunAsks}
+use Rattle.edi_statuses.specs.Broken.{ExecAsks, RunAsks}
+use Rattle.edi_statuses.specs.Means.{Came}
 use Rattle.edi_commands.specs.steps.OnFiles.{files_only}
 use Rattle.edi_commands.proofs.steps.LoadedFiles.{loads_all, stops_all}
 use Rattle.edi_commands.proofs.steps.Units.{unit_there}

@@ -13,7 +13,8 @@ use Rattle.edi_statuses.specs.declared.status.Status.TheVariants as status
 use Rattle.edi_statuses.specs.Outside.{Outside, IsSomeFile, still_told, seen, Lent, SameBlocks, SameInput, SamePrinted}
 use Rattle.edi_statuses.specs.Steps.{goes, stops, Fetches}
 use Rattle.edi_statuses.specs.Commands.{IsNothing, TextSteps}
-use Rattle.edi_statuses.specs.Means.{Means, HasNotBegun}
+use Rattle.edi_statuses.specs.Broken.{HasNotBegun}
+use Rattle.edi_statuses.specs.Means.{Means}
 use Rattle.edi_commands.specs.steps.OnFiles.{files_only}
 use Rattle.edi_statuses.proofs.Told.{still, same_told, just_told, till_the_last}
 use Rattle.edi_statuses.specs.OnFiles.{RestIsSame, MeansOnFiles}

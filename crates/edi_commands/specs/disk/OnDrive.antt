@@ -14,7 +14,7 @@ use Rattle.edi_statuses.specs.declared.status.Status.{Status}
 use Rattle.edi_statuses.specs.declared.status.Status.TheVariants as status
 use Rattle.edi_statuses.specs.Steps.{IsBrokenRule}
 use Rattle.edi_statuses.specs.Commands.{ArePut, is_full}
-use Rattle.edi_statuses.specs.Means.{ArePutInPart}
+use Rattle.edi_statuses.specs.Broken.{ArePutInPart}
 
 -- Whatever the drive tells, it has as many blocks as before, and its count of faults has not fallen, and rose where it has failed.
 pub record KeepsCounts {D : Type 0} (count faults : D → ℕ) (failed : Type 0) (before after : D) : Type 0 where

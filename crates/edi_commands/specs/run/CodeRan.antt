@@ -17,7 +17,7 @@ use Rattle.edi_statuses.specs.Outside.{Outside, seen, Shows, Lent}
 use Rattle.edi_statuses.specs.Lines.{is_due}
 use Rattle.edi_statuses.specs.Executions.{Runnable, HasCode, BrokeRun}
 use Rattle.edi_statuses.specs.Commands.{Runs}
-use Rattle.edi_statuses.specs.Means.{RanWhole}
+use Rattle.edi_statuses.specs.Broken.{RanWhole}
 use Rattle.edi_commands.specs.run.OnMounted.{OnMounted}
 
 -- ---- statuses

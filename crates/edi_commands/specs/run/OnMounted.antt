@@ -7,7 +7,7 @@ use Rattle.edi_statuses.specs.EachObject.{FitsCount, is_before_drive}
 use Rattle.edi_statuses.specs.Outside.{Outside, SameBut, SameFiles, Lent}
 use Rattle.edi_statuses.specs.Steps.{goes, stops, Mounts}
 use Rattle.edi_statuses.specs.Commands.{IsNothing}
-use Rattle.edi_statuses.specs.Means.{HasNotBegun, names_in}
+use Rattle.edi_statuses.specs.Broken.{HasNotBegun, names_in}
 
 -- The drive was asked: the status is none of a step before that, and fits the number of blocks.
 pub record DriveAsked (s : Status) (count : ℕ) : Type 0 where

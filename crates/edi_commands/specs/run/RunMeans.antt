@@ -11,7 +11,7 @@ use Rattle.edi_statuses.specs.Lines.{is_due}
 use Rattle.edi_statuses.specs.Steps.{AfterStep}
 use Rattle.edi_statuses.specs.Executions.{Runnable, text, code, BrokeRun}
 use Rattle.edi_statuses.specs.Commands.{Does, IsNothing, Runs, RunSteps, ExecSteps}
-use Rattle.edi_statuses.specs.Means.{AtRecord, HasBegun, ExecAsks, RanWhole, RanUnkept, RunAsks, HasNotBegun, names_in}
+use Rattle.edi_statuses.specs.Broken.{AtRecord, HasBegun, ExecAsks, RanWhole, RanUnkept, RunAsks, HasNotBegun, names_in}
 
 -- The steps lead to a program and the choices of its run; `there` says that its file is there, `asks` that they have come to the drive.
 abbrev pub RunMeans : {A : Type 0} → (there asks : Type 0) → (steps : AfterStep A → Type 0) → (A → Runnable) → (A → Choices) → (bound : ℕ)

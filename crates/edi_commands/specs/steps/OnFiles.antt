@@ -11,7 +11,7 @@ use Rattle.edi_statuses.specs.declared.status.Status.TheVariants as status
 use Rattle.edi_statuses.specs.Outside.{Outside, IsSomeFile, with_kept, without_names}
 use Rattle.edi_statuses.specs.Steps.{goes, stops, Fetches, GivesChoices, ReadsChoices, ChoicesAreThere}
 use Rattle.edi_statuses.specs.Executions.{record_of}
-use Rattle.edi_statuses.specs.Means.{names_in}
+use Rattle.edi_statuses.specs.Broken.{names_in}
 
 -- the outside of which only the files are looked at
 abbrev pub files_only : Option Contents → Outside

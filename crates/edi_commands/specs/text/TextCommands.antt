@@ -1,8 +1,9 @@
--- Helper. What the passes of `compile` answer, by the steps of commands.
+-- Words of contracts. What the commands on texts that are not run answer, by the steps of commands.
 use Rattle.std.specs.Prelude.{◌≡◌, ◌⊎◌, ℕ, List, Result, Ok, Err}
 use Rattle.edi_target.specs.Check.{CodeParts}
 use Rattle.edi_target.specs.File.{code_bytes}
 use Rattle.edi_unit.specs.Tree.{ProgramUnit}
+use Rattle.edi_disjoint.specs.Report.{IsReport}
 use Rattle.edi_texts.specs.declared.kind.RefusalKind.{RefusalKind}
 use Rattle.edi_texts.specs.Texts.{IsRefused, IsUnit}
 use Rattle.edi_texts.specs.Run.{IsCodeFor}
@@ -11,8 +12,11 @@ use Rattle.edi_statuses.specs.declared.status.Status.TheVariants as status
 use Rattle.edi_statuses.specs.Outside.{Outside, IsSomeFile}
 use Rattle.edi_statuses.specs.Steps.{goes, stops, Fetches}
 use Rattle.edi_statuses.specs.Commands.{TextSteps}
+use Rattle.edi_commands.specs.steps.OnTerminal.{GivesBytes}
 
--- the bytes of the text's code, or the text is refused; memory may be wanting at any text
+-- ---- `compile`
+
+-- the bytes of the text's code, or the text is refused; memory may run out at any text
 abbrev pub CodesText : {V : Type 0} → (V → List ℕ) → (text : List ℕ) → Result V Status → Type 0
 CodesText items text (Ok v) =
     (unit : ProgramUnit) × IsUnit text unit × (parts : CodeParts) × IsCodeFor text parts × (items v ≡ code_bytes parts)
@@ -23,3 +27,19 @@ CodesText items text (Err s) =
 abbrev pub CodesFile : {V : Type 0} → (V → List ℕ) → Outside → (name : List ℕ) → Result V Status → Type 0
 CodesFile items o name (Ok v) = (text : List ℕ) × Fetches o name (goes text) × CodesText items text (Ok v)
 CodesFile items o name (Err s) = (s ≡ status.NoMemory) ⊎ (((s ≡ status.FileFault) × IsSomeFile o name) ⊎ TextSteps o name (stops s))
+
+-- ---- `check`
+
+-- the report on the branches of the text's unit, or the text is refused; memory may run out at any text
+abbrev pub ReportsText : {V : Type 0} → (V → List ℕ) → (text : List ℕ) → Result V Status → Type 0
+ReportsText items text (Ok v) = (unit : ProgramUnit) × IsUnit text unit × IsReport unit (items v)
+ReportsText items text (Err s) =
+    (s ≡ status.NoMemory) ⊎ ((kind : RefusalKind) × (line : ℕ) × (s ≡ status.Refused kind line) × IsRefused text kind line)
+
+-- the report on a text's unit
+abbrev pub IsReportOf : List ℕ × ProgramUnit → List ℕ → Type 0
+IsReportOf a bytes = IsReport a.1 bytes
+
+-- so of the text in a file
+abbrev pub ReportsFile : {V : Type 0} → (V → List ℕ) → Outside → (name : List ℕ) → Result V Status → Type 0
+ReportsFile items o name result = GivesBytes items (λ o. TextSteps o name) IsReportOf o name result

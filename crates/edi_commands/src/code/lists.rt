@@ -2,7 +2,7 @@
 
 ghost use Rattle.std.specs.Prelude.{◌≡◌, ◌≤◌};
 ghost use Rattle.edi_words.specs.Words.{list as list_words};
-ghost use Rattle.edi_commands.specs.code.CodeCommands.{CameShowing, HasCauseShown};
+ghost use Rattle.edi_commands.specs.steps.OnTerminal.{CameShowing, HasCauseShown};
 
 use crate::code::loading::listing_of_file;
 use edi_host::{Files, Sink};

@@ -12,7 +12,7 @@ use edi_statuses::Status;
 use std::alloc::Global;
 
 /// As many bytes as decide what a text is.
-const LIMIT: usize = 262_145;
+pub(crate) const LIMIT: usize = 262_145;
 
 /// The bytes of the code of a text, or why the command stops there.
 fn code_text(alloc: Global, text: &[u8]) -> Result<Vec<u8>, Status>

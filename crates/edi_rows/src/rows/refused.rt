@@ -7,6 +7,8 @@ const TEXTS: &str = "
 file empty
 call 2 run empty
 shows line 1 invalid syntax/
+call 2 check empty
+shows line 1 invalid syntax/
 call 2 run empty --record r
 shows line 1 invalid syntax/
 none r
@@ -18,9 +20,13 @@ bytes 262144 32
 file blanks
 call 2 run blanks
 shows line 1 invalid syntax/
+call 2 check blanks
+shows line 1 invalid syntax/
 bytes 262145 32
 file long
 call 2 run long
+shows line 0 text too long/
+call 2 check long
 shows line 0 text too long/
 
 | proc main(proc display(value: char))
@@ -32,6 +38,8 @@ shows line 0 text too long/
 file hidden
 call 2 run hidden
 shows line 6 undeclared name/
+call 2 check hidden
+shows line 6 undeclared name/
 
 | proc main
 | pre proc p
@@ -39,15 +47,21 @@ shows line 6 undeclared name/
 file split
 call 2 run split
 shows line 2 invalid split procedure/
+call 2 check split
+shows line 2 invalid split procedure/
 
 | proc main begin skip; end
 file no_statement
 call 2 run no_statement
 shows line 1 invalid syntax/
+call 2 check no_statement
+shows line 1 invalid syntax/
 
 | proc main(proc display(value: char)) begin display('a':char) end
 file converted
 call 2 run converted
+shows line 1 not in profile/
+call 2 check converted
 shows line 1 not in profile/
 
 bytes 10 7
@@ -55,10 +69,14 @@ at 0 70726f63206d61696e
 file byte_7
 call 2 run byte_7
 shows line 1 invalid character/
+call 2 check byte_7
+shows line 1 invalid character/
 
 | proc main const a = 32768; begin skip end
 file numeral
 call 2 run numeral
+shows line 1 invalid numeral/
+call 2 check numeral
 shows line 1 invalid numeral/
 
 | proc main
@@ -67,25 +85,35 @@ shows line 1 invalid numeral/
 file twice
 call 2 run twice
 shows line 2 ambiguous name/
+call 2 check twice
+shows line 2 ambiguous name/
 
 | proc main var a: int begin a := true end
 file types
 call 2 run types
+shows line 1 incompatible types/
+call 2 check types
 shows line 1 incompatible types/
 
 | proc main(proc beep) begin skip end
 file heading
 call 2 run heading
 shows line 1 invalid program heading/
+call 2 check heading
+shows line 1 invalid program heading/
 
 | proc main set s (int) array t [1:8192] (s) begin skip end
 file large_type
 call 2 run large_type
 shows line 1 invalid range/
+call 2 check large_type
+shows line 1 invalid range/
 
 | proc main array t [1:32767] (int) var a, b: t begin skip end
 file large_need
 call 2 run large_need
+shows line 1 invalid range/
+call 2 check large_need
 shows line 1 invalid range/
 
 | proc main(proc display(value: char))
@@ -99,6 +127,8 @@ shows a
 file levels_65
 call 2 run levels_65
 shows line 2 nesting too deep/
+call 2 check levels_65
+shows line 2 nesting too deep/
 
 | proc main module module module module module module module module module module module module module module module module
 | module module module module module module module module module module module module module module module module
@@ -107,6 +137,8 @@ shows line 2 nesting too deep/
 file modules_63
 call 2 run modules_63
 shows line 4 invalid syntax/
+call 2 check modules_63
+shows line 4 invalid syntax/
 
 | proc main module module module module module module module module module module module module module module module module
 | module module module module module module module module module module module module module module module module
@@ -114,6 +146,8 @@ shows line 4 invalid syntax/
 | module module module module module module module module module module module module module module module module
 file modules_64
 call 2 run modules_64
+shows line 4 nesting too deep/
+call 2 check modules_64
 shows line 4 nesting too deep/
 ";
 

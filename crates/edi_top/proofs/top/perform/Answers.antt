@@ -54,16 +54,28 @@ returns-in-Demo-clause-came g c =
 pub returns-in-Demo-clause-cause : goal.returns-in-Demo-clause-cause
 returns-in-Demo-clause-cause g c = c.demonstrate.ensures.cause (g.D.Drive.faults c.args.drive.now) (g.S.Source.faults c.args.input.now)
 
-pub returns-in_default : goal.returns-in_default
-returns-in_default g c =
-    let none = not_built c.args.command c.in_default.not-Run c.in_default.not-Replay c.in_default.not-Exec c.in_default.not-Compile
-    c.in_default.not-NewDisk c.in_default.not-Put c.in_default.not-Get c.in_default.not-List c.in_default.not-Demo c.in_default.not-Boot in
+pub returns-in-Walk : goal.returns-in-Walk
+returns-in-Walk g c =
+    let none = not_built c.args.command _ c.in-Walk.is refl in
     record {
-      came = refused c.silent-in_default.result.status c.silent-in_default.result.due _ _ _ c.silent-in_default.ensures.status
-          c.silent-in_default.ensures.due none;
+      came = refused c.silent-in-Walk.result.status c.silent-in-Walk.result.due _ _ _ c.silent-in-Walk.ensures.status
+          c.silent-in-Walk.ensures.due none;
       cause = search rules;
       later = search rules;
-      size = counts_of_none _ c.silent-in_default.result.status _ _ none;
+      size = counts_of_none _ c.silent-in-Walk.result.status _ _ none;
+      untouched = none_touched _ _ _;
+      no_terminal = λ e. refl;
+    }
+
+pub returns-in-Watch : goal.returns-in-Watch
+returns-in-Watch g c =
+    let none = not_built c.args.command _ c.in-Watch.is refl in
+    record {
+      came = refused c.silent-in-Watch.result.status c.silent-in-Watch.result.due _ _ _ c.silent-in-Watch.ensures.status
+          c.silent-in-Watch.ensures.due none;
+      cause = search rules;
+      later = search rules;
+      size = counts_of_none _ c.silent-in-Watch.result.status _ _ none;
       untouched = none_touched _ _ _;
       no_terminal = λ e. refl;
     }
@@ -76,7 +88,7 @@ returns-in-Run-clause-size g c =
 pub returns-in-Run-clause-untouched : goal.returns-in-Run-clause-untouched
 returns-in-Run-clause-untouched g c =
     untouched_so c.args.command (command.Run c.in-Run.file c.in-Run.options) c.run_file.result.status c.run_file.result.status _ _ c.in-Run.is refl
-    (untouched _ _ (words.run c.in-Run.file.now (options_of c.in-Run.options)) c.run_file.result.status refl refl refl (λ e. e)
+    (untouched _ _ (words.run c.in-Run.file.now (options_of c.in-Run.options)) c.run_file.result.status refl refl refl refl (λ e. e)
     (λ none. absurd (true≢false none)) c.run_file.ensures.early)
 
 pub returns-in-Replay-clause-came : goal.returns-in-Replay-clause-came
@@ -93,7 +105,7 @@ pub returns-in-Replay-clause-untouched : goal.returns-in-Replay-clause-untouched
 returns-in-Replay-clause-untouched g c =
     untouched_so c.args.command (command.Replay c.in-Replay.file c.in-Replay.choices c.in-Replay.turns) c.run_file-in-Replay.result.status c.run_file-in-Replay.result.status
     _ _ c.in-Replay.is refl
-    (untouched _ _ (words.replay c.in-Replay.file.now c.in-Replay.choices.now c.in-Replay.turns) c.run_file-in-Replay.result.status refl refl refl (λ e. e)
+    (untouched _ _ (words.replay c.in-Replay.file.now c.in-Replay.choices.now c.in-Replay.turns) c.run_file-in-Replay.result.status refl refl refl refl (λ e. e)
     (λ none. absurd (true≢false none)) c.run_file-in-Replay.ensures.early)
 
 pub returns-in-Exec-clause-size : goal.returns-in-Exec-clause-size
@@ -104,7 +116,7 @@ returns-in-Exec-clause-size g c =
 pub returns-in-Exec-clause-untouched : goal.returns-in-Exec-clause-untouched
 returns-in-Exec-clause-untouched g c =
     untouched_so c.args.command (command.Exec c.in-Exec.file c.in-Exec.options) c.run_file-in-Exec.result.status c.run_file-in-Exec.result.status _ _ c.in-Exec.is refl
-    (untouched _ _ (words.exec c.in-Exec.file.now (options_of c.in-Exec.options)) c.run_file-in-Exec.result.status refl refl refl (λ e. e)
+    (untouched _ _ (words.exec c.in-Exec.file.now (options_of c.in-Exec.options)) c.run_file-in-Exec.result.status refl refl refl refl (λ e. e)
     (λ none. absurd (true≢false none)) c.run_file-in-Exec.ensures.early)
 
 pub returns-in-Boot-clause-size : goal.returns-in-Boot-clause-size
@@ -115,7 +127,7 @@ returns-in-Boot-clause-size g c =
 pub returns-in-Boot-clause-untouched : goal.returns-in-Boot-clause-untouched
 returns-in-Boot-clause-untouched g c =
     untouched_so c.args.command (command.Boot c.in-Boot.options) c.boot.result.status c.boot.result.status _ _ c.in-Boot.is refl
-    (untouched _ _ (words.boot (options_of c.in-Boot.options)) c.boot.result.status refl refl refl (λ e. e)
+    (untouched _ _ (words.boot (options_of c.in-Boot.options)) c.boot.result.status refl refl refl refl (λ e. e)
     c.boot.ensures.no_files c.boot.ensures.early)
 
 pub returns-in-Compile-clause-untouched : goal.returns-in-Compile-clause-untouched
@@ -158,8 +170,23 @@ returns-in-List-clause-untouched g c =
 pub returns-in-Demo-clause-untouched : goal.returns-in-Demo-clause-untouched
 returns-in-Demo-clause-untouched g c =
     untouched_so c.args.command (command.Demo c.in-Demo.n c.in-Demo.options) c.demonstrate.result.status c.demonstrate.result.status _ _ c.in-Demo.is refl
-    (untouched_alone _ _ (words.demo c.in-Demo.n (options_of c.in-Demo.options)) c.demonstrate.result.status refl (λ e. e)
+    (untouched_alone _ _ (words.demo c.in-Demo.n (options_of c.in-Demo.options)) c.demonstrate.result.status refl refl (λ e. e)
     c.demonstrate.ensures.no_files refl refl
     (λ early.
     let none = c.demonstrate.ensures.early early in
     record { drive = refl; input = refl; terminal = none.0; printer = none.1; kernel = none.2 }))
+
+pub returns-in-Check-clause-came : goal.returns-in-Check-clause-came
+returns-in-Check-clause-came g c =
+    obeyed_so c.args.command (command.Check c.in-Check.file) c.check.result.status c.check.result.due _ _ _ c.in-Check.is
+    (c.check.ensures.came (g.D.Drive.contents c.args.drive.now) (g.S.Source.left c.args.input.now) (g.P.Sink.taken c.args.printer.now)
+    (kernel_of c.args.kernel.now.store c.args.kernel.now.used))
+
+pub returns-in-Check-clause-cause : goal.returns-in-Check-clause-cause
+returns-in-Check-clause-cause g c =
+    c.check.ensures.cause (g.D.Drive.faults c.args.drive.now) (g.S.Source.faults c.args.input.now) (g.P.Sink.faults c.args.printer.now)
+
+pub returns-in-Check-clause-untouched : goal.returns-in-Check-clause-untouched
+returns-in-Check-clause-untouched g c =
+    untouched_so c.args.command (command.Check c.in-Check.file) c.check.result.status c.check.result.status _ _ c.in-Check.is refl
+    (record { files = λ none. absurd (true≢false none); drive = λ e. refl; input = λ e. refl; printer = λ e. refl; kernel = λ e. refl })

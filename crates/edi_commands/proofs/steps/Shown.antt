@@ -1,0 +1,122 @@
+-- From the bytes that a command makes of a file to how it came to its status, where it touches the files and the terminal alone.
+use Rattle.std.proofs.Common.{◌≡◌, ◌∙◌, ◌⊎◌, inl, inr, ℕ, false, List, [], Option, Some, Ok, Err, refl, sym, subst}
+use Rattle.edi_told.specs.Faults.{CountRose}
+use Rattle.edi_told.specs.Told.{WhereTold}
+use Rattle.edi_host.specs.Files.{Contents}
+use Rattle.edi_words.specs.Words.{Command}
+use Rattle.edi_statuses.specs.declared.ended.Ended.{Ended}
+use Rattle.edi_statuses.specs.declared.status.Status.{Status}
+use Rattle.edi_statuses.specs.declared.status.Status.TheVariants as status
+use Rattle.edi_statuses.specs.Counts.{Counts, HasCause, counts_with}
+use Rattle.edi_statuses.specs.Outside.{IsAsBefore, IsSomeFile, KernelLeft, Lent, Outside, SameFiles, idle, outside_with, seen, still_told}
+use Rattle.edi_statuses.specs.Commands.{IsNothing, OnlyShows}
+use Rattle.edi_statuses.specs.Showing.{ShowsBytes, ShowsFar}
+use Rattle.edi_statuses.specs.Broken.{HasNotBegun, ShowsFront}
+use Rattle.edi_statuses.specs.Means.{Means, MeansOf}
+use Rattle.edi_statuses.specs.Steps.{AfterStep, goes, stops}
+use Rattle.edi_statuses.proofs.Due.{due_then}
+use Rattle.edi_statuses.proofs.EachLeft.{each_same}
+use Rattle.edi_statuses.proofs.Told.{same_told, shows_nothing, still}
+use Rattle.edi_commands.specs.steps.OnFiles.{files_only}
+use Rattle.edi_commands.specs.steps.OnTerminal.{CameShowing, GivesBytes, HasCauseShown}
+
+-- What is known of such a command: what its statuses mean, by its steps, which look at the files alone, and by what its bytes are.
+pub record ShowsOf {A : Type 0} (c : Command) (name : List ℕ) (steps : Outside → AfterStep A → Type 0) (Is : A → List ℕ → Type 0) : Type 0 where
+  pub stopped : (s : Status) (before after : Outside) (kernel : Lent) → steps (files_only before.files) (stops s) → IsNothing before after [] kernel
+      → MeansOf s c before after [] kernel
+  pub no_memory : (before after : Outside) (kernel : Lent) → IsNothing before after [] kernel → MeansOf status.NoMemory c before after [] kernel
+  pub not_fetched : (before after : Outside) (kernel : Lent) → IsSomeFile (files_only before.files) name → SameFiles before after
+      → HasNotBegun before after [] kernel → MeansOf status.FileFault c before after [] kernel
+  pub has_shown : (before after : Outside) (kernel : Lent) (a : A) (bytes : List ℕ) → steps (files_only before.files) (goes a) → Is a bytes
+      → OnlyShows bytes before after bytes kernel → MeansOf status.Ok c before after bytes kernel
+  pub cut_short : (before after : Outside) (kernel : Lent) (a : A) (bytes front : List ℕ) → steps (files_only before.files) (goes a) → Is a bytes
+      → ShowsFront bytes before after front kernel → SameFiles before after → MeansOf status.OutputFault c before after front kernel
+  -- a status of a step tells no fault
+  pub no_fault : (s : Status) (o : Outside) (had has : Counts) → steps o (stops s) → HasCause s had has
+
+module _ {A : Type 0} (c : Command) (name : List ℕ) (steps : Outside → AfterStep A → Type 0) (Is : A → List ℕ → Type 0)
+    (shows : ShowsOf c name steps Is) where
+  -- whatever the other objects and the kernel are
+  module _ (old new : Option Contents) (same : WhereTold old new (λ x y. y ≡ x)) (taken takes : Option (List ℕ))
+      (blocks : Option (List (List ℕ))) (input printed : Option (List ℕ)) (kernel : KernelLeft) where
+    abbrev before : Outside
+    before = outside_with old blocks input taken printed
+
+    abbrev after : Outside
+    after = outside_with new blocks input takes printed
+
+    abbrev MeansHere : Status → (shown : List ℕ) → Type 0
+    MeansHere s shown = Means s (Some c) before after shown (idle kernel)
+
+    as_before : IsAsBefore (seen before after) after
+    as_before = record {
+      files = still (λ x y. y ≡ x) old new same;
+      blocks = same_told blocks blocks refl;
+      input = same_told input input refl;
+      printed = same_told printed printed refl;
+    }
+
+    nothing : IsNothing (seen before after) after [] (idle kernel)
+    nothing = record { shown_ = refl; same = as_before; kernel_same = refl }
+
+    not_begun : HasNotBegun (seen before after) after [] (idle kernel)
+    not_begun = record { shown_ = refl; blocks = as_before.blocks; input = as_before.input; printed = as_before.printed; kernel_same = refl }
+
+    -- the command stopped
+    stops_means : (s : Status)
+        → (s ≡ status.NoMemory) ⊎ (((s ≡ status.FileFault) × IsSomeFile (files_only (still_told old new)) name)
+        ⊎ steps (files_only (still_told old new)) (stops s)) → MeansHere s []
+    stops_means s (inl none) =
+        subst (λ t. MeansHere t []) (sym none) (shows.no_memory (seen before after) after (idle kernel) nothing)
+    stops_means s (inr (inl failed)) =
+        subst (λ t. MeansHere t []) (sym failed.0)
+        (shows.not_fetched (seen before after) after (idle kernel) failed.1 as_before.files not_begun)
+    stops_means s (inr (inr stopped)) = shows.stopped s (seen before after) after (idle kernel) stopped nothing
+
+    -- it has shown bytes
+    shown_means : (a : A) (bytes : List ℕ) → steps (files_only (still_told old new)) (goes a) → Is a bytes → (s : Status) (front : List ℕ)
+        → ShowsFar s front bytes → MeansHere s front
+    shown_means a bytes went is status.Ok front far =
+        subst (λ b. MeansHere status.Ok b) (sym far)
+        (shows.has_shown (seen before after) after (idle kernel) a bytes went is
+        (record { shown_ = refl; same = as_before; kernel_same = refl }))
+    shown_means a bytes went is status.OutputFault front far =
+        shows.cut_short (seen before after) after (idle kernel) a bytes front went is
+        (record { front = far; same = as_before; kernel_same = refl }) as_before.files
+    shown_means a bytes went is s front far = absurd far
+
+  module _ {V : Type 0} (items : V → List ℕ) where
+    pub stopped : (old new : Option Contents) (taken : Option (List ℕ)) (s : Status) → WhereTold old new (λ x y. y ≡ x)
+        → GivesBytes items steps Is (files_only (still_told old new)) name (Err s) → CameShowing c s false old new taken taken
+    stopped old new taken s same h = λ blocks input printed kernel. record {
+      shown = [];
+      means = stops_means old new same taken taken blocks input printed kernel s h;
+      shows = shows_nothing taken taken refl;
+      due_is = refl;
+      each = each_same (Some c) _ _ refl refl refl;
+    }
+
+    pub shown : (old new : Option Contents) (taken takes : Option (List ℕ)) (v : V) (ended : Ended) → WhereTold old new (λ x y. y ≡ x)
+        → GivesBytes items steps Is (files_only (still_told old new)) name (Ok v) → ShowsBytes (items v) false ended taken takes
+        → CameShowing c ended.status ended.due old new taken takes
+    shown old new taken takes v ended same l h = λ blocks input printed kernel. record {
+      shown = h.0;
+      means = shown_means old new same taken takes blocks input printed kernel l.0 (items v) l.1 l.2 ended.status h.0 h.1;
+      shows = h.2;
+      due_is = h.3 ∙ sym (due_then [] h.0);
+      each = each_same (Some c) _ _ refl refl refl;
+    }
+
+    pub stopped_cause : (o : Outside) (s : Status) (had has shown : ℕ) → GivesBytes items steps Is o name (Err s)
+        → (s ≡ status.FileFault → CountRose had has) → HasCauseShown s had has shown shown
+    stopped_cause o s had has shown (inl none) rose = λ drive input printer. subst
+        (λ t. HasCause t (counts_with had drive input shown printer) (counts_with has drive input shown printer)) (sym none) tt
+    stopped_cause o s had has shown (inr (inl failed)) rose = λ drive input printer. subst
+        (λ t. HasCause t (counts_with had drive input shown printer) (counts_with has drive input shown printer)) (sym failed.0) (rose failed.0)
+    stopped_cause o s had has shown (inr (inr stopped)) rose = λ drive input printer. shows.no_fault s o _ _ stopped
+
+pub shown_cause : (s : Status) (front all : List ℕ) (had has had_shown has_shown : ℕ) → ShowsFar s front all
+    → (s ≡ status.OutputFault → CountRose had_shown has_shown) → HasCauseShown s had has had_shown has_shown
+shown_cause status.Ok front all had has had_shown has_shown far rose = λ drive input printer. tt
+shown_cause status.OutputFault front all had has had_shown has_shown far rose = λ drive input printer. inl (rose refl)
+shown_cause s front all had has had_shown has_shown far rose = absurd far

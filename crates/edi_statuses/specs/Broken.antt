@@ -1,0 +1,106 @@
+-- Definition. What is left by a command that was broken off: memory ran out, or an object outside failed.
+use Rattle.std.specs.Prelude.{◌≡◌, ◌≤◌, ◌⊎◌, ℕ, List, [], ◌∷◌, ◌++◌, length, Option, Some, None, ⊤}
+use Rattle.edi_told.specs.Told.{WhereTold}
+use Rattle.edi_calls.specs.Choice.{Choices}
+use Rattle.edi_calls.specs.Outcome.{Ending}
+use Rattle.edi_image.specs.Image.{Holds, slots_of}
+use Rattle.edi_unit.specs.Tree.{ProgramUnit}
+use Rattle.edi_disjoint.specs.Report.{IsReport}
+use Rattle.edi_utils.specs.Demo.{demo_text}
+use Rattle.edi_words.specs.Words.{ChoicesFrom}
+use Rattle.edi_statuses.specs.declared.status.Status.TheVariants as status
+use Rattle.edi_statuses.specs.Showing.{IsFront}
+use Rattle.edi_statuses.specs.Outside.{Outside, SameFiles, SameInput, SamePrinted, IsAsBefore, Lent}
+use Rattle.edi_statuses.specs.Steps.{AfterStep, goes, ◌>>=◌, Fetches, ReadsChoices, Accepts, Loads}
+use Rattle.edi_statuses.specs.Executions.{Runnable, text, Ran, BrokeRun}
+use Rattle.edi_statuses.specs.Commands.{Runs, OnItsOwn, released, put_in, size_line}
+
+-- ---- memory ran out
+
+-- The program was run to its ending; of the files nothing is said.
+pub record RanWhole (program : Runnable) (bound : ℕ) (choices : Choices) (before after : Outside) (shown : List ℕ) (kernel : Lent) : Type 0 where
+  pub ending : Ending
+  pub drawn : ℕ
+  pub within : drawn ≤ bound
+  pub used : kernel.after.used ≤ bound
+  pub ran : Ran program bound choices ending drawn before after shown kernel
+
+-- and no file was kept
+abbrev pub RanUnkept : Runnable → (bound : ℕ) → Choices → Outside → Outside → (shown : List ℕ) → Lent → Type 0
+RanUnkept program bound choices before after shown kernel =
+    RanWhole program bound choices before after shown kernel × SameFiles before after
+
+-- where a record is asked for, and it is to be kept
+abbrev pub AtRecord : {A : Type 0} → Option (List ℕ) → (AfterStep A → Type 0) → (A → Type 0) → Type 0
+AtRecord None steps P = ⊥
+AtRecord (Some name) steps P = (a : _) × steps (goes a) × P a
+
+-- ---- an object failed
+
+-- nothing was shown, printed or run, the input is as before, and the drive has changed as P says
+pub record ChangesDrive (P : List (List ℕ) → List (List ℕ) → Type 0) (before after : Outside) (shown : List ℕ) (kernel : Lent) : Type 0 where
+  pub shown_ : shown ≡ []
+  pub blocks : WhereTold before.blocks after.blocks P
+  pub input : SameInput before after
+  pub printed : SamePrinted before after
+  pub kernel_same : kernel.after ≡ kernel.before
+
+-- and the drive is as before too
+abbrev pub HasNotBegun : (before after : Outside) → (shown : List ℕ) → Lent → Type 0
+HasNotBegun = ChangesDrive (λ old new. new ≡ old)
+
+-- The drive behind a `put` that it broke off: as many blocks as before it, and the files from before it, these with the file
+-- released, or those that it was to leave.
+abbrev pub ArePutInPart : (title bytes : List ℕ) → List (List ℕ) → List (List ℕ) → Type 0
+ArePutInPart title bytes old new =
+    (length new ≡ length old)
+    × (Holds new (slots_of old) ⊎ (Holds new (released title (slots_of old)) ⊎ Holds new (put_in title bytes (slots_of old))))
+
+-- a first part of these bytes was shown, and nothing else has changed
+pub record ShowsFront (bytes : List ℕ) (before after : Outside) (shown : List ℕ) (kernel : Lent) : Type 0 where
+  pub front : IsFront shown bytes
+  pub same : IsAsBefore before after
+  pub kernel_same : kernel.after ≡ kernel.before
+
+-- a first part of the report on the branches of a program was shown, and nothing else has changed
+abbrev pub ShowsReportFront : ProgramUnit → Outside → Outside → (shown : List ℕ) → Lent → Type 0
+ShowsReportFront unit before after shown kernel = (report : List ℕ) × IsReport unit report × ShowsFront report before after shown kernel
+
+-- behind a format or a migration that the drive broke off nothing is known of its blocks
+abbrev pub IsOpen : List (List ℕ) → List (List ℕ) → Type 0
+IsOpen old new = ⊤
+
+-- the name of a file that may be kept
+abbrev pub names_in : Option (List ℕ) → List (List ℕ)
+names_in None = []
+names_in (Some name) = name ∷ []
+
+-- the line of a demonstration was not shown whole; all else is as behind a whole one
+pub record CutsDemo (n bound : ℕ) (choices : Choices) (record_file : Option (List ℕ)) (before after : Outside) (shown : List ℕ) (kernel : Lent)
+    : Type 0 where
+  pub by_program : List ℕ
+  pub line : List ℕ
+  pub front : IsFront line (size_line n kernel.after.used by_program)
+  pub shown_ : shown ≡ by_program ++ line
+  pub ran : OnItsOwn (λ b a. Runs (text (demo_text n)) bound choices record_file status.Ok b a by_program kernel) before after
+
+-- the program of a demonstration was broken off, and no record was kept; or its line was not shown
+abbrev pub BrokeDemo : (n bound : ℕ) → Choices → (record_file : Option (List ℕ)) → Outside → Outside → (shown : List ℕ) → Lent → Type 0
+BrokeDemo n bound choices record_file before after shown kernel =
+    OnItsOwn (λ b a. SameFiles b a × BrokeRun (text (demo_text n)) bound choices b a shown) before after
+    ⊎ CutsDemo n bound choices record_file before after shown kernel
+
+-- the steps of a command went on, and it was broken off there
+abbrev pub HasBegun : {A : Type 0} → (AfterStep A → Type 0) → (A → Type 0) → Type 0
+HasBegun steps P = (a : _) × steps (goes a) × P a
+
+-- the steps of a command went on
+abbrev pub WentOn : {A : Type 0} → (AfterStep A → Type 0) → Type 0
+WentOn steps = (a : _) × steps (goes a)
+
+-- so those of `run` and `replay`, and those of `exec`, before the drive is asked
+abbrev pub RunAsks : Outside → (file : List ℕ) → ChoicesFrom → Type 0
+RunAsks o file from = WentOn (Fetches o file >>= λ bytes. ReadsChoices o from >>= λ choices. Accepts bytes)
+
+abbrev pub ExecAsks : Outside → (file : List ℕ) → ChoicesFrom → Type 0
+ExecAsks o file from = WentOn (Fetches o file >>= λ bytes. ReadsChoices o from >>= λ choices. Loads bytes)
