@@ -13,11 +13,14 @@ ghost use Rattle.edi_target.specs.Mach.{Mach, Machine};
 ghost use Rattle.edi_scheme.specs.Code.{code_of};
 ghost use Rattle.edi_follows.specs.Theorem.{CanBeCoded};
 ghost use Rattle.edi_explored.specs.Reached.{IsReached, IsShown};
+ghost use Rattle.edi_trace.specs.Drawn.{Drawn};
+ghost use Rattle.edi_kernel.specs.declared.ends.Ending.{Ending};
+ghost use Rattle.edi_kernel.specs.Runs.{RunsTo};
 ghost use Rattle.edi_kernel.specs.Kept.{SameKept};
 ghost use Rattle.edi_kernel.specs.declared.kept.Kept.{Kept};
 ghost use Rattle.edi_follows.specs.places.Coded.{Coded};
 ghost use Rattle.edi_explored.specs.Covered.{AllTold, AllToldBelow, Report};
-ghost use Rattle.edi_explored.specs.machine.Kernels.{FollowedKernels, IsUnitCode};
+ghost use Rattle.edi_explored.specs.machine.Kernels.{FollowedKernels, IsUnitCode, ReachesAs};
 ghost use Rattle.edi_explored.specs.machine.Levels.{IsClosed, IsLevelled, StateTable};
 ghost use Rattle.edi_explored.specs.machine.Machines.{FollowedMachines, ServesAs};
 ghost use Rattle.edi_explored.specs.machine.PutBacks.{FollowedPutBacks};
@@ -97,11 +100,14 @@ pub fn expanded_is_all()
 {}
 
 /// What a run of the code of a unit comes to with some choices and some bound, these choices reach in the meaning, with all that is shown, unless
-/// the bound has cut it.
+/// the bound has cut it. So does a run of the kernel, which has drawn no choice before.
 pub fn runs_reach()
     ensures law { (unit : ProgramUnit) → CanBeCoded unit → (system : State) (bound : ℕ) (choices : List ℕ) (outcome : Outcome) →
         Mach (fetch (code_of unit)) 0 unit.calls system bound (listed choices) outcome → (outcome.ending ≡ turns → ⊥) →
         IsReached unit system choices outcome.ending × IsShown unit system choices outcome.ending outcome.shown }
+    ensures kernel { (unit : ProgramUnit) → CanBeCoded unit → (code : CodeParts) → IsUnitCode unit code → (system : State) (bound : ℕ) (choices : List ℕ)
+        (old new : Drawn) → old.drawn ≡ 0 → old.source ≡ listed choices → (e : Ending) (words : List ℕ) (used : ℕ) (now : State) →
+        RunsTo code system bound old e words used now new → ReachesAs unit system choices e now.shown }
 {}
 
 /// Only the words that are kept count: whatever state of the meaning a machine is related to, with another memory that has the same links and

@@ -1,9 +1,9 @@
 -- The code of a unit that can be coded, as the laws of a search speak of it; and what a run of it reaches.
-use Rattle.std.proofs.Common.{◌≡◌, ℕ, zero, suc, ◌+◌, ◌<◌, ◌≤◌, ◌⊎◌, inl, inr, List, length, drop, Option, Some, None, refl, sym, ap, subst, arith}
+use Rattle.std.proofs.Common.{◌∙◌, ◌≡◌, ℕ, zero, suc, ◌+◌, ◌<◌, ◌≤◌, ◌⊎◌, inl, inr, List, length, drop, Option, Some, None, refl, sym, ap, subst, arith}
 use Rattle.std.proofs.lemmas.Bool.{cases_lt}
 use Rattle.edi_calls.specs.Choice.{listed}
 use Rattle.edi_calls.specs.Outcome as outcome
-use Rattle.edi_calls.specs.Outcome.{Outcome}
+use Rattle.edi_calls.specs.Outcome.{Outcome, outcome_of}
 use Rattle.edi_calls.specs.State.{State}
 use Rattle.edi_calls.proofs.Names.{some_is}
 use Rattle.edi_unit.specs.Types.{Shape}
@@ -22,7 +22,15 @@ use Rattle.edi_scheme.proofs.WordedBlocks.{code_is_words}
 use Rattle.edi_follows.specs.places.Coded.{Coded}
 use Rattle.edi_follows.specs.Theorem.{CanBeCoded}
 use Rattle.edi_follows.proofs.Whole.{same_outcomes}
+use Rattle.edi_target.specs.Check.{CodeParts}
+use Rattle.edi_trace.specs.Drawn.{Drawn}
+use Rattle.edi_kernel.specs.declared.ends.Ending.{Ending}
+use Rattle.edi_kernel.specs.declared.ends.Ending.TheVariants as ending
+use Rattle.edi_kernel.specs.Kernel.{EndsAs}
+use Rattle.edi_kernel.specs.Runs.{RunsAs, RunsTo}
+use Rattle.edi_kernel.proofs.Machines.{runs_are_the_machines}
 use Rattle.edi_explored.specs.Reached.{IsReached, IsShown}
+use Rattle.edi_explored.specs.machine.Kernels.{IsUnitCode, ReachesAs, ending_of}
 
 -- ---- the code
 
@@ -98,3 +106,49 @@ run_reached unit c system bound choices o m uncut = reached unit system bound ch
 pub run_shown : (unit : ProgramUnit) → CanBeCoded unit → (system : State) (bound : ℕ) (choices : List ℕ) (o : Outcome) →
     Mach (fetch (code_of unit)) 0 unit.calls system bound (listed choices) o → (o.ending ≡ outcome.turns → ⊥) → IsShown unit system choices o.ending o.shown
 run_shown unit c system bound choices o m uncut = shown unit system bound choices o (meant unit c system bound choices o m) uncut
+
+-- ---- what a run of the kernel reaches
+
+as_ending : (a : outcome.Ending) (e : Ending) → EndsAs a e → ending_of e ≡ Some a
+as_ending outcome.done ending.Done x = refl
+as_ending outcome.done e x = absurd x
+as_ending (outcome.halted l) (ending.Halted at) x = ap (λ n. Some (outcome.halted n)) x
+as_ending (outcome.halted l) e x = absurd x
+as_ending (outcome.failed c l) (ending.Failed cause at) x = λ i. Some (outcome.failed (x.0 i) (x.1 i))
+as_ending (outcome.failed c l) e x = absurd x
+as_ending outcome.turns ending.Turns x = refl
+as_ending outcome.turns e x = absurd x
+as_ending outcome.standstill ending.Standstill x = refl
+as_ending outcome.standstill e x = absurd x
+as_ending (outcome.bad l) (ending.Bad at) x = ap (λ n. Some (outcome.bad n)) x
+as_ending (outcome.bad l) e x = absurd x
+
+module _ (unit : ProgramUnit) (c : CanBeCoded unit) (code : CodeParts) (is : IsUnitCode unit code) (system : State) (bound : ℕ) (choices : List ℕ)
+    (old new : Drawn) (none : old.drawn ≡ 0) (source : old.source ≡ listed choices) where
+  machine : (o : Outcome) → Mach (fetch code.words) code.entry code.calls system bound old.source o →
+      Mach (fetch (code_of unit)) 0 unit.calls system bound (listed choices) o
+  machine o m = subst (λ x. x) (λ i. Mach (fetch (is.words i)) (is.entry i) (is.calls i) system bound (source i) o) m
+
+  runs_as : (e : Ending) (words : List ℕ) (used : ℕ) (now : State) → RunsAs code system bound old e words used now new →
+      ReachesAs unit system choices e now.shown
+  runs_as e words used now r end same uncut =
+      let m : Mach (fetch (code_of unit)) 0 unit.calls system bound (listed choices) (outcome_of now r.end used new.drawn) =
+      machine (outcome_of now r.end used new.drawn) (runs_are_the_machines code system bound old new e words used now none r) in
+      let one : r.end ≡ end = some_is (sym (as_ending r.end e r.same) ∙ same) in
+      subst (λ x. IsReached unit system choices x × IsShown unit system choices x now.shown) one (
+        run_reached unit c system bound choices (outcome_of now r.end used new.drawn) m (λ t. uncut (sym one ∙ t)),
+        run_shown unit c system bound choices (outcome_of now r.end used new.drawn) m (λ t. uncut (sym one ∙ t)),
+      )
+
+  pub runs_to : (e : Ending) (words : List ℕ) (used : ℕ) (now : State) → RunsTo code system bound old e words used now new →
+      ReachesAs unit system choices e now.shown
+  runs_to ending.Fault words used now r = λ end same uncut. absurd (none_some end same)
+    where
+      none_some : (end : outcome.Ending) → None ≡ Some end → ⊥
+      none_some end same = absurd (cc)
+  runs_to ending.Done words used now r = runs_as ending.Done words used now r
+  runs_to (ending.Halted line) words used now r = runs_as (ending.Halted line) words used now r
+  runs_to (ending.Failed cause line) words used now r = runs_as (ending.Failed cause line) words used now r
+  runs_to ending.Turns words used now r = runs_as ending.Turns words used now r
+  runs_to ending.Standstill words used now r = runs_as ending.Standstill words used now r
+  runs_to (ending.Bad at) words used now r = runs_as (ending.Bad at) words used now r

@@ -1,6 +1,6 @@
 -- Words of contracts. What a search with a kernel has to have done: of each state that it keeps, a stint of each ready process from a kernel to
 -- which that state was put back.
-use Rattle.std.specs.Prelude.{◌≡◌, ◌⊎◌, ◌^◌, ℕ, suc, ◌<◌, ◌≤◌, true, false, List, length, Contains, Some, None, ⊤}
+use Rattle.std.specs.Prelude.{◌≡◌, ◌⊎◌, ◌^◌, ℕ, suc, ◌<◌, ◌≤◌, true, false, List, length, Contains, Option, Some, None, ⊤}
 use Rattle.edi_calls.specs.Names.{Name}
 use Rattle.edi_calls.specs.Outcome as outcome
 use Rattle.edi_calls.specs.Ready.{name_at, without_index}
@@ -8,6 +8,7 @@ use Rattle.edi_calls.specs.State.{State}
 use Rattle.edi_target.specs.Check.{CodeParts}
 use Rattle.edi_target.specs.Fetch.{fetch}
 use Rattle.edi_target.specs.Mach.{Machine}
+use Rattle.edi_kernel.specs.declared.ends.Ending.{Ending}
 use Rattle.edi_kernel.specs.declared.ends.Ending.TheVariants as ending
 use Rattle.edi_kernel.specs.declared.ends.StintEnd.{StintEnd}
 use Rattle.edi_kernel.specs.declared.ends.StintEnd.TheVariants as stint_end
@@ -20,6 +21,7 @@ use Rattle.edi_kernel.specs.Runs.{Started, IsAt}
 use Rattle.edi_unit.specs.Tree.{ProgramUnit}
 use Rattle.edi_scheme.specs.Code.{code_of}
 use Rattle.edi_follows.specs.places.Coded.{Coded}
+use Rattle.edi_explored.specs.Reached.{IsReached, IsShown}
 use Rattle.edi_explored.specs.Covered.{Report, Tells, tells_shown}
 use Rattle.edi_explored.specs.machine.Alike.{Alike}
 
@@ -51,6 +53,21 @@ pub record IsUnitCode (unit : ProgramUnit) (code : CodeParts) : Type 0 where
   pub words : code.words ≡ code_of unit
   pub entry : code.entry ≡ 0
   pub calls : code.calls ≡ unit.calls
+
+-- an ending of the kernel's as one of the definition; a fault of an object is none
+abbrev pub ending_of : Ending → Option outcome.Ending
+ending_of ending.Done = Some outcome.done
+ending_of (ending.Halted line) = Some (outcome.halted line)
+ending_of (ending.Failed cause line) = Some (outcome.failed cause line)
+ending_of ending.Turns = Some outcome.turns
+ending_of ending.Standstill = Some outcome.standstill
+ending_of (ending.Bad address) = Some (outcome.bad address)
+ending_of ending.Fault = None
+
+-- these choices reach what this ending is, with all that is shown
+abbrev pub ReachesAs : ProgramUnit → State → (choices : List ℕ) → Ending → (shown : List ℕ) → Type 0
+ReachesAs unit system choices e shown =
+    (end : outcome.Ending) → ending_of e ≡ Some end → (end ≡ outcome.turns → ⊥) → IsReached unit system choices end × IsShown unit system choices end shown
 
 -- whether a stint was only an attempt that failed
 abbrev pub IsFailed : StintEnd → KernelState → Type 0
