@@ -1,0 +1,7 @@
+pub mod stops
+pub mod Names
+pub mod Addresses
+pub mod Files
+pub mod Executions
+pub mod Looks
+pub mod Watched
