@@ -1,5 +1,5 @@
 -- The cause of a fault, behind the line of a status.
-use Rattle.std.proofs.Common.{ℕ, ◌≤◌, inl, inr, arith}
+use Rattle.std.proofs.Common.{ℕ, ◌+◌, ◌≤◌, min, inl, inr, arith}
 use Rattle.edi_told.specs.Faults.{CountRose}
 use Rattle.edi_statuses.specs.declared.status.Status.{Status}
 use Rattle.edi_statuses.specs.declared.status.Status.TheVariants as status
@@ -10,6 +10,13 @@ below least b c low high = omega (arith, low, high)
 
 pub rose_then : (a b c : ℕ) → CountRose a b → b ≤ c → CountRose a c
 rose_then a b c rose later = below _ b c rose later
+
+lower : (a b c most : ℕ) → a ≤ b → min (b + 1) most ≤ c → min (a + 1) most ≤ c
+lower a b c most later rose = omega (arith, later, rose)
+
+-- a count that rose later has risen since before
+pub rose_before : (a b c : ℕ) → a ≤ b → CountRose b c → CountRose a c
+rose_before a b c later rose = lower a b c _ later rose
 
 -- the cause of a status stays its cause where the terminal fails later
 pub cause_later : (s : Status) (files drive input printer terminal later : ℕ) (had : Counts) → terminal ≤ later

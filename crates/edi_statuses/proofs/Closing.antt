@@ -2,6 +2,7 @@
 use Rattle.std.proofs.Common.{◌≡◌, ℕ, ◌++◌, List, [], Option, Some, None, refl, sym, ap, subst, ◌∙◌, inl, inr, append_assoc, rules}
 use Rattle.std.specs.Prelude.{◌⊎◌, IsSome, Bool}
 use Rattle.std.proofs.lemmas.List.{append-nil}
+use Rattle.edi_told.specs.Faults.{CountRose}
 use Rattle.edi_told.specs.Told.{WhereTold}
 use Rattle.edi_words.specs.Words.{Command}
 use Rattle.edi_statuses.specs.declared.status.Status.{Status}
@@ -105,23 +106,28 @@ still_closed meant answer line x y (inr h) = still_told x y _ h.1
 line_of : (meant : Status) (due : Bool) (shown : List ℕ) → due ≡ is_due shown → closing_line due meant ≡ closing meant shown
 line_of meant due shown is = ap (λ d. closing_line d meant) is
 
+-- a fault of the output has no line
+no_line : (meant : Status) → IsSome (text_of meant) → meant ≡ status.OutputFault → ⊥
+no_line meant some is = let none : IsSome (text_of status.OutputFault) = subst (λ s. IsSome (text_of s)) is some in absurd (cc)
+
 -- the line was shown, or a first part of it
 with_line : (meant answer : Status) (c : Option Command) (before mid : Outside) (had has : Counts) (y : Option (List ℕ)) (kernel : Lent)
-    (shown : List ℕ) → HasCause meant had has → IsSome (text_of meant) → Means meant c before (with_shown y mid) shown kernel
+    (shown : List ℕ) → HasCause meant had has → ((answer ≡ meant → ⊥) → CountRose had.terminal has.terminal) → IsSome (text_of meant) → Means meant c before (with_shown y mid) shown kernel
     → Shows before mid shown → LeavesEach c before (with_shown y mid) → ClosesWith meant answer (closing meant shown) mid.shown y
     → EndsAll answer c before (with_shown y mid) had has kernel
-with_line meant answer c before mid had has y kernel shown cause some means shows each (inl h) = (
+with_line meant answer c before mid had has y kernel shown cause rose some means shows each (inl h) = (
   shown ++ closing meant shown,
   subst (λ s. EndsWith s c before (with_shown y mid) had has (shown ++ closing meant shown) kernel) (sym h.0)
       (ends_plain meant c before (with_shown y mid) had has shown kernel some means),
   shown_line before.shown mid.shown y shown (closing meant shown) shows h.1,
   each,
 )
-with_line meant answer c before mid had has y kernel shown cause some means shows each (inr h) =
+with_line meant answer c before mid had has y kernel shown cause rose some means shows each (inr h) =
     let front = shown_then before.shown mid.shown y shown (λ f. IsFront f (closing meant shown)) shows h.1 (closing meant shown, refl) in
     let cut : IsCutShort c before (with_shown y mid) had has (shown ++ front.0) kernel = record {
       meant = meant;
       has_line = some;
+      terminal = rose (λ same. no_line meant some (sym same ∙ h.0));
       cause = cause;
       shown = shown;
       line = front.0;
@@ -137,7 +143,7 @@ with_line meant answer c before mid had has y kernel shown cause some means show
 
 -- THE LAW
 pub lines_end : LinesEnd
-lines_end meant answer due c before mid had has y kernel cause came closed silent = by_text (is_some (text_of meant)) where
+lines_end meant answer due c before mid had has y kernel cause came closed silent rose = by_text (is_some (text_of meant)) where
   means : Means meant c before (with_shown y mid) came.shown kernel
   means =
       later before mid y (still_closed meant answer (closing_line due meant) mid.shown y closed) meant c came.shown kernel came.means
@@ -155,5 +161,5 @@ lines_end meant answer due c before mid had has y kernel cause came closed silen
         each,
       )
   by_text (inr some) =
-      with_line meant answer c before mid had has y kernel came.shown cause some means came.shows each
+      with_line meant answer c before mid had has y kernel came.shown cause rose some means came.shows each
       (subst (λ (l : List ℕ). ClosesWith meant answer l mid.shown y) (line_of meant due came.shown came.due_is) closed)

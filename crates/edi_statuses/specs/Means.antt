@@ -3,6 +3,7 @@
 -- A status that the words and contents decide means what `Comes` says. `NoMemory` may come at the places of `Wants`. The four
 -- faults come where the count of an object rose, and mean what `Breaks` says.
 use Rattle.std.specs.Prelude.{◌≡◌, ◌⊎◌, ℕ, Bool, false, List, [], ◌++◌, Option, Some, None, if◌then◌else◌, IsSome, ⊤}
+use Rattle.edi_told.specs.Faults.{CountRose}
 use Rattle.edi_words.specs.Words.{Command}
 use Rattle.edi_statuses.specs.declared.status.Status.{Status}
 use Rattle.edi_statuses.specs.declared.status.Status.TheVariants as status
@@ -105,10 +106,12 @@ pub record Came (s : Status) (due : Bool) (c : Option Command) (before after : O
 
 -- ---- all that a call shows
 
--- The line of a status that has one could not be shown whole. If that status tells a fault, the count of its object rose too.
+-- The line of a status that has one could not be shown whole, since the terminal failed. If that status tells a fault, the count of its object
+-- rose too.
 pub record IsCutShort (c : Option Command) (before after : Outside) (had has : Counts) (all : List ℕ) (kernel : Lent) : Type 0 where
   pub meant : Status
   pub has_line : IsSome (text_of meant)
+  pub terminal : CountRose had.terminal has.terminal
   pub cause : HasCause meant had has
   pub shown : List ℕ
   pub line : List ℕ
@@ -134,12 +137,14 @@ abbrev pub EndsAll : Status → Option Command → Outside → Outside → (had 
 EndsAll answer c before after had has kernel =
     (all : List ℕ) × EndsWith answer c before after had has all kernel × Shows before after all × LeavesEach c before after
 
--- A command came to a status, and then the line of the status was shown, or a first part of it: this is the end of a call.
+-- A command came to a status, and then the line of the status was shown, or a first part of it, since the terminal failed: this is the end of a
+-- call.
 abbrev pub LinesEnd : Type 0
 LinesEnd =
     (meant answer : Status) (due : Bool) (c : Option Command) (before mid : Outside) (had has : Counts) (shown : Option (List ℕ)) (kernel : Lent)
     → HasCause meant had has → Came meant due c before mid kernel → ClosesWith meant answer (closing_line due meant) mid.shown shown
-    → (text_of meant ≡ None → (answer ≡ meant) × (shown ≡ mid.shown)) → EndsAll answer c before (with_shown shown mid) had has kernel
+    → (text_of meant ≡ None → (answer ≡ meant) × (shown ≡ mid.shown))
+    → ((answer ≡ meant → ⊥) → CountRose had.terminal has.terminal) → EndsAll answer c before (with_shown shown mid) had has kernel
 
 -- ---- a law: the words and the contents decide
 

@@ -4,7 +4,7 @@ use Rattle.edi_words.specs.Words.{command_of}
 use Rattle.edi_top.specs.Built.{built}
 use Rattle.edi_statuses.specs.Lines.{text_of}
 use Rattle.edi_statuses.specs.declared.status.Status.TheVariants as status
-use Rattle.edi_statuses.proofs.Causes.{cause_later}
+use Rattle.edi_statuses.proofs.Causes.{cause_later, rose_before}
 use Rattle.edi_statuses.proofs.Closing.{lines_end}
 use Rattle.edi_top.proofs.Obeyed.{counts_closed, drive_rose, untouched_closed}
 use Rattle.edi_top.proofs.top.edison.Goals as goal
@@ -16,6 +16,7 @@ returns-clause-ends g c =
     (cause_later c.obey-ended.result.status _ _ _ _ _ (g.T.Sink.faults c.show_status.new.terminal) _ c.show_status.ensures.later c.obey-ended.ensures.cause)
     c.obey-ended.ensures.came c.show_status.ensures.exact
     (λ none. let same = c.show_status.ensures.silent none in (same.0, ap g.T.Sink.taken same.1))
+    (λ other. rose_before _ _ _ c.obey-ended.ensures.later.terminal (c.show_status.ensures.cause other))
 
 pub returns-clause-size : goal.returns-clause-size
 returns-clause-size g c =
