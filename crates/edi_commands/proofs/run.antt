@@ -7,8 +7,12 @@ pub mod Demonstrated
 pub mod Endings
 pub mod Exits
 pub mod Left
+pub mod LogKept
 pub mod Meaning
 pub mod Mounting
 pub mod OfFiles
+pub mod PointsRead
 pub mod Shown
 pub mod Told
+pub mod WatchedEnds
+pub mod WatchedExits

@@ -3,4 +3,6 @@ pub mod CodeRan
 pub mod Demonstrated
 pub mod FileSteps
 pub mod OnMounted
+pub mod OnWatched
 pub mod RunMeans
+pub mod WatchedFiles

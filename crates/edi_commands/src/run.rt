@@ -1,8 +1,12 @@
-//! The commands that run a program: `run` and `replay` that of a text, `exec` that of a code file, `demo` that of the demonstration.
+//! The commands that run a program: `run` and `replay` that of a text, `exec` that of a code file, `demo` that of the demonstration, `watch`
+//! that of a text with a log.
 
 mod code;
 mod demonstration;
 mod files;
+mod logging;
+mod watching;
 
 pub use demonstration::demonstrate;
 pub use files::{Form, run_file};
+pub use watching::watch_file;

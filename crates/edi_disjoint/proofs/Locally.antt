@@ -30,7 +30,7 @@ abbrev pub WorkMay : Leaves → List Work → Type 0
 WorkMay t [] = ⊤
 WorkMay t (doing a position ∷ work) = ActMay t a
 WorkMay t (loop_end cs position ∷ work) = ⊤
-WorkMay t (procedure_end ∷ work) = ⊤
+WorkMay t (procedure_end line ∷ work) = ⊤
 WorkMay t (branch_end ∷ work) = ⊤
 WorkMay t (program_entry ∷ work) = ⊥
 WorkMay t (program_end ∷ work) = ⊤
@@ -63,7 +63,7 @@ module _ {unit : ProgramUnit} {p : Name} {size : ℕ} (s : Pairing unit p size) 
   called_pairs es (block_procedure number parent) cells line work w u c f h =
       subst (λ fs. Leads (called unit p size (block_procedure number parent) cells line work w)
       (if nat_lt (room size fs) (block_at unit.blocks number).need then fails cause.VariableLimit line u
-      else turn u (λ u. gives (goes (body_of unit number (procedure_end ∷ work))) (record u { store = grown p (instance_of unit p size number parent cells) u.store }))))
+      else turn u (λ u. gives (goes (body_of unit number (procedure_end line ∷ work))) (record u { store = grown p (instance_of unit p size number parent cells) u.store }))))
       (s.space x w u h)
       (if_pairs s _ (nat_lt (room size (shape w.store p)) (block_at unit.blocks number).need) _ _ _ _
       (stop_left s _ (outcome.failed cause.VariableLimit line) w.system w.turns _)
@@ -89,7 +89,7 @@ module _ {unit : ProgramUnit} {p : Name} {size : ℕ} (s : Pairing unit p size) 
   work_pairs [] w u may h = stop_left s _ outcome.turns w.system w.turns _
   work_pairs (doing a position ∷ work) w u may h = statement_pairs a position work w u may h
   work_pairs (loop_end cs position ∷ work) w u may h = turn_on _ w u h
-  work_pairs (procedure_end ∷ work) w u may h = turn_pairs s x _ w u _ _ h (λ w u h. give s _ _ _ _ (m.shrinks w u h))
+  work_pairs (procedure_end line ∷ work) w u may h = turn_pairs s x _ w u _ _ h (λ w u h. give s _ _ _ _ (m.shrinks w u h))
   work_pairs (branch_end ∷ work) w u may h = turn_on _ w u h
   work_pairs (program_entry ∷ work) w u may h = absurd may
   work_pairs (program_end ∷ work) w u may h = turn_pairs s x _ w u _ _ h (λ w u h. stop_left s _ outcome.done w.system w.turns _)

@@ -85,7 +85,7 @@ module _ (unit : ProgramUnit) (ok : Fits unit) where
   WorkIn ns [] = ⊤
   WorkIn ns (doing a position ∷ work) = ActMay (text ns) a × WorkIn ns work
   WorkIn ns (loop_end cs position ∷ work) = ClausesMay (text ns) cs × WorkIn ns work
-  WorkIn ns (procedure_end ∷ work) = WorkIn (below ns) work
+  WorkIn ns (procedure_end line ∷ work) = WorkIn (below ns) work
   WorkIn ns (branch_end ∷ work) = ⊤
   WorkIn ns (program_entry ∷ work) = WorkIn (unit.program ∷ []) work
   WorkIn ns (program_end ∷ work) = ⊤
@@ -120,7 +120,7 @@ module _ (unit : ProgramUnit) (ok : Fits unit) where
   may_of ns p ready [] d l h k = tt
   may_of ns p ready (doing a position ∷ work) d l h k = k.0
   may_of ns p ready (loop_end cs position ∷ work) d l h k = tt
-  may_of ns p ready (procedure_end ∷ work) d l h k = tt
+  may_of ns p ready (procedure_end line ∷ work) d l h k = tt
   may_of ns p ready (branch_end ∷ work) d l h k = tt
   may_of ns p ready (program_entry ∷ work) d l h k = absurd (omega (arith, l, h.1))
   may_of ns p ready (program_end ∷ work) d l h k = tt
@@ -171,7 +171,7 @@ module _ (unit : ProgramUnit) (ok : Fits unit) where
         let i : Instance = instance_of unit p size n parent cells in
         let more : n ∷ ns ≡ blocks_of (shape (grown p i w.store) p) =
         sym (ap blocks_of (shape-grown p i w.store) ∙ blocks_more (shape w.store p) i.frame [] ∙ ap (λ x. n ∷ x) (sym (here w h))) in
-        give s _ _ _ (subst (λ x. WorkIn x (body_of unit n (procedure_end ∷ work))) more (body_in ns n (procedure_end ∷ work) d))))
+        give s _ _ _ (subst (λ x. WorkIn x (body_of unit n (procedure_end line ∷ work))) more (body_in ns n (procedure_end line ∷ work) d))))
 
     statement_rests : (a : Act) (position : Position) (work : List Work) (w : World) → HasShape F w.store → ActMay (text ns) a → WorkIn ns work →
         Rests (statement_step unit p size a position work w)
@@ -192,7 +192,7 @@ module _ (unit : ProgramUnit) (ok : Fits unit) where
     work_rests [] w h d = record { is = tt }
     work_rests (doing a position ∷ work) w h d = statement_rests a position work w h d.0 d.1
     work_rests (loop_end cs position ∷ work) w h d = turn_keeps s F _ w.turns w _ refl h (λ w h. on (doing (tree.while_act cs) position ∷ work) w h d)
-    work_rests (procedure_end ∷ work) w h d =
+    work_rests (procedure_end line ∷ work) w h d =
         turn_keeps s F _ w.turns w _ refl h (λ w h. give s _ _ _ (subst (λ x. WorkIn x work) (sym (blocks_shrunk p w.store (F p) (h.each p))) d))
     work_rests (branch_end ∷ work) w h d = turn_keeps s F _ w.turns w _ refl h (λ w h. give s _ _ w tt)
     work_rests (program_entry ∷ work) w h d =

@@ -224,7 +224,9 @@ impl KernelState {
         requires free { self.now.taken ≡ None }
         ensures exact { result ≡ self.now.table.marks }
         ensures marks { (m : Machine) (ready : List Name) → Holds self.now m None ready → IsMarkCount result m.marks ready }
+        ensures memory { IsMemory self.now.store }
     {
+        let _whole = self.store.get(0);
         self.table.marks
     }
 

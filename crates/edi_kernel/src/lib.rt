@@ -136,6 +136,7 @@ impl Kernel {
         ensures references { C.references calls.new ≡ C.references calls.old }
         ensures leads { (start : C) → C.leads start calls.old → C.leads start calls.new }
         ensures turns { self.new.used ≡ min (self.old.used + used_in result) (2 ^ 64 - 1) }
+        ensures kernel { IsKernel self.new }
     {
         self.state.stint(code, calls, turns_left)
     }
@@ -165,6 +166,7 @@ impl Kernel {
         requires free { self.now.taken ≡ None }
         ensures exact { result ≡ self.now.table.marks }
         ensures marks { (m : Machine) (ready : List Name) → Holds self.now m None ready → IsMarkCount result m.marks ready }
+        ensures memory { IsMemory self.now.store }
     {
         self.state.marked()
     }
@@ -197,6 +199,7 @@ impl Kernel {
     /// are ready line up; by `laws::stands_again` it is then the machine again of which they were kept.
     pub fn clear(&mut self)
         ensures exact { IsCleared self.old self.new }
+        ensures kernel { IsKernel self.new }
     {
         self.state.clear();
     }
@@ -207,6 +210,7 @@ impl Kernel {
         requires whole { IsWhole kept.now }
         requires absent { home_of self.old.table.lists kept.now.slot ≡ first_home kept.now.slot }
         ensures exact { PutsBack kept.now self.old self.new }
+        ensures kernel { IsKernel self.new }
     {
         self.state.put_back(kept);
     }
@@ -219,6 +223,7 @@ impl Kernel {
         requires going { is_waiting (process_at self.old.table slot).standing ≡ false }
         requires unmarked { self.old.table.marked ≡ no_marks }
         ensures exact { LinesUp slot self.old self.new }
+        ensures kernel { IsKernel self.new }
     {
         self.state.line_up(slot);
     }
@@ -230,6 +235,7 @@ impl Kernel {
         ensures exact { (m : Machine) (ready : List Name) → Holds self.old m None ready
             → Holds self.new m (Some (name_at ready index)) (without_index ready index) }
         ensures takes { TakesAt index self.old self.new }
+        ensures kernel { IsKernel self.new }
     {
         self.state.take(index);
     }

@@ -3,19 +3,22 @@
 ghost use Rattle.std.specs.Prelude.{◌≡◌};
 ghost use Rattle.edi_lex.specs.Bytes as spec;
 
-pub(crate) fn is_separator(b: u8) -> bool
+/// A blank, a tab or an end of a line: a byte that only parts symbols.
+pub fn is_separator(b: u8) -> bool
     ensures exact { result ≡ spec.is_separator b }
 {
     b == b' ' || b == b'\t' || b == b'\r' || b == b'\n'
 }
 
-pub(crate) fn is_letter(b: u8) -> bool
+/// A letter of a name, small or capital.
+pub fn is_letter(b: u8) -> bool
     ensures exact { result ≡ spec.is_letter b }
 {
     (b'a' <= b && b <= b'z') || (b'A' <= b && b <= b'Z')
 }
 
-pub(crate) fn is_digit(b: u8) -> bool
+/// A decimal digit.
+pub fn is_digit(b: u8) -> bool
     ensures exact { result ≡ spec.is_digit b }
 {
     b'0' <= b && b <= b'9'

@@ -12,6 +12,7 @@ mod symbol;
 mod text;
 mod words;
 
+pub use bytes::{is_digit, is_letter, is_separator};
 pub use fault::LexFault;
 pub use scanner::{Scanner, scan};
 pub use symbol::{Mark, Marks, Symbol, Symbols};

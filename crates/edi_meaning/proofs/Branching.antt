@@ -68,7 +68,7 @@ abbrev WorkGood : Name → List Work → Type 0
 WorkGood p [] = ⊤
 WorkGood p (doing a position ∷ work) = ActHasBranches a × WorkGood p work
 WorkGood p (loop_end cs position ∷ work) = ClausesHaveBranches cs × WorkGood p work
-WorkGood p (procedure_end ∷ work) = WorkGood p work
+WorkGood p (procedure_end line ∷ work) = WorkGood p work
 WorkGood p (branch_end ∷ work) = (0 < length p) × WorkGood p work
 WorkGood p (program_entry ∷ work) = WorkGood p work
 WorkGood p (program_end ∷ work) = WorkGood p work
@@ -126,7 +126,7 @@ module _ (unit : ProgramUnit) (have : ForksHaveBranches unit) (p : Name) (size :
   called_good (system_procedure number) cells line work w h = goes_good p (system_call number cells line w) (λ _. work) (λ _. h)
   called_good (block_procedure number parent) cells line work w h =
       if_either (Good p) (nat_lt (room size (shape w.store p)) (block_at unit.blocks number).need) _ _ tt
-      (turn_good p w.turns w _ (λ w. body_good number (procedure_end ∷ work) h))
+      (turn_good p w.turns w _ (λ w. body_good number (procedure_end line ∷ work) h))
 
   arguments_good : (c : World → Closure) (line : ℕ) (work : List Work) (r : Evaluation (List Cell)) → WorkGood p work
       → Good p (r >>= λ cells w. called unit p size (c w) cells line work w)
@@ -149,7 +149,7 @@ module _ (unit : ProgramUnit) (have : ForksHaveBranches unit) (p : Name) (size :
   work_good [] w h = tt
   work_good (doing a position ∷ work) w h = statement_good a position work w h.0 h.1
   work_good (loop_end cs position ∷ work) w h = turn_good p w.turns w _ (λ w. h)
-  work_good (procedure_end ∷ work) w h = turn_good p w.turns w _ (λ w. h)
+  work_good (procedure_end line ∷ work) w h = turn_good p w.turns w _ (λ w. h)
   work_good (branch_end ∷ work) w h = turn_good p w.turns w _ (λ w. h.0)
   work_good (program_entry ∷ work) w h = turn_good p w.turns w _ (λ w. body_good unit.program work h)
   work_good (program_end ∷ work) w h = turn_good p w.turns w _ (λ w. tt)

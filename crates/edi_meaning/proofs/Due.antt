@@ -26,7 +26,7 @@ abbrev pub Due : Name → List Work → ℕ → Type 0
 Due p [] d = ⊥
 Due p (doing a position ∷ work) d = (0 < d) × Due p work d
 Due p (loop_end cs position ∷ work) d = (0 < d) × Due p work d
-Due p (procedure_end ∷ work) d = (1 < d) × Due p work (d - 1)
+Due p (procedure_end line ∷ work) d = (1 < d) × Due p work (d - 1)
 Due p (branch_end ∷ work) d = 0 < d
 Due p (program_entry ∷ work) d = (p ≡ []) × (d ≡ 0) × Due p work 1
 Due p (program_end ∷ work) d = 0 < d
@@ -42,7 +42,7 @@ pub due_some : (p : Name) (work : List Work) (d : ℕ) → Due p work d → (0 <
 due_some p [] d h = absurd h
 due_some p (doing a position ∷ work) d h = inl h.0
 due_some p (loop_end cs position ∷ work) d h = inl h.0
-due_some p (procedure_end ∷ work) d h = inl (omega (arith, h.0))
+due_some p (procedure_end line ∷ work) d h = inl (omega (arith, h.0))
 due_some p (branch_end ∷ work) d h = inl h
 due_some p (program_entry ∷ work) d h = inr (work, refl, h.0, h.1)
 due_some p (program_end ∷ work) d h = inl h
@@ -118,8 +118,8 @@ module _ (unit : ProgramUnit) (p : Name) (size : ℕ) (F : Shape) where
       let i : Instance = instance_of unit p size n parent cells in
       let more : suc (length (F p)) ≡ length (shape (grown p i w.store) p) = ap suc (number w h) ∙ sym (length-grown p i w.store) in
       let same : length (F p) ≡ suc (length (F p)) - 1 = omega arith in
-      give s _ _ _ (subst (Due p (body_of unit n (procedure_end ∷ work))) more
-      (due_all p (block_at unit.blocks n).body _ 0 (procedure_end ∷ work) (suc (length (F p))) (omega arith)
+      give s _ _ _ (subst (Due p (body_of unit n (procedure_end line ∷ work))) more
+      (due_all p (block_at unit.blocks n).body _ 0 (procedure_end line ∷ work) (suc (length (F p))) (omega arith)
       (omega (arith, d.0), subst (Due p work) same d.1)))))
 
   statement_rests : (a : Act) (position : Position) (work : List Work) (w : World) → HasShape F w.store → (0 < length (F p)) × Due p work (length (F p))
@@ -140,7 +140,7 @@ module _ (unit : ProgramUnit) (p : Name) (size : ℕ) (F : Shape) where
   work_rests [] w h d = absurd d
   work_rests (doing a position ∷ work) w h d = statement_rests a position work w h d
   work_rests (loop_end cs position ∷ work) w h d = turn_keeps s F _ w.turns w _ refl h (λ w h. on (doing (tree.while_act cs) position ∷ work) w h d)
-  work_rests (procedure_end ∷ work) w h d =
+  work_rests (procedure_end line ∷ work) w h d =
       turn_keeps s F _ w.turns w _ refl h (λ w h.
       let l : length (F p) ≡ length (shape w.store p) = number w h in
       let less : length (F p) - 1 ≡ length (shape (shrunk p w.store) p) = omega (arith, l, length-shrunk p w.store) in

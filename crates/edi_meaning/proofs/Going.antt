@@ -45,10 +45,10 @@ pub grows_all : (a b c : Traced) → Grows a b → Grows b c → Grows a c
 grows_all a b c h k =
     (k.0 ++ h.0, k.1 ∙ ap (λ l. k.0 ++ l) h.1 ∙ sym (append_assoc k.0 h.0 a.past), newest_again a.now k.0 h.0 ∙ ap (λ s. newest s k.0) h.2 ∙ k.2)
 
-goes_same : (w : World) → GoesFrom w w.system w.turns
+pub goes_same : (w : World) → GoesFrom w w.system w.turns
 goes_same w = (omega arith, goes_on_same w.system.now, ([], refl, refl))
 
-goes_all : (w v : World) (system : Traced) (turns : ℕ) → GoesFrom w v.system v.turns → GoesFrom v system turns → GoesFrom w system turns
+pub goes_all : (w v : World) (system : Traced) (turns : ℕ) → GoesFrom w v.system v.turns → GoesFrom v system turns → GoesFrom w system turns
 goes_all w v system turns h k = (omega (arith, h.0, k.0), goes_on_all w.system.now v.system.now system.now h.1 k.1, grows_all w.system v.system system h.2 k.2)
 
 -- ---- of one process

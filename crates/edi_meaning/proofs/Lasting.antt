@@ -114,7 +114,7 @@ module _ {unit : ProgramUnit} {p : Name} {size : ℕ} (s : Lasting unit p size) 
   bind x V P (gives a w) f h k = k a w h.is.0 h.is.1
   bind x V P (ends e system turns) f h k = record { is = h.is }
 
-  turn_less : {A : Type 0} (x : s.Level) (P : A → World → Type 0) (n : ℕ) (w : World) (go : World → Evaluation A) → w.turns ≡ n → s.Holds x w
+  pub turn_less : {A : Type 0} (x : s.Level) (P : A → World → Type 0) (n : ℕ) (w : World) (go : World → Evaluation A) → w.turns ≡ n → s.Holds x w
       → ((v : World) → suc v.turns ≡ w.turns → s.Holds x v → Keeps P (go v)) → Keeps P (turn_from n w go)
   turn_less x P zero w go e h k = stop x P outcome.turns w e h
   turn_less x P (suc n) w go e h k = k (record w { turns = n }) (sym e) (s.turned x n w e h)
@@ -329,13 +329,13 @@ bounded s n = record {
   by_procedure = λ x c w h. s.by_procedure x c w h.1;
 }
 
-widen : {unit : ProgramUnit} {p : Name} {size : ℕ} {A : Type 0} (s : Lasting unit p size) (n : ℕ) (x : s.Level) (V : A → Type 0) (r : Evaluation A)
+pub widen : {unit : ProgramUnit} {p : Name} {size : ℕ} {A : Type 0} (s : Lasting unit p size) (n : ℕ) (x : s.Level) (V : A → Type 0) (r : Evaluation A)
     → Keeps (bounded s n) (At (bounded s n) x V) r → Keeps s (At s x V) r
 widen s n x V (gives a w) k = record { is = (k.is.0, k.is.1.1) }
 widen s n x V (ends e system turns) k = record { is = k.is }
 
 -- a level is reached with fewer turns left than there are levels from it on, so the last one never is
-levels_keep : {unit : ProgramUnit} {p : Name} {size : ℕ} (n : ℕ) (s : Lasting unit p size) (x : s.Level) (as' : Acts) (w : World) → w.turns < n → s.Holds x w
+pub levels_keep : {unit : ProgramUnit} {p : Name} {size : ℕ} (n : ℕ) (s : Lasting unit p size) (x : s.Level) (as' : Acts) (w : World) → w.turns < n → s.Holds x w
     → Keeps s (At s x Any) (levels_of unit p size n as' w)
 levels_keep zero s x as' w few h = absurd (omega (arith, few))
 levels_keep {unit} {p} {size} (suc n) s x as' w few h =

@@ -73,7 +73,7 @@ module _ {unit : ProgramUnit} {p : Name} {size : ℕ} (s : Lasting unit p size) 
   work_keeps [] w idle h = record { is = idle tt w h }
   work_keeps (doing a position ∷ work) w idle h = statement_keeps a position work w h
   work_keeps (loop_end cs position ∷ work) w idle h = turn_on _ w h
-  work_keeps (procedure_end ∷ work) w idle h = turn_keeps s x _ w.turns w _ refl h (λ w h. give s _ _ _ (m.shrinks w h))
+  work_keeps (procedure_end line ∷ work) w idle h = turn_keeps s x _ w.turns w _ refl h (λ w h. give s _ _ _ (m.shrinks w h))
   work_keeps (branch_end ∷ work) w idle h = turn_on _ w h
   work_keeps (program_entry ∷ work) w idle h = turn_keeps s x _ w.turns w _ refl h (λ w h. give s _ _ _ (m.begins w h))
   work_keeps (program_end ∷ work) w idle h = turn_keeps s x _ w.turns w _ refl h (λ w h. stop s x _ outcome.done w tt h)

@@ -68,7 +68,7 @@ module _ (unit : ProgramUnit) (p : Name) (size : ℕ) where
   work_unmarked [] w = tt
   work_unmarked (doing a position ∷ work) w = statement_unmarked a position work w
   work_unmarked (loop_end cs position ∷ work) w = turn_unmarked w.turns w _ (λ w. tt)
-  work_unmarked (procedure_end ∷ work) w = turn_unmarked w.turns w _ (λ w. tt)
+  work_unmarked (procedure_end line ∷ work) w = turn_unmarked w.turns w _ (λ w. tt)
   work_unmarked (branch_end ∷ work) w = turn_unmarked w.turns w _ (λ w. tt)
   work_unmarked (program_entry ∷ work) w = turn_unmarked w.turns w _ (λ w. tt)
   work_unmarked (program_end ∷ work) w = turn_unmarked w.turns w _ (λ w. tt)

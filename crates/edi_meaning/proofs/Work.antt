@@ -49,7 +49,7 @@ abbrev pub work_size : List Work → ℕ
 work_size [] = 0
 work_size (doing a position ∷ work) = act_size a + work_size work
 work_size (loop_end cs position ∷ work) = 1 + work_size work
-work_size (procedure_end ∷ work) = 1 + work_size work
+work_size (procedure_end line ∷ work) = 1 + work_size work
 work_size (branch_end ∷ work) = 1 + work_size work
 work_size (program_entry ∷ work) = 1 + work_size work
 work_size (program_end ∷ work) = 1 + work_size work
@@ -147,7 +147,7 @@ module _ (unit : ProgramUnit) (p : Name) (size t : ℕ) where
   work_falling [] w h = record { is = (h, tt) }
   work_falling (doing a position ∷ work) w h = statement_falling a position work w h
   work_falling (loop_end cs position ∷ work) w h = goes_after_turn _ _ w h
-  work_falling (procedure_end ∷ work) w h = turn_falling _ w.turns w _ refl h (λ w l. give few _ _ _ (inl l))
+  work_falling (procedure_end line ∷ work) w h = turn_falling _ w.turns w _ refl h (λ w l. give few _ _ _ (inl l))
   work_falling (branch_end ∷ work) w h = turn_falling _ w.turns w _ refl h (λ w l. give few _ _ w l)
   work_falling (program_entry ∷ work) w h = turn_falling _ w.turns w _ refl h (λ w l. give few _ _ _ (inl l))
   work_falling (program_end ∷ work) w h = turn_falling _ w.turns w _ refl h (λ w l. stop few tt _ outcome.done w tt (omega arith))

@@ -33,8 +33,8 @@ pub data Work : Type 0 where
   doing : Act → Position → Work
   -- the end of a loop's body, after which the loop comes again
   loop_end : Clauses → Position → Work
-  -- the end of a procedure
-  procedure_end : Work
+  -- the end of a procedure that was called at this line
+  procedure_end : (line : ℕ) → Work
   -- the end of a branch
   branch_end : Work
   -- the entry of the program, and its end
@@ -126,7 +126,7 @@ module _ (unit : ProgramUnit) (p : Name) (size : ℕ) where
   abbrev pub called : Closure → List Cell → (line : ℕ) → List Work → World → Evaluation Asks
   called (system_procedure number) cells line work w = system_call number cells line w >>= λ _ w. gives (goes work) w
   called (block_procedure number parent) cells line work w =
-      entered unit p size number parent cells line w (gives (goes (body_of unit number (procedure_end ∷ work))))
+      entered unit p size number parent cells line w (gives (goes (body_of unit number (procedure_end line ∷ work))))
 
   abbrev pub statement_step : Act → Position → List Work → World → Evaluation Asks
   statement_step tree.skip position work w = gives (goes work) w
@@ -152,7 +152,7 @@ module _ (unit : ProgramUnit) (p : Name) (size : ℕ) where
   work_step [] w = stops outcome.turns w
   work_step (doing a position ∷ work) w = statement_step a position work w
   work_step (loop_end cs position ∷ work) w = turn w (gives (goes (doing (tree.while_act cs) position ∷ work)))
-  work_step (procedure_end ∷ work) w = left unit p size w (gives (goes work))
+  work_step (procedure_end line ∷ work) w = left unit p size w (gives (goes work))
   work_step (branch_end ∷ work) w = turn w (gives leaves)
   work_step (program_entry ∷ work) w = program_entered work w
   work_step (program_end ∷ work) w = turn w (stops outcome.done)

@@ -14,4 +14,5 @@ mod session_ends;
 mod session_faults;
 mod session_refusals;
 mod sessions;
+mod watches;
 mod world;

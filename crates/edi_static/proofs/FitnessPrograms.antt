@@ -56,7 +56,7 @@ start_fields (suc zero) = omega arith
 start_fields (suc (suc zero)) = omega arith
 start_fields (suc (suc (suc t))) = omega arith
 
-start_sits : Sits (enter false at_first)
+pub start_sits : Sits (enter false at_first)
 start_sits = record {
   types = record {
     table = record { three = standard_table.three; standard = standard_table.standard; declared = standard_table.declared };
@@ -75,7 +75,7 @@ global_onward : (g : text.Global) (env : Environment) → Sits env → GlobalInR
 global_onward (text.const_global cs) env s h = const_list_onward false cs env s h
 global_onward (text.type_global t) env s h = type_decl_onward false t env s h
 
-globals_onward : (gs : text.Globals) (env : Environment) → Sits env → GlobalsInRange gs → Gives (Onward false env) (global_decls gs env)
+pub globals_onward : (gs : text.Globals) (env : Environment) → Sits env → GlobalsInRange gs → Gives (Onward false env) (global_decls gs env)
 globals_onward text.no_global env s h = onward_same false env s
 globals_onward (text.next_global g gs) env s h =
     go_on false env (global_decl g env) (global_decls gs) (global_onward g env s h.0) (λ e o. globals_onward gs e o.sits h.1)

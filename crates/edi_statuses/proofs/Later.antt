@@ -13,13 +13,14 @@ use Rattle.edi_statuses.specs.Steps.{AfterStep, goes, Ready}
 use Rattle.edi_statuses.specs.Executions.{Runnable, text, code, BrokeRun}
 use Rattle.edi_statuses.specs.Sessions.{BootSteps, EndedUnkept, EndedWhole, HoldsSession}
 use Rattle.edi_statuses.specs.Commands.{Comes, Does, IsDone, IsNothing, OnlyKeeps, OnlyBlocks, OnlyShows, ShowsReport, KeepsCode, Runs, AreNew, AreMigrated, ArePut}
-use Rattle.edi_statuses.specs.Commands.{RunSteps, ExecSteps, TextSteps, OldSteps, PutSteps, GetSteps, ListSteps, DemoSteps}
+use Rattle.edi_statuses.specs.Commands.{RunSteps, ExecSteps, WatchSteps, Watches, TextSteps, OldSteps, PutSteps, GetSteps, ListSteps, DemoSteps}
 use Rattle.edi_statuses.specs.Commands.{Demonstrates, OnItsOwn, with_own}
 use Rattle.edi_statuses.specs.Broken.{AtRecord, HasBegun, BrokeDemo, RanWhole, RanUnkept, IsOpen, ArePutInPart}
 use Rattle.edi_statuses.specs.Means.{ComesToBreak, Means, MeansOf, MeansRefused, Wants, with_shown}
-use Rattle.edi_statuses.proofs.Terminal.{StillTold, asks_later, fetch_fails_later, run_later, exec_later, text_later, old_later, put_later, get_later, nothing_later, begun_later}
+use Rattle.edi_statuses.proofs.Terminal.{StillTold, asks_later, fetch_fails_later, run_later, exec_later, watch_later, text_later, old_later, put_later, get_later, nothing_later, begun_later}
 use Rattle.edi_statuses.proofs.Terminal.{drive_later, keeps_later, blocks_later, code_later, runs_later, whole_later, unkept_later, broke_later}
 use Rattle.edi_statuses.proofs.Terminal.{record_later, does_later, list_later, shows_later, front_later, demo_later}
+use Rattle.edi_statuses.proofs.Watched.{watches_later, watched_wants, watched_broke}
 use Rattle.edi_statuses.proofs.Terminal.{boot_later, holds_later, ended_later, broke_session_later}
 
 module _ (b m : Outside) (y : Option (List ℕ)) (still : StillTold m.shown y) where
@@ -100,6 +101,21 @@ module _ (b m : Outside) (y : Option (List ℕ)) (still : StillTold m.shown y) w
       let r = run_later_by (ExecSteps before_ file options.choices) (ExecSteps seen_later file options.choices) (λ v. code v.0) (λ v. v.1) options.turns
       options.record_file shown kernel (exec_later b m y still file options.choices) in
       record { comes = r.comes; wants = r.wants; files = r.files; drive = r.broke; input = r.broke; output = r.broke }
+
+  watch_is : (file points_file out : List ℕ) (options : Options) (shown : List ℕ) (kernel : Lent) → Later (words.watch file points_file out options) shown kernel
+  watch_is file points_file out options shown kernel =
+      let steps = watch_later b m y still file points_file options.choices in
+      let broke = watched_broke b m y still file points_file options.choices options.turns shown in
+      record {
+        comes = λ s. does_later b m y still (WatchSteps before_ file points_file options.choices) (WatchSteps seen_later file points_file options.choices)
+            (λ a. Watches a.0 a.2 options.turns a.1 out options.record_file) (λ a. Watches a.0 a.2 options.turns a.1 out options.record_file) s shown
+            kernel steps (λ a. watches_later b m y still a.0 a.2 options.turns a.1 out options.record_file s shown kernel);
+        wants = watched_wants b m y still file points_file out options shown kernel;
+        files = λ h. (h.0, steps (goes h.0) h.1, whole_later b m y still (text h.0.0) options.turns h.0.1 shown kernel h.2);
+        drive = broke;
+        input = broke;
+        output = broke;
+      }
 
   -- ---- the demonstration
 
@@ -298,8 +314,7 @@ module _ (b m : Outside) (y : Option (List ℕ)) (still : StillTold m.shown y) w
   each_is (words.check file) shown kernel = check_is file shown kernel
   each_is (words.walk file choices turns) shown kernel =
       none_is (words.walk file choices turns) shown kernel (λ s h. h) (nothing_later b m y still shown kernel) (λ h. h) (λ h. h) (λ h. h) (λ h. h)
-  each_is (words.watch file points out options) shown kernel =
-      none_is (words.watch file points out options) shown kernel (λ s h. h) (nothing_later b m y still shown kernel) (λ h. h) (λ h. h) (λ h. h) (λ h. h)
+  each_is (words.watch file points_file out options) shown kernel = watch_is file points_file out options shown kernel
 
   -- ---- the statuses
 

@@ -9,3 +9,4 @@ pub mod Closing
 pub mod EachLeft
 pub mod Silent
 pub mod Causes
+pub mod Watched

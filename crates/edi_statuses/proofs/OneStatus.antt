@@ -3,6 +3,7 @@ use Rattle.std.proofs.Common.{◌≡◌, ◌∙◌, ℕ, List, [], ◌∷◌, �
 use Rattle.std.proofs.lemmas.List.{append_cancel_left}
 use Rattle.edi_told.specs.Told.{WhereTold}
 use Rattle.edi_calls.specs.Choice.{Choices}
+use Rattle.edi_debug.specs.stops.Stops.{Watched}
 use Rattle.edi_calls.specs.Outcome.{Ending, Outcome}
 use Rattle.edi_calls.specs.State.{State, fresh}
 use Rattle.edi_target.specs.Fetch.{fetch}
@@ -17,14 +18,14 @@ use Rattle.edi_words.specs.Words as words
 use Rattle.edi_words.specs.Words.{ChoicesFrom, Command}
 use Rattle.edi_statuses.specs.declared.status.Status.{Status}
 use Rattle.edi_statuses.specs.Outside.{Outside, Devices, devices_of, system_on, KernelLeft, Lent}
-use Rattle.edi_statuses.specs.Executions.{Runnable, text, code, HasOutcome, HasRun, status_of}
+use Rattle.edi_statuses.specs.Executions.{Runnable, text, code, HasOutcome, HasRun, Ran, status_of}
 use Rattle.edi_statuses.specs.Commands.{Comes, IsDone, OnlyBlocks, OnlyKeeps, OnlyShows, ShowsReport, KeepsCode, Runs, AreNew, AreMigrated, ArePut}
-use Rattle.edi_statuses.specs.Commands.{RunSteps, ExecSteps, TextSteps, OldSteps, PutSteps, GetSteps, ListSteps, DemoSteps}
+use Rattle.edi_statuses.specs.Commands.{RunSteps, ExecSteps, WatchSteps, Watches, TextSteps, OldSteps, PutSteps, GetSteps, ListSteps, DemoSteps}
 use Rattle.edi_statuses.specs.Commands.{Demonstrates, size_shown, with_own}
 use Rattle.edi_statuses.specs.Steps.{goes, ◌>>=◌, Accepts, Ready}
 use Rattle.edi_statuses.specs.Means.{IsTold, OneStatus, is_session}
 use Rattle.edi_statuses.proofs.StepLemmas.{IsOne, TextsAreOne, ready_one, then_one, tests_one, fetches_one, choices_one, accepts_one, mounts_one}
-use Rattle.edi_statuses.proofs.StepLemmas.{loads_one, old_one, has_place_one, reads_one, IsOneEffect, does_one}
+use Rattle.edi_statuses.proofs.StepLemmas.{loads_one, old_one, finds_one, has_place_one, reads_one, IsOneEffect, does_one}
 
 -- ---- executions
 
@@ -73,17 +74,25 @@ devices_told o told = go o.blocks o.input o.shown o.printed told.blocks told.inp
 there : {A : Type 0} (P : A → A → Type 0) (before after : Option A) (d e : A) → before ≡ Some d → after ≡ Some e → WhereTold before after P → P d e
 there P before after d e b a h = subst (λ x. WhereTold (Some d) x P) a (subst (λ x. WhereTold x after P) b h)
 
+-- runs that came to their endings are the same
+ended_same : (before after behind : Outside) → IsTold before → IsTold after → IsTold behind → (program : Runnable) (bound : ℕ) (choices : Choices)
+    (s t : Ending) (m n : ℕ) (shown bytes : List ℕ) (kernel other : Lent) → Ran program bound choices s m before after shown kernel
+    → Ran program bound choices t n before behind bytes other → Same s t shown bytes kernel.after other.after
+ended_same before after behind is_told after_told behind_told program bound choices s t m n shown bytes kernel other h k =
+    let d = devices_told before is_told in
+    let e = devices_told after after_told in
+    let f = devices_told behind behind_told in
+    ran_same program bound choices s t m n d.devices e.devices f.devices shown bytes kernel.after other.after
+    (there _ _ _ d.devices e.devices d.are e.are h) (there _ _ _ d.devices f.devices d.are f.are k)
+
 -- a run has one status, shows one thing and takes one number of turns
 runs_same : (before after behind : Outside) → IsTold before → IsTold after → IsTold behind → (program : Runnable) (bound : ℕ) (choices : Choices)
     (record_file : Option (List ℕ)) (s t : Status) (shown bytes : List ℕ) (kernel other : Lent)
     → Runs program bound choices record_file s before after shown kernel → Runs program bound choices record_file t before behind bytes other
     → (s ≡ t) × (shown ≡ bytes) × (kernel.after.used ≡ other.after.used)
 runs_same before after behind is_told after_told behind_told program bound choices record_file s t shown bytes kernel other h k =
-    let d = devices_told before is_told in
-    let e = devices_told after after_told in
-    let f = devices_told behind behind_told in
-    let same = ran_same program bound choices h.ending k.ending h.drawn k.drawn d.devices e.devices f.devices shown bytes kernel.after other.after
-    (there _ _ _ d.devices e.devices d.are e.are h.ran) (there _ _ _ d.devices f.devices d.are f.are k.ran) in
+    let same = ended_same before after behind is_told after_told behind_told program bound choices h.ending k.ending h.drawn k.drawn shown bytes kernel other
+    h.ran k.ran in
     (h.status_is ∙ ap status_of same.ending ∙ sym k.status_is, same.shown_, same.used)
 
 own_told : (blocks : List (List ℕ)) (input : List ℕ) (o : Outside) → IsTold o → IsTold (with_own blocks input o)
@@ -96,6 +105,13 @@ module _ (each : TextsAreOne) (before after behind : Outside) (is_told : IsTold 
   runs_one program bound choices record_file s t shown bytes kernel other h k =
       let same = runs_same before after behind is_told after_told behind_told program bound choices record_file s t shown bytes kernel other h k in
       (same.0, same.1)
+
+  watches_one : (program : List ℕ) (points : List Watched) (bound : ℕ) (choices : Choices) (out : List ℕ) (record_file : Option (List ℕ))
+      → IsOneEffect before after behind (Watches program points bound choices out record_file)
+  watches_one program points bound choices out record_file s t shown bytes kernel other h k =
+      let same = ended_same before after behind is_told after_told behind_told (text program) bound choices h.ending k.ending h.drawn k.drawn shown bytes
+      kernel other h.ran k.ran in
+      (h.status_is ∙ ap status_of same.ending ∙ sym k.status_is, same.shown_)
 
   demo_one : (n bound : ℕ) (choices : Choices) (record_file : Option (List ℕ))
       → IsOneEffect before after behind (Demonstrates n bound choices record_file)
@@ -125,6 +141,13 @@ module _ (each : TextsAreOne) (before after behind : Outside) (is_told : IsTold 
   text_steps file from =
       then_one _ _ (fetches_one before is_told.files file) (λ bytes. then_one _ _ (choices_one before is_told.files from)
       (λ choices. then_one _ _ (accepts_one each bytes) (λ unit. then_one _ _ (mounts_one before is_told.blocks) (λ done. ready_one _))))
+
+  watch_steps : (file points_file : List ℕ) (from : ChoicesFrom) → IsOne (WatchSteps before file points_file from)
+  watch_steps file points_file from =
+      then_one _ _ (then_one _ _ (fetches_one before is_told.files file) (λ bytes. then_one _ _ (choices_one before is_told.files from)
+      (λ choices. then_one _ _ (accepts_one each bytes) (λ unit. then_one _ _ (fetches_one before is_told.files points_file)
+      (λ lines. then_one _ _ (finds_one bytes lines) (λ points. ready_one _))))))
+      (λ a. then_one _ _ (mounts_one before is_told.blocks) (λ done. ready_one _))
 
   code_steps : (file : List ℕ) (from : ChoicesFrom) → IsOne (ExecSteps before file from)
   code_steps file from =
@@ -190,7 +213,9 @@ module _ (each : TextsAreOne) (before after behind : Outside) (is_told : IsTold 
       (λ a. IsDone (ShowsReport a.1)) (compile_steps file) (λ a went. report_one a.1 (unit_fits file a went))
   comes_one (words.boot o) no_session = absurd (true≢false no_session)
   comes_one (words.walk file choices turns) no_session = λ s t shown bytes kernel other h k. absurd h
-  comes_one (words.watch file points out o) no_session = λ s t shown bytes kernel other h k. absurd h
+  comes_one (words.watch file points_file out o) no_session = does_one before after behind (WatchSteps before file points_file o.choices)
+      (λ a. Watches a.0 a.2 o.turns a.1 out o.record_file) (watch_steps file points_file o.choices)
+      (λ a went. watches_one a.0 a.2 o.turns a.1 out o.record_file)
 
 -- THE LAW
 pub one_status : TextsAreOne → OneStatus

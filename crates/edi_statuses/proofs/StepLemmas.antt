@@ -1,11 +1,17 @@
 -- Each step comes to one thing, where the contents that it looks at are told; so does a chain of such steps, and a command that
 -- is made of it.
 use Rattle.std.proofs.Common.{◌≡◌, ◌∙◌, ℕ, Bool, true≢false, List, Option, Some, None, IsSome, IfSome}
-use Rattle.std.proofs.Common.{unwrap_or, option_map, refl, sym, ap, subst, inl, inr}
+use Rattle.std.proofs.Common.{unwrap_or, option_map, refl, sym, ap, subst, inl, inr, Result, Ok, Err}
 use Rattle.std.specs.Prelude.{⊤}
 use Rattle.edi_image.specs.migrate.OldImage.{old_fault_of}
 use Rattle.edi_words.specs.Words.{ChoicesFrom, nowhere, file, seed}
 use Rattle.edi_trace.specs.Lines.{Reading, values, bad_line, read_of}
+use Rattle.edi_lex.specs.declared.symbol.Mark.{Mark}
+use Rattle.edi_lex.specs.declared.fault.LexFault.{LexFault}
+use Rattle.edi_lex.specs.Symbols.{symbols_of}
+use Rattle.edi_tree.specs.Tree.{Program}
+use Rattle.edi_debug.specs.Points as points
+use Rattle.edi_watch.specs.Logs.{AreOfTree, IsTreeOf}
 use Rattle.edi_unit.specs.Fits.{Fits}
 use Rattle.edi_unit.specs.Tree.{ProgramUnit}
 use Rattle.edi_texts.specs.declared.kind.RefusalKind.{RefusalKind}
@@ -15,7 +21,7 @@ use Rattle.edi_statuses.specs.declared.status.Status.{Status}
 use Rattle.edi_statuses.specs.declared.status.Status.TheVariants as status
 use Rattle.edi_statuses.specs.Outside.{Outside, Lent}
 use Rattle.edi_statuses.specs.Steps.{AfterStep, goes, stops, ◌>>=◌, Ready, Fetches, GivesChoices, ReadsChoices, Accepts, Mounts}
-use Rattle.edi_statuses.specs.Steps.{Loads, ChecksOld, Tests}
+use Rattle.edi_statuses.specs.Steps.{Loads, ChecksOld, FindsPoints, GivesPoints, Tests}
 use Rattle.edi_statuses.specs.Commands.{CommandEffect, Does, HasPlace, ReadsTitle}
 
 abbrev pub IsOne : {A : Type 0} → (AfterStep A → Type 0) → Type 0
@@ -120,6 +126,24 @@ accepts_one one text (stops s) (goes b) h k = absurd (one.not_both text h.3.0 h.
 accepts_one one text (stops s) (stops t) h k =
     let same = one.one_fault text h.3.0 k.3.0 h.0 k.0 h.1 k.1 h.3.1 k.3.1 in
     ap (λ x. stops x) (h.2 ∙ (λ i. status.Refused (same.1 i) (same.2 i)) ∙ sym k.2)
+
+points_one : (reading : points.Reading) → IsOne (GivesPoints reading)
+points_one (points.read found) (goes a) (goes b) h k = ap (λ x. goes x) (h ∙ sym k)
+points_one (points.read found) (goes a) (stops t) h k = absurd k
+points_one (points.read found) (stops s) q h k = absurd h
+points_one (points.bad_line n) (goes a) q h k = absurd h
+points_one (points.bad_line n) (stops s) (goes b) h k = absurd k
+points_one (points.bad_line n) (stops s) (stops t) h k = ap (λ x. stops x) (h ∙ sym k)
+
+-- a text is that of one program
+one_tree : (known : Result (List Mark × ℕ) LexFault) (one other : Program) → AreOfTree known one → AreOfTree known other → one ≡ other
+one_tree (Err fault) one other h k = absurd h
+one_tree (Ok known) one other h k = k.one one h.spells
+
+pub finds_one : (bytes lines : List ℕ) → IsOne (FindsPoints bytes lines)
+finds_one bytes lines r q h k =
+    let same = one_tree (symbols_of bytes) h.0 k.0 h.1 k.1 in
+    points_one (points.read_of k.0 lines) r q (subst (λ x. GivesPoints (points.read_of x lines) r) same h.2) k.2
 
 pub mounts_one : (o : Outside) → IsSome o.blocks → IsOne (Mounts o)
 mounts_one o told (goes a) (goes b) h k = refl

@@ -4,6 +4,7 @@ use Rattle.std.specs.Prelude.{⊤}
 use Rattle.edi_told.specs.Told.{WhereTold}
 use Rattle.edi_host.specs.Files.{Contents}
 use Rattle.edi_calls.specs.Choice.{Choices}
+use Rattle.edi_debug.specs.stops.Stops.{Watched}
 use Rattle.edi_calls.specs.Outcome.{Ending}
 use Rattle.edi_calls.specs.State as state
 use Rattle.edi_calls.specs.State.{State}
@@ -16,13 +17,13 @@ use Rattle.edi_words.specs.Words.{ChoicesFrom, Command}
 use Rattle.edi_statuses.specs.declared.status.Status.{Status}
 use Rattle.edi_statuses.specs.Outside.{Outside, seen, Lent, KernelLeft, Kept, Devices, devices_of, devices_with, system_on}
 use Rattle.edi_statuses.specs.Steps.{AfterStep, goes, stops, ◌>>=◌, Ready, Fetches, GivesChoices, ReadsChoices, ChoicesAreThere, Accepts, Mounts, Loads}
-use Rattle.edi_statuses.specs.Steps.{ChecksOld, FitsDisk, HasRoom}
+use Rattle.edi_statuses.specs.Steps.{ChecksOld, FindsPoints, FitsDisk, HasRoom}
 use Rattle.edi_statuses.specs.Executions.{Runnable, HasMoment, HasRun, StandsAt, BrokeRun}
 use Rattle.edi_session.specs.declared.end.SessionEnd.{SessionEnd}
 use Rattle.edi_session.specs.Session.{IsMomentOfSession}
 use Rattle.edi_statuses.specs.Sessions.{BootSteps, BrokeSession, HasEnded, EndedWhole, HoldsSession, shell_on}
 use Rattle.edi_statuses.specs.Commands.{CommandEffect, Does, IsNothing, OnlyKeeps, OnlyBlocks, OnlyShows, KeepsCode, Runs, HasPlace, ReadsTitle}
-use Rattle.edi_statuses.specs.Commands.{RunSteps, ExecSteps, TextSteps, OldSteps, PutSteps, GetSteps, ListSteps, DemoSteps}
+use Rattle.edi_statuses.specs.Commands.{RunSteps, ExecSteps, PointSteps, WatchSteps, TextSteps, OldSteps, PutSteps, GetSteps, ListSteps, DemoSteps}
 use Rattle.edi_statuses.specs.Broken.{AtRecord, HasNotBegun, ChangesDrive, ShowsFront, RanWhole, RanUnkept}
 use Rattle.edi_statuses.specs.Facts.{FirstFile, no_file, file_named, file_of_choices, facts_of}
 use Rattle.edi_statuses.specs.Means.{AsksDrive, FetchFails, IsThere, with_shown}
@@ -82,7 +83,7 @@ module _ (b m : Outside) (y : Option (List ℕ)) (still : StillTold m.shown y) w
   abbrev now : Outside
   now = with_shown y m
 
-  told_later : (P : Devices → Devices → Type 0) → Silent P → WhereTold (devices_of seen_then) (devices_of m) P
+  pub told_later : (P : Devices → Devices → Type 0) → Silent P → WhereTold (devices_of seen_then) (devices_of m) P
       → WhereTold (devices_of seen_now) (devices_of now) P
   told_later P silent told = devices_later P silent b m.files m.blocks m.input m.shown y m.printed still told
 
@@ -135,6 +136,33 @@ module _ (b m : Outside) (y : Option (List ℕ)) (still : StillTold m.shown y) w
 
   pub exec_later : (file : List ℕ) (from : ChoicesFrom) (r : AfterStep (CodeParts × Choices)) → ExecSteps seen_then file from r → ExecSteps seen_now file from r
   exec_later file from r h = program_later Loads (λ bytes choices parts. (parts, choices)) file from r h
+
+  -- the steps of a watched program up to the drive
+  points_later : (file points_file : List ℕ) (from : ChoicesFrom) (r : AfterStep (List ℕ × Choices × List Watched)) → PointSteps seen_then file points_file from r
+      → PointSteps seen_now file points_file from r
+  points_later file points_file from r h =
+      step_later (Fetches seen_then file) (Fetches seen_now file)
+      (λ bytes. ReadsChoices seen_then from >>= λ choices. Accepts bytes >>= λ unit. Fetches seen_then points_file >>= λ lines.
+      FindsPoints bytes lines >>= λ points. Ready (bytes, choices, points))
+      (λ bytes. ReadsChoices seen_now from >>= λ choices. Accepts bytes >>= λ unit. Fetches seen_now points_file >>= λ lines.
+      FindsPoints bytes lines >>= λ points. Ready (bytes, choices, points))
+      (fetches_later file)
+      (λ bytes. step_later (ReadsChoices seen_then from) (ReadsChoices seen_now from)
+      (λ choices. Accepts bytes >>= λ unit. Fetches seen_then points_file >>= λ lines. FindsPoints bytes lines >>= λ points. Ready (bytes, choices, points))
+      (λ choices. Accepts bytes >>= λ unit. Fetches seen_now points_file >>= λ lines. FindsPoints bytes lines >>= λ points. Ready (bytes, choices, points))
+      (choices_later from)
+      (λ choices. step_later (Accepts bytes) (Accepts bytes)
+      (λ unit. Fetches seen_then points_file >>= λ lines. FindsPoints bytes lines >>= λ points. Ready (bytes, choices, points))
+      (λ unit. Fetches seen_now points_file >>= λ lines. FindsPoints bytes lines >>= λ points. Ready (bytes, choices, points)) (λ q k. k)
+      (λ unit. step_later (Fetches seen_then points_file) (Fetches seen_now points_file) (λ lines. FindsPoints bytes lines >>= λ points. Ready (bytes, choices, points))
+      (λ lines. FindsPoints bytes lines >>= λ points. Ready (bytes, choices, points)) (fetches_later points_file) (λ v q k. k)))) r h
+
+  pub watch_later : (file points_file : List ℕ) (from : ChoicesFrom) (r : AfterStep (List ℕ × Choices × List Watched)) → WatchSteps seen_then file points_file from r
+      → WatchSteps seen_now file points_file from r
+  watch_later file points_file from r h =
+      step_later (PointSteps seen_then file points_file from) (PointSteps seen_now file points_file from) (λ a. Mounts seen_then >>= λ done. Ready a)
+      (λ a. Mounts seen_now >>= λ done. Ready a) (points_later file points_file from)
+      (λ a. step_later (Mounts seen_then) (Mounts seen_now) (λ done. Ready a) (λ done. Ready a) mounts_later (λ w t l. l)) r h
 
   -- steps that look at a fetched file alone
   fetched_later : {A : Type 0} (file : List ℕ) (more : List ℕ → AfterStep A → Type 0) (r : AfterStep A) → (Fetches seen_then file >>= more) r
@@ -193,6 +221,7 @@ module _ (b m : Outside) (y : Option (List ℕ)) (still : StillTold m.shown y) w
   asks_later (words.replay file choices turns) h = (h.0, third_later file (words.file choices) Accepts (goes h.0) h.1)
   asks_later (words.exec file o) h = (h.0, third_later file o.choices Loads (goes h.0) h.1)
   asks_later (words.boot o) h = (h.0, choices_later o.choices (goes h.0) h.1)
+  asks_later (words.watch file points_file out o) h = (h.0, points_later file points_file o.choices (goes h.0) h.1)
   asks_later (words.put file title) h = (h.0, fetched_later file (λ bytes. FitsDisk bytes) (goes h.0) h.1)
   asks_later (words.get title file) h = tt
   asks_later c h = absurd h
@@ -251,7 +280,7 @@ module _ (b m : Outside) (y : Option (List ℕ)) (still : StillTold m.shown y) w
     kernel_same = h.kernel_same;
   }
 
-  has_run_silent : (program : Runnable) (bound : ℕ) (choices : Choices) (ending : Ending) (drawn : ℕ) (shown : List ℕ) (kernel : KernelLeft)
+  pub has_run_silent : (program : Runnable) (bound : ℕ) (choices : Choices) (ending : Ending) (drawn : ℕ) (shown : List ℕ) (kernel : KernelLeft)
       → Silent (λ d e. HasRun program bound choices ending drawn d e shown kernel)
   has_run_silent program bound choices ending drawn shown kernel d e bytes h = record {
     outcome_ = h.outcome_;

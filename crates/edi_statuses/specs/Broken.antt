@@ -1,19 +1,20 @@
 -- Definition. What is left by a command that was broken off: memory ran out, or an object outside failed.
-use Rattle.std.specs.Prelude.{◌≡◌, ◌≤◌, ◌⊎◌, ℕ, List, [], ◌∷◌, ◌++◌, length, Option, Some, None, ⊤}
+use Rattle.std.specs.Prelude.{◌≡◌, ◌≤◌, ◌⊎◌, ℕ, List, [], ◌∷◌, ◌++◌, length, Option, Some, None, IsSome, ⊤}
 use Rattle.edi_told.specs.Told.{WhereTold}
 use Rattle.edi_calls.specs.Choice.{Choices}
 use Rattle.edi_calls.specs.Outcome.{Ending}
 use Rattle.edi_image.specs.Image.{Holds, slots_of}
 use Rattle.edi_unit.specs.Tree.{ProgramUnit}
+use Rattle.edi_debug.specs.stops.Stops.{Watched}
 use Rattle.edi_disjoint.specs.Report.{IsReport}
 use Rattle.edi_utils.specs.Demo.{demo_text}
 use Rattle.edi_words.specs.Words.{ChoicesFrom}
 use Rattle.edi_statuses.specs.declared.status.Status.TheVariants as status
 use Rattle.edi_statuses.specs.Showing.{IsFront}
-use Rattle.edi_statuses.specs.Outside.{Outside, SameFiles, SameInput, SamePrinted, IsAsBefore, Lent}
+use Rattle.edi_statuses.specs.Outside.{Outside, Keeps, SameFiles, SameInput, SamePrinted, IsAsBefore, Lent}
 use Rattle.edi_statuses.specs.Steps.{AfterStep, goes, ◌>>=◌, Fetches, ReadsChoices, Accepts, Loads}
 use Rattle.edi_statuses.specs.Executions.{Runnable, text, Ran, BrokeRun}
-use Rattle.edi_statuses.specs.Commands.{Runs, OnItsOwn, released, put_in, size_line}
+use Rattle.edi_statuses.specs.Commands.{Runs, OnItsOwn, IsLog, PointSteps, released, put_in, size_line}
 
 -- ---- memory ran out
 
@@ -29,6 +30,21 @@ pub record RanWhole (program : Runnable) (bound : ℕ) (choices : Choices) (befo
 abbrev pub RanUnkept : Runnable → (bound : ℕ) → Choices → Outside → Outside → (shown : List ℕ) → Lent → Type 0
 RanUnkept program bound choices before after shown kernel =
     RanWhole program bound choices before after shown kernel × SameFiles before after
+
+-- a log was kept, and no other file; a record was to be kept
+pub record KeepsLog (bytes : List ℕ) (points : List Watched) (bound : ℕ) (choices : Choices) (out : List ℕ) (record_file : Option (List ℕ))
+    (before after : Outside) : Type 0 where
+  pub asked : IsSome record_file
+  pub log : List ℕ
+  pub log_is : IsLog bytes points bound choices before after log
+  pub keeps : Keeps before after ((out, log) ∷ [])
+
+-- A program was watched to its ending, and its log was not kept, or the record was not.
+abbrev pub WatchedUnkept : (bytes : List ℕ) → List Watched → (bound : ℕ) → Choices → (out : List ℕ) → (record_file : Option (List ℕ)) → Outside → Outside
+    → (shown : List ℕ) → Lent → Type 0
+WatchedUnkept bytes points bound choices out record_file before after shown kernel =
+    RanWhole (text bytes) bound choices before after shown kernel
+    × (SameFiles before after ⊎ KeepsLog bytes points bound choices out record_file before after)
 
 -- where a record is asked for, and it is to be kept
 abbrev pub AtRecord : {A : Type 0} → Option (List ℕ) → (AfterStep A → Type 0) → (A → Type 0) → Type 0
@@ -104,3 +120,7 @@ RunAsks o file from = WentOn (Fetches o file >>= λ bytes. ReadsChoices o from >
 
 abbrev pub ExecAsks : Outside → (file : List ℕ) → ChoicesFrom → Type 0
 ExecAsks o file from = WentOn (Fetches o file >>= λ bytes. ReadsChoices o from >>= λ choices. Loads bytes)
+
+-- and those of `watch`
+abbrev pub WatchAsks : Outside → (file points_file : List ℕ) → ChoicesFrom → Type 0
+WatchAsks o file points_file from = WentOn (PointSteps o file points_file from)

@@ -20,6 +20,8 @@ use Rattle.edi_image.specs.migrate.OldFiles.{migrated_slots}
 use Rattle.edi_target.specs.Check.{CodeParts}
 use Rattle.edi_target.specs.File.{code_bytes}
 use Rattle.edi_unit.specs.Tree.{ProgramUnit}
+use Rattle.edi_debug.specs.stops.Stops.{Watched}
+use Rattle.edi_watch.specs.Logs.{IsLogOf}
 use Rattle.edi_disjoint.specs.Report.{IsReport}
 use Rattle.edi_utils.specs.Demo.{demo_text, demo_line}
 use Rattle.edi_utils.specs.Listing.{listing_of}
@@ -30,9 +32,9 @@ use Rattle.edi_statuses.specs.declared.status.Status.{Status}
 use Rattle.edi_statuses.specs.declared.status.Status.TheVariants as status
 use Rattle.edi_statuses.specs.Lines.{line_end}
 use Rattle.edi_statuses.specs.Outside.{Outside, Keeps, SameFiles, SameBlocks, SameInput, SamePrinted, IsAsBefore, Kept}
-use Rattle.edi_statuses.specs.Outside.{system_on, Devices, Lent}
+use Rattle.edi_statuses.specs.Outside.{system_on, Devices, devices_of, Lent}
 use Rattle.edi_statuses.specs.Steps.{AfterStep, goes, stops, ◌>>=◌, Ready, Fetches, ReadsChoices, Accepts, Mounts, Loads, ChecksOld}
-use Rattle.edi_statuses.specs.Steps.{FitsDisk, HasRoom}
+use Rattle.edi_statuses.specs.Steps.{FitsDisk, FindsPoints, HasRoom}
 use Rattle.edi_statuses.specs.Executions.{Runnable, text, code, status_of, Ran, record_of}
 use Rattle.edi_statuses.specs.Sessions.{BootSteps, HoldsSession}
 
@@ -49,6 +51,16 @@ abbrev pub ExecSteps : Outside → (file : List ℕ) → ChoicesFrom → AfterSt
 ExecSteps o file from =
     Fetches o file >>= λ bytes. ReadsChoices o from >>= λ choices. Loads bytes >>= λ parts. Mounts o >>= λ done.
     Ready (parts, choices)
+
+-- `watch FILE STOPS OUT`: fetches the text, reads the choices, compiles, fetches the file of points, reads them
+abbrev pub PointSteps : Outside → (file points_file : List ℕ) → ChoicesFrom → AfterStep (List ℕ × Choices × List Watched) → Type 0
+PointSteps o file points_file from =
+    Fetches o file >>= λ bytes. ReadsChoices o from >>= λ choices. Accepts bytes >>= λ unit. Fetches o points_file >>= λ lines.
+    FindsPoints bytes lines >>= λ points. Ready (bytes, choices, points)
+
+-- and then mounts
+abbrev pub WatchSteps : Outside → (file points_file : List ℕ) → ChoicesFrom → AfterStep (List ℕ × Choices × List Watched) → Type 0
+WatchSteps o file points_file from = PointSteps o file points_file from >>= λ a. Mounts o >>= λ done. Ready a
 
 -- `compile FILE OUT` and `check FILE`: fetches the text, reads it
 abbrev pub TextSteps : Outside → (file : List ℕ) → AfterStep (List ℕ × ProgramUnit) → Type 0
@@ -154,6 +166,24 @@ pub record Runs (program : Runnable) (bound : ℕ) (choices : Choices) (record_f
   pub ran : Ran program bound choices ending drawn before after shown kernel
   pub keeps : Keeps before after (record_of record_file choices drawn)
 
+-- Where the devices tell their contents, these bytes are the log of the execution that the choices select.
+abbrev pub IsLog : (bytes : List ℕ) → List Watched → (bound : ℕ) → Choices → Outside → Outside → (log : List ℕ) → Type 0
+IsLog bytes points bound choices before after log =
+    WhereTold (devices_of before) (devices_of after) (λ d e. IsLogOf bytes (system_on d) bound choices points log)
+
+-- The program of a text is run to its ending, which the status tells. Its log is kept, and then the record of its choices.
+pub record Watches (bytes : List ℕ) (points : List Watched) (bound : ℕ) (choices : Choices) (out : List ℕ) (record_file : Option (List ℕ)) (s : Status)
+    (before after : Outside) (shown : List ℕ) (kernel : Lent) : Type 0 where
+  pub ending : Ending
+  pub drawn : ℕ
+  pub within : drawn ≤ bound
+  pub used : kernel.after.used ≤ bound
+  pub status_is : s ≡ status_of ending
+  pub ran : Ran (text bytes) bound choices ending drawn before after shown kernel
+  pub log : List ℕ
+  pub log_is : IsLog bytes points bound choices before after log
+  pub keeps : Keeps before after ((out, log) ∷ record_of record_file choices drawn)
+
 -- any code that may be made of the text is kept
 pub record KeepsCode (out bytes : List ℕ) (before after : Outside) (shown : List ℕ) (kernel : Lent) : Type 0 where
   pub parts : CodeParts
@@ -248,4 +278,5 @@ Comes (words.demo n o) s before after shown kernel =
 Comes (words.check file) s before after shown kernel =
     Does (TextSteps before file) (λ a. IsDone (ShowsReport a.1)) s before after shown kernel
 Comes (words.walk file choices turns) s before after shown kernel = ⊥
-Comes (words.watch file points out o) s before after shown kernel = ⊥
+Comes (words.watch file points_file out o) s before after shown kernel =
+    Does (WatchSteps before file points_file o.choices) (λ a. Watches a.0 a.2 o.turns a.1 out o.record_file) s before after shown kernel

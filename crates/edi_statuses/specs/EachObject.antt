@@ -79,6 +79,7 @@ Uses s c = ⊤
 abbrev pub is_before_drive : Status → Bool
 is_before_drive status.Absent = true
 is_before_drive (status.BadChoices line) = true
+is_before_drive (status.BadPoints line) = true
 is_before_drive (status.Refused kind line) = true
 is_before_drive (status.BadCode broken) = true
 is_before_drive status.FileLarge = true

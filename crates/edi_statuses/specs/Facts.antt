@@ -10,9 +10,9 @@ use Rattle.edi_statuses.specs.Outside.{Outside, Lent}
 use Rattle.edi_statuses.specs.Steps.{AfterStep, ◌>>=◌, Fetches, ReadsChoices, FitsDisk}
 use Rattle.edi_statuses.specs.Executions.{Runnable, text, code, BrokeRun}
 use Rattle.edi_statuses.specs.Sessions.{BootSteps, BrokeSession, EndedUnkept, EndedWhole}
-use Rattle.edi_statuses.specs.Commands.{IsNothing, OnItsOwn, RunSteps, ExecSteps, TextSteps, OldSteps, PutSteps, GetSteps, ListSteps, DemoSteps}
+use Rattle.edi_statuses.specs.Commands.{IsNothing, OnItsOwn, RunSteps, ExecSteps, WatchSteps, TextSteps, OldSteps, PutSteps, GetSteps, ListSteps, DemoSteps}
 use Rattle.edi_statuses.specs.Broken.{RanWhole, RanUnkept, AtRecord, HasNotBegun, ChangesDrive, ArePutInPart, ShowsFront, ShowsReportFront, IsOpen, BrokeDemo}
-use Rattle.edi_statuses.specs.Broken.{HasBegun, WentOn, RunAsks, ExecAsks}
+use Rattle.edi_statuses.specs.Broken.{HasBegun, WentOn, RunAsks, ExecAsks, WatchAsks, WatchedUnkept}
 
 -- ---- facts
 
@@ -211,4 +211,14 @@ facts_of (words.check file) = record plain {
   output_failed = λ before after shown kernel. HasBegun (TextSteps before file) (λ a. ShowsReportFront a.1 before after shown kernel);
 }
 facts_of (words.walk file choices turns) = record plain { built = false }
-facts_of (words.watch file points out o) = record plain { built = false }
+facts_of (words.watch file points_file out o) =
+    record (program_run file (λ before. WatchAsks before file points_file o.choices) (λ before. WatchSteps before file points_file o.choices) (λ a. text a.0) (λ a. a.1)
+    o.turns o.record_file) {
+      keeps = out ∷ [];
+      no_memory = λ before after shown kernel.
+          IsNothing before after shown kernel
+          ⊎ HasBegun (WatchSteps before file points_file o.choices)
+          (λ a. WatchedUnkept a.0 a.2 o.turns a.1 out o.record_file before after shown kernel);
+      files_failed = λ before after shown kernel.
+          HasBegun (WatchSteps before file points_file o.choices) (λ a. RanWhole (text a.0) o.turns a.1 before after shown kernel);
+    }

@@ -12,6 +12,10 @@ use Rattle.edi_target.specs.declared.code_fault.CodeFault.{CodeFault}
 use Rattle.edi_target.specs.Check.{CodeParts}
 use Rattle.edi_target.specs.File.{code_fault_of, code_of}
 use Rattle.edi_trace.specs.Lines.{Reading, values, bad_line, read_of}
+use Rattle.edi_tree.specs.Tree as tree
+use Rattle.edi_debug.specs.Points as points
+use Rattle.edi_debug.specs.stops.Stops.{Watched}
+use Rattle.edi_watch.specs.Logs.{IsTreeOf}
 use Rattle.edi_unit.specs.Tree.{ProgramUnit}
 use Rattle.edi_statuses.specs.declared.status.Status.{Status}
 use Rattle.edi_statuses.specs.declared.status.Status.TheVariants as status
@@ -67,6 +71,16 @@ ChoicesAreThere o from = ⊥
 abbrev pub Accepts : (text : List ℕ) → AfterStep ProgramUnit → Type 0
 Accepts text (goes unit) = IsUnit text unit
 Accepts text (stops s) = (kind : RefusalKind) × (line : ℕ) × (s ≡ status.Refused kind line) × IsRefused text kind line
+
+abbrev pub GivesPoints : points.Reading → AfterStep (List Watched) → Type 0
+GivesPoints (points.read found) (goes list) = list ≡ found
+GivesPoints (points.read found) (stops s) = ⊥
+GivesPoints (points.bad_line n) (goes list) = ⊥
+GivesPoints (points.bad_line n) (stops s) = s ≡ status.BadPoints n
+
+-- the points that the bytes of a file are for the program of a text, or their first bad line
+abbrev pub FindsPoints : (text bytes : List ℕ) → AfterStep (List Watched) → Type 0
+FindsPoints text bytes r = (whose : tree.Program) × IsTreeOf text whose × GivesPoints (points.read_of whose bytes) r
 
 -- The fault is a rule of an image that is broken. A fault of the drive and want of memory have statuses of their own.
 abbrev pub IsBrokenRule : MountFault → Type 0

@@ -18,7 +18,7 @@ use edi_commands::boot::boot;
 use edi_commands::code::list;
 use edi_commands::disk::{get, new_disk, new_disk_from, put};
 use edi_commands::run::Form::{Code, Text};
-use edi_commands::run::{demonstrate, run_file};
+use edi_commands::run::{demonstrate, run_file, watch_file};
 use edi_commands::text::{check, compile_file};
 use edi_host::{Drive, Files, Sink, Source};
 use edi_kernel::Kernel;
@@ -134,7 +134,14 @@ fn perform<F: Files, D: Drive, S: Source, T: Sink, P: Sink>(
         ),
         Command::Check { file } => check(alloc, files, terminal, file),
         Command::Walk { .. } => silent(Status::Words),
-        Command::Watch { .. } => silent(Status::Words),
+        Command::Watch {
+            file,
+            stops,
+            out,
+            options,
+        } => watch_file(
+            alloc, file, stops, out, options, files, drive, input, terminal, printer, kernel,
+        ),
     }
 }
 

@@ -38,7 +38,7 @@ twice true a b = refl
 twice false a b = refl
 
 -- a file that is kept and taken away
-kept_and_gone : (files : Contents) (name bytes : List ℕ) → map.remove (map.insert files name bytes) name ≡ map.remove files name
+pub kept_and_gone : (files : Contents) (name bytes : List ℕ) → map.remove (map.insert files name bytes) name ≡ map.remove files name
 kept_and_gone files name bytes =
     map.same_map nat_list_cmp_total (slice_cmp-IsAntisymmetric nat_cmp-IsAntisymmetric) _ _ (λ q.
     map.get-remove nat_list_cmp_total (map.insert files name bytes) name q

@@ -66,7 +66,7 @@ module _ (parts : CodeParts) (bound : ℕ) (old : Drawn) (none : old.drawn ≡ 0
   shown_now = shown_in due before after
 
   -- an object has failed
-  broke_run : WhereTold (told_by before) (told_by after) (StandsAtMoment parts bound old) → (program : Runnable) → HasCode program parts
+  pub broke_run : WhereTold (told_by before) (told_by after) (StandsAtMoment parts bound old) → (program : Runnable) → HasCode program parts
       → BrokeRun program bound old.source (seen before after) after shown_now
   broke_run moment program is =
       devices_told before after shown_now (StandsAtMoment parts bound old) (λ d e. StandsAt (HasMoment program (system_on d) bound old.source) d e shown_now)
@@ -94,13 +94,13 @@ module _ (parts : CodeParts) (bound : ℕ) (old : Drawn) (none : old.drawn ≡ 0
   -- the run has come to its ending
   module _ (e : Ending) (unfailed : IsNoFault e) (new : Drawn) (within : new.drawn ≤ bound) (kernel : Lent) (used : kernel.after.used ≤ bound)
       (run : WhereTold (told_by before) (told_by after) (HasRun parts bound old e kernel.after.words kernel.after.used new)) where
-    has_ran : (program : Runnable) → HasCode program parts → Ran program bound old.source (ending_of e) new.drawn (seen before after) after shown_now kernel
+    pub has_ran : (program : Runnable) → HasCode program parts → Ran program bound old.source (ending_of e) new.drawn (seen before after) after shown_now kernel
     has_ran program is =
         devices_told before after shown_now (HasRun parts bound old e kernel.after.words kernel.after.used new)
         (λ d x. statuses.HasRun program bound old.source (ending_of e) new.drawn d x shown_now kernel.after) left.told.valid (left_shows due before after left)
         (λ x y valid shows h. has_run program parts is bound old none shown_now e kernel.after.words kernel.after.used new x y unfailed valid shows h) run
 
-    whole : (program : Runnable) → HasCode program parts → RanWhole program bound old.source (seen before after) after shown_now kernel
+    pub whole : (program : Runnable) → HasCode program parts → RanWhole program bound old.source (seen before after) after shown_now kernel
     whole program is = record { ending = ending_of e; drawn = new.drawn; within = within; used = used; ran = has_ran program is }
 
     runs : (name : Option (List ℕ)) → Keeps (seen before after) after (record_of name old.source new.drawn) → (program : Runnable) → HasCode program parts

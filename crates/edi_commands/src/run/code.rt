@@ -18,7 +18,7 @@ use edi_trace::Choices;
 use std::alloc::Global;
 
 /// The status of a command in whose run this object has failed.
-fn object_status(object: Outside) -> Status
+pub(crate) fn object_status(object: Outside) -> Status
     ensures exact { result ≡ object_status object }
 {
     match object {
@@ -29,7 +29,7 @@ fn object_status(object: Outside) -> Status
 }
 
 /// The status of a command whose run has come to this ending, which is no fault.
-fn ending_status(ending: Ending) -> Status
+pub(crate) fn ending_status(ending: Ending) -> Status
     requires none_failed { ending ≡ Ending.Fault → ⊥ }
     ensures exact { Some result ≡ ending_status ending }
 {

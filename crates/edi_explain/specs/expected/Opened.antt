@@ -26,7 +26,7 @@ closes _ = false
 abbrev pub held_by : Mark → Held
 held_by m = record { kind = opener m.symbol; line = m.line }
 
--- Behind one mark more. In marks that begin a program, what closes stands only where the innermost is what it closes.
+-- After one mark more.
 abbrev pub held_with : Mark → List Held → List Held
 held_with m held = if nat_lt 0 (opener m.symbol) then held ++ held_by m ∷ [] else if closes m.symbol then take (length held - 1) held else held
 

@@ -5,30 +5,14 @@ ghost use Rattle.std.specs.List.{prefix_len};
 ghost use Rattle.edi_lex.specs.Bytes as spec;
 ghost use Rattle.edi_explain.specs.places.Cuts as cuts;
 
+use edi_lex::{is_digit, is_letter};
+
 #[derive(Clone, Copy)]
 pub enum Class {
     Digits,
     Names,
     Strings,
     Comments,
-}
-
-pub fn is_letter(b: u8) -> bool
-    ensures exact { result ≡ spec.is_letter b }
-{
-    (b'a' <= b && b <= b'z') || (b'A' <= b && b <= b'Z')
-}
-
-pub fn is_digit(b: u8) -> bool
-    ensures exact { result ≡ spec.is_digit b }
-{
-    b'0' <= b && b <= b'9'
-}
-
-pub fn is_separator(b: u8) -> bool
-    ensures exact { result ≡ spec.is_separator b }
-{
-    b == b' ' || b == b'\t' || b == b'\r' || b == b'\n'
 }
 
 fn is_name_byte(b: u8) -> bool

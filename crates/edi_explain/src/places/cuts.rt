@@ -7,7 +7,7 @@ ghost use Rattle.edi_lex.specs.Symbols as text;
 ghost use Rattle.edi_explain.specs.places.Cuts.{Cuts, Within, is_there};
 ghost use Rattle.edi_lex.specs.Specials.{special_of, special_pair};
 
-use crate::places::classes::{Class, is_digit, is_letter, is_separator, length_of};
+use crate::places::classes::{Class, length_of};
 
 /// A piece of a text, with how many bytes it has after its first.
 #[derive(Clone, Copy)]

@@ -25,7 +25,7 @@ use Rattle.edi_follows.specs.places.Lands.{StartClaim}
 use Rattle.edi_explored.specs.Covered.{Reordered, Report, Tells}
 use Rattle.edi_explored.specs.machine.Machines.{Fails, ServesAs}
 use Rattle.edi_explored.specs.machine.PutBacks.{IsFollowed, FollowedPutBacks}
-use Rattle.edi_explored.specs.machine.Kernels.{AreApart, IsCodeOf, IsFailed, StintOf, FollowedKernels}
+use Rattle.edi_explored.specs.machine.Kernels.{IsCodeOf, IsFailed, StintOf, FollowedKernels}
 use Rattle.edi_explored.proofs.Members.{members_at}
 use Rattle.edi_explored.proofs.machine.Again.{slot_of, holds_by_name, members_by_name, once_by_name, ready_also}
 use Rattle.edi_explored.proofs.machine.Served.{serves}

@@ -125,7 +125,7 @@ module _ (g : Coded) (long : ValuesAreLong) (zeros : ZeroIsZeros) (s : Scene)
 
     entered_step : (free : nat_lt (s.size p - used (F p)) B.need ≡ false) (k : ℕ) → w.turns ≡ k →
         Follows g s store from r (turn_from k w
-        (λ x. gives (goes (body_of g.unit n (procedure_end ∷ left)))
+        (λ x. gives (goes (body_of g.unit n (procedure_end line ∷ left)))
         (record x { store = grown p (instance_of g.unit p (s.size p) n y.parent cells) x.store })))
     entered_step free zero i =
         inl (stops_then g.fetched s.count (is_first p) (Outer s) r start cleared outcome.turns w.system w.turns there
@@ -146,7 +146,7 @@ module _ (g : Coded) (long : ValuesAreLong) (zeros : ZeroIsZeros) (s : Scene)
           | inl l ↦ word_before g long zeros s F w m h n y.parent cells y.called words as_length fitting a (omega (arith, l))
           | inr l ↦ word_behind g long zeros s F w m h n y.parent cells y.called words as_length fitting a l
         ] ∙ outside a wi (told a o))
-        r (cleared || true) (body_of g.unit n (procedure_end ∷ left)) bodied.body
+        r (cleared || true) (body_of g.unit n (procedure_end line ∷ left)) bodied.body
         (subst (λ x. gets g s r (alone s K now_mem bodied.body (bottom g s.first K p) x out) (cleared || true)) flag
         (gets_then g.fetched s.count (is_first p) (Outer s) r start
         (alone s K now_mem bodied.body (bottom g s.first K p) (0 + function_flag B.result) out) cleared true there
@@ -156,7 +156,7 @@ module _ (g : Coded) (long : ValuesAreLong) (zeros : ZeroIsZeros) (s : Scene)
 
     tested : (full : Bool) → nat_lt (s.size p - used (F p)) B.need ≡ full →
         Follows g s store from r (if full then fails cause.VariableLimit line w else turn w
-        (λ x. gives (goes (body_of g.unit n (procedure_end ∷ left)))
+        (λ x. gives (goes (body_of g.unit n (procedure_end line ∷ left)))
         (record x { store = grown p (instance_of g.unit p (s.size p) n y.parent cells) x.store })))
     tested true i =
         inl (stops_then g.fetched s.count (is_first p) (Outer s) r start cleared (outcome.failed cause.VariableLimit line) w.system w.turns there

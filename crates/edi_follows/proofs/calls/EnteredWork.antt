@@ -134,11 +134,11 @@ module _ (g : Coded) (long : ValuesAreLong) (zeros : ZeroIsZeros) (s : Scene) (F
         top = link 4 (omega arith) ∙ sym (λ i. from + start i + kept g (of i).block);
       }
 
-  pub entered_work : work_at g s K new_mem (body_of g.unit n (procedure_end ∷ left)) bodied.body
+  pub entered_work : work_at g s K new_mem (body_of g.unit n (procedure_end line ∷ left)) bodied.body
   entered_work =
       let there : suc d ≡ length (K p) - 1 = omega (arith, deeper, longer p fr F K gr) in
-      subst (Matches g lead from (K p) new_mem (body_of g.unit n (procedure_end ∷ left)) bodied.body) there
-      (matches_acts g lead from (K p) new_mem B.body _ 0 (procedure_end ∷ left) bodied.body bodied.end (suc d)
+      subst (Matches g lead from (K p) new_mem (body_of g.unit n (procedure_end line ∷ left)) bodied.body) there
+      (matches_acts g lead from (K p) new_mem B.body _ 0 (procedure_end line ∷ left) bodied.body bodied.end (suc d)
       (subst (λ (x : Frame). Listed g x.block (record { of = n; path = [] }) B.body bodied.body 0) (sym frame_is)
       (procedure_listed g n (no_branch B.kind c.called) bodied))
       (subst (λ (x : Frame). code.AreActs g.fetched g.unit.types g.unit.blocks (entry g) x.block B.body bodied.body bodied.end) (sym frame_is) bodied.list)

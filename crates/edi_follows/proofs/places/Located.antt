@@ -55,8 +55,8 @@ module _ (g : Coded) where
       × Sited g y.block position (while_act cs) h.3.0)
       (sym (a.framed d (omega arith))) (h.3.4, h.3.5, h.3.6, h.3.7) in
       (h.0, h.1, h.2, (h.3.0, h.3.1, h.3.2, h.3.3, moved.0, moved.1, moved.2, moved.3, matches_kept lead from fs fs' m m' ws h.3.2 d a h.3.8))
-  matches_kept lead from fs fs' m m' (procedure_end ∷ ws) pc zero a h = absurd h.3
-  matches_kept lead from fs fs' m m' (procedure_end ∷ ws) pc (suc e) a h =
+  matches_kept lead from fs fs' m m' (procedure_end line ∷ ws) pc zero a h = absurd h.3
+  matches_kept lead from fs fs' m m' (procedure_end line ∷ ws) pc (suc e) a h =
       let links = links_kept from fs fs' m m' e h.3.1 a h.3.3 in
       let rest = matches_kept lead from fs fs' m m' ws h.3.1 e (agrees_less from fs fs' m m' (suc e) e (omega arith) a) h.3.4 in
       (h.0, h.1, h.2, (h.3.0, h.3.1, h.3.2, links, rest))

@@ -336,7 +336,7 @@ module _ (g : Coded) (s : Processes) (t : Machine) (p : Name) (q : Process) (x :
   step_of_work (doing (tree.when_act cs line) position ∷ ws) pc h = await_step g s t p q x r cs line position ws pc h
   step_of_work (doing (tree.cobegin bs line) position ∷ ws) pc h = cobegin_step g s t p q x r bs line position ws pc h
   step_of_work (loop_end cs position ∷ ws) pc h = loop_step g s t p q x r cs position ws pc h
-  step_of_work (procedure_end ∷ ws) pc h = return ws G pc s.world m (stands g s t p q x r) h
+  step_of_work (procedure_end line ∷ ws) pc h = return line ws G pc s.world m (stands g s t p q x r) h
   step_of_work (branch_end ∷ ws) pc h = branch_step g s t p q x r ws pc h
   step_of_work (program_entry ∷ ws) pc h = absurd h.3
   step_of_work (program_end ∷ ws) pc h = program_step g s t p q x r ws pc h

@@ -60,8 +60,8 @@ module _ (g : Coded) where
       × ClausesFit g.unit.types g.unit.blocks g.fits.headings (frame_of fs d).block cs
       × Room (frame_of fs d) (clauses_height g.unit.types g.unit.blocks (frame_of fs d).block cs)
       × Sited (frame_of fs d).block position (while_act cs) top × rest to d
-  Item lead from fs m procedure_end q zero rest = ⊥
-  Item lead from fs m procedure_end q (suc e) rest =
+  Item lead from fs m (procedure_end line) q zero rest = ⊥
+  Item lead from fs m (procedure_end line) q (suc e) rest =
       (next back : ℕ) × code.InstructionStands g.fetched q (op.return 0 0) next × Links from fs m e back × rest back e
   Item lead from fs m branch_end q d rest = (next : ℕ) × code.InstructionStands g.fetched q op.exit next × (d ≡ 0) × (lead ≡ false)
   Item lead from fs m program_entry q d rest = ⊥

@@ -47,5 +47,5 @@ module _ (g : Coded) (s : Scene) where
   -- THE END OF A PROCEDURE AS A STEP: the process is behind the call, with the work that was left
   abbrev pub ReturnedClaim : Type 0
   ReturnedClaim =
-      (ws : List Work) (F : Shape) (pc : ℕ) (w : World) (m : List ℕ) → Stands g s F w m → work_at F m (procedure_end ∷ ws) pc →
+      (line : ℕ) (ws : List Work) (F : Shape) (pc : ℕ) (w : World) (m : List ℕ) → Stands g s F w m → work_at F m (procedure_end line ∷ ws) pc →
       Follows g s w.store m (alone s F m pc (base_of g s F) 0 w) (left g.unit s.name (s.size s.name) w (gives (goes ws)))

@@ -42,14 +42,14 @@ before_place (o ∷ u) (m ∷ marks) here behind e =
     (m ∷ more.0, ap (λ l. o ∷ l) more.1 ∙ ap (λ o. o ∷ somes more.0) same)
 
 -- what begins a text begins a program
-begins_of : (u more : List (Option Mark)) (n : ℕ) (items : Items) → plain items ≡ u ++ more → Derives edison n start items → ProgramBegins u
+pub begins_of : (u more : List (Option Mark)) (n : ℕ) (items : Items) → plain items ≡ u ++ more → Derives edison n start items → ProgramBegins u
 begins_of u more n items e d =
     let p = program_of_text n items d in
     let marks = marks_of (elements p.0) items p.1 in
     (p.0, marks.0, more, elements_spelled p.0 marks.0 marks.1, sym marks.2 ∙ e)
 
 -- the levels that are open with a symbol are those that end behind it
-level_is_ending : (tree : Program) (before after : List Element) (s : Spelled) (m : Mark) (n : ℕ) (first last : Items) → StandsAsMark s m
+pub level_is_ending : (tree : Program) (before after : List Element) (s : Spelled) (m : Mark) (n : ℕ) (first last : Items) → StandsAsMark s m
     → ((k : ℕ) → level_behind k before ≡ open_behind edison k first) → Derives edison n start (first ++ item.mark (Some m) ∷ last)
     → level_behind 0 (before ++ mark s ∷ []) ≡ ends_in edison last
 level_is_ending tree before after s m n first last st levels d =
@@ -72,7 +72,7 @@ pub record Placed (front : List Mark) (m : Mark) (level : ℕ) : Type 0 where
   pub spelled : plain first ≡ somes front
   pub ends : level ≡ ends_in edison last
 
-placed : (front : List Mark) (m : Mark) (level : ℕ) → Level front m level → Placed front m level
+pub placed : (front : List Mark) (m : Mark) (level : ℕ) → Level front m level → Placed front m level
 placed front m level l =
     let c = cut_at l.1 l.2 l.3 front m l.5 l.6 in
     let d = program_derived l.0 (c.first ++ item.mark (Some m) ∷ c.last) (subst (λ es. Fit es (c.first ++ item.mark (Some m) ∷ c.last)) (sym l.4) c.fits) in

@@ -32,23 +32,23 @@ CallsLeft blocks (suc m) work =
 
 abbrev pub Fits : List Block → (m : ℕ) → At → Type 0
 Fits blocks m (at_call k work) = CallsLeft blocks m work
-Fits blocks m (entered k b line work) = CallsLeft blocks m work
-Fits blocks m (arrived k b line work) = CallsLeft blocks m work
-Fits blocks m (behind k b work) = CallsLeft blocks m work
+Fits blocks m (entered k c b line work) = CallsLeft blocks m work
+Fits blocks m (arrived k c b line work) = CallsLeft blocks m work
+Fits blocks m (behind k c b work) = CallsLeft blocks m work
 
 -- the turns that a branch takes from here, with so many calls behind the procedure in which it is
 abbrev pub turns_left : (m : ℕ) → At → ℕ
 turns_left m (at_call k work) = 3 * m + 1
-turns_left m (entered k b line work) = 3 * m + 3
-turns_left m (arrived k b line work) = 3 * m + 2
-turns_left m (behind k b work) = 3 * m + 2
+turns_left m (entered k c b line work) = 3 * m + 3
+turns_left m (arrived k c b line work) = 3 * m + 2
+turns_left m (behind k c b work) = 3 * m + 2
 
 -- how often it counts up
 abbrev pub counts_left : (m : ℕ) → At → ℕ
 counts_left m (at_call k work) = m
-counts_left m (entered k b line work) = m + 1
-counts_left m (arrived k b line work) = m + 1
-counts_left m (behind k b work) = m
+counts_left m (entered k c b line work) = m + 1
+counts_left m (arrived k c b line work) = m + 1
+counts_left m (behind k c b work) = m
 
 -- so it is with the other branch, if it lives
 abbrev pub OtherFits : List Block → (l : ℕ) → Option At → Type 0
@@ -132,35 +132,35 @@ module _ (blocks : List Block) (choices : Choices) (wanted : Ending) (system : T
       subst (λ w. Ends (suc fuel) which (at_call k w) other x t) (sym fits.4)
       (branch_turn fuel which a other x t needed (omega (arith, is)) b
       (call_stops blocks which other k block fits.1 inner.0 position more x system inner.1) (λ u rest.
-      goes (unit_of blocks) choices wanted system left fuel (state which a other x (suc u) system) (state which (entered k block inner.0 more) other x u system)
+      goes (unit_of blocks) choices wanted system left fuel (state which a other x (suc u) system) (state which (entered k fits.1 block inner.0 more) other x u system)
       (name_of which) (others_of which other) (enters blocks which other k block fits.1 inner.0 position more x u system inner.1)
-      (ends fuel which (entered k block inner.0 more) m other l x u (needed - 1) fits.6 other_fits (omega (arith, small)) (omega (arith, is)) rest)))
-  ends (suc fuel) which (entered k block line work) m None l x t needed fits other_fits small is b =
-      branch_turn fuel which (entered k block line work) None x t needed (omega (arith, is)) b
-      (when_stops blocks which None k block line work x system) (λ u rest.
-      one_ready (unit_of blocks) choices wanted system left fuel (state which (entered k block line work) None x (suc u) system)
-      (state which (arrived k block line work) None x u system) (name_of which) (name_of which) [] (name_of which ∷ [])
-      (arrives blocks which None k block line work x u system) refl
-      (ends fuel which (arrived k block line work) m None l x u (needed - 1) fits other_fits (omega (arith, small)) (omega (arith, is)) rest))
-  ends (suc fuel) which (entered k block line work) m (Some o) l x t needed fits other_fits small is b =
-      let next : At = arrived k block line work in
-      branch_turn fuel which (entered k block line work) (Some o) x t needed (omega (arith, is)) b (when_stops blocks which (Some o) k block line work x system)
+      (ends fuel which (entered k fits.1 block inner.0 more) m other l x u (needed - 1) fits.6 other_fits (omega (arith, small)) (omega (arith, is)) rest)))
+  ends (suc fuel) which (entered k c block line work) m None l x t needed fits other_fits small is b =
+      branch_turn fuel which (entered k c block line work) None x t needed (omega (arith, is)) b
+      (when_stops blocks which None k c block line work x system) (λ u rest.
+      one_ready (unit_of blocks) choices wanted system left fuel (state which (entered k c block line work) None x (suc u) system)
+      (state which (arrived k c block line work) None x u system) (name_of which) (name_of which) [] (name_of which ∷ [])
+      (arrives blocks which None k c block line work x u system) refl
+      (ends fuel which (arrived k c block line work) m None l x u (needed - 1) fits other_fits (omega (arith, small)) (omega (arith, is)) rest))
+  ends (suc fuel) which (entered k c block line work) m (Some o) l x t needed fits other_fits small is b =
+      let next : At = arrived k c block line work in
+      branch_turn fuel which (entered k c block line work) (Some o) x t needed (omega (arith, is)) b (when_stops blocks which (Some o) k c block line work x system)
       (λ u rest.
-      two_ready (unit_of blocks) choices wanted system left fuel (state which (entered k block line work) (Some o) x (suc u) system)
+      two_ready (unit_of blocks) choices wanted system left fuel (state which (entered k c block line work) (Some o) x (suc u) system)
       (state which next (Some o) x u system) (name_of which) (name_of (not which)) (name_of which) (name_of (not which) ∷ []) (name_of which ∷ [])
-      (arrives blocks which (Some o) k block line work x u system) refl
+      (arrives blocks which (Some o) k c block line work x u system) refl
       (turned fuel which next o x u
       (ends fuel (not which) o l (Some next) m x u (needed - 1) other_fits fits (omega (arith, small)) (omega (arith, is)) rest))
       (ends fuel which next m (Some o) l x u (needed - 1) fits other_fits (omega (arith, small)) (omega (arith, is)) rest))
-  ends (suc fuel) which (arrived k block line work) m other l x t needed fits other_fits small is b =
-      goes (unit_of blocks) choices wanted system left fuel (state which (arrived k block line work) other x t system)
-      (state which (behind k block work) other (x + 1) t system) (name_of which) (others_of which other)
-      (counts blocks which other k block line work x t system (below x (omega (arith, small))) (within x (omega (arith, small))))
-      (ends fuel which (behind k block work) m other l (x + 1) t needed fits other_fits (omega (arith, small)) (omega (arith, is)) b)
-  ends (suc fuel) which (behind k block work) m other l x t needed fits other_fits small is b =
-      branch_turn fuel which (behind k block work) other x t needed (omega (arith, is)) b (return_stops blocks which other k block work x system) (λ u rest.
-      goes (unit_of blocks) choices wanted system left fuel (state which (behind k block work) other x (suc u) system)
-      (state which (at_call k work) other x u system) (name_of which) (others_of which other) (returns blocks which other k block work x u system)
+  ends (suc fuel) which (arrived k c block line work) m other l x t needed fits other_fits small is b =
+      goes (unit_of blocks) choices wanted system left fuel (state which (arrived k c block line work) other x t system)
+      (state which (behind k c block work) other (x + 1) t system) (name_of which) (others_of which other)
+      (counts blocks which other k c block line work x t system (below x (omega (arith, small))) (within x (omega (arith, small))))
+      (ends fuel which (behind k c block work) m other l (x + 1) t needed fits other_fits (omega (arith, small)) (omega (arith, is)) b)
+  ends (suc fuel) which (behind k c block work) m other l x t needed fits other_fits small is b =
+      branch_turn fuel which (behind k c block work) other x t needed (omega (arith, is)) b (return_stops blocks which other k c block work x system) (λ u rest.
+      goes (unit_of blocks) choices wanted system left fuel (state which (behind k c block work) other x (suc u) system)
+      (state which (at_call k work) other x u system) (name_of which) (others_of which other) (returns blocks which other k c block work x u system)
       (ends fuel which (at_call k work) m other l x u (needed - 1) fits other_fits (omega (arith, small)) (omega (arith, is)) rest))
 
 -- ---- from the start

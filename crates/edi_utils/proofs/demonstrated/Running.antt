@@ -30,12 +30,12 @@ entries true a (Some b) = (name_of true, a) ∷ (name_of false, b) ∷ []
 entries false a None = (name_of false, a) ∷ []
 entries false a (Some b) = (name_of true, b) ∷ (name_of false, a) ∷ []
 
--- where a branch stands, with the number of its block and with what it has to do behind the procedure in which it is
+-- where a branch stands, with the number of its block, the line at which the procedure was called in which it is, and with what it has to do behind it
 pub data At : Type 0 where
   at_call : (k : ℕ) → List Work → At
-  entered : (k b line : ℕ) → List Work → At
-  arrived : (k b line : ℕ) → List Work → At
-  behind : (k b : ℕ) → List Work → At
+  entered : (k call b line : ℕ) → List Work → At
+  arrived : (k call b line : ℕ) → List Work → At
+  behind : (k call b : ℕ) → List Work → At
 
 -- the conditions of a procedure, and where its `when` stands
 abbrev pub clauses : (line : ℕ) → Clauses
@@ -58,21 +58,21 @@ program_instance x = record { frame = record { block = 0; need = 6; parent = ([]
 
 abbrev pub work_at : At → List Work
 work_at (at_call k work) = work
-work_at (entered k b line work) = doing (unit.when_act (clauses line) line) (place_in b) ∷ procedure_end ∷ work
-work_at (arrived k b line work) = procedure_end ∷ work
-work_at (behind k b work) = procedure_end ∷ work
+work_at (entered k c b line work) = doing (unit.when_act (clauses line) line) (place_in b) ∷ procedure_end c ∷ work
+work_at (arrived k c b line work) = procedure_end c ∷ work
+work_at (behind k c b work) = procedure_end c ∷ work
 
 abbrev pub standing_at : At → Standing
 standing_at (at_call k work) = ready
-standing_at (entered k b line work) = ready
-standing_at (arrived k b line work) = at_when (clauses line) (place_in b)
-standing_at (behind k b work) = ready
+standing_at (entered k c b line work) = ready
+standing_at (arrived k c b line work) = at_when (clauses line) (place_in b)
+standing_at (behind k c b work) = ready
 
 abbrev pub instances_at : At → List Instance
 instances_at (at_call k work) = branch_instance k ∷ []
-instances_at (entered k b line work) = branch_instance k ∷ procedure_instance b ∷ []
-instances_at (arrived k b line work) = branch_instance k ∷ procedure_instance b ∷ []
-instances_at (behind k b work) = branch_instance k ∷ procedure_instance b ∷ []
+instances_at (entered k c b line work) = branch_instance k ∷ procedure_instance b ∷ []
+instances_at (arrived k c b line work) = branch_instance k ∷ procedure_instance b ∷ []
+instances_at (behind k c b work) = branch_instance k ∷ procedure_instance b ∷ []
 
 -- the share of each branch is half of what the program leaves
 abbrev pub process_at : At → Process
@@ -109,39 +109,39 @@ last_state x turns system = record {
 pub enters : (blocks : List Block) (which : Bool) (other : Option At) (k b line body_line : ℕ) (position : Position) (work : List Work) (x t : ℕ)
     (system : Traced) → block_at blocks b ≡ procedure_block body_line
     → step (unit_of blocks) (state which (at_call k (doing (call_act b line) position ∷ work)) other x (suc t) system) (name_of which)
-    ≡ went (state which (entered k b body_line work) other x t system) stays false
+    ≡ went (state which (entered k line b body_line work) other x t system) stays false
 enters blocks true None k b line body_line position work x t system is = rw is refl
 enters blocks true (Some o) k b line body_line position work x t system is = rw is refl
 enters blocks false None k b line body_line position work x t system is = rw is refl
 enters blocks false (Some o) k b line body_line position work x t system is = rw is refl
 
 -- it arrives at its `when`
-pub arrives : (blocks : List Block) (which : Bool) (other : Option At) (k b line : ℕ) (work : List Work) (x t : ℕ) (system : Traced)
-    → step (unit_of blocks) (state which (entered k b line work) other x (suc t) system) (name_of which)
-    ≡ went (state which (arrived k b line work) other x t system) (joins (name_of which ∷ [])) false
-arrives blocks true None k b line work x t system = refl
-arrives blocks true (Some o) k b line work x t system = refl
-arrives blocks false None k b line work x t system = refl
-arrives blocks false (Some o) k b line work x t system = refl
+pub arrives : (blocks : List Block) (which : Bool) (other : Option At) (k c b line : ℕ) (work : List Work) (x t : ℕ) (system : Traced)
+    → step (unit_of blocks) (state which (entered k c b line work) other x (suc t) system) (name_of which)
+    ≡ went (state which (arrived k c b line work) other x t system) (joins (name_of which ∷ [])) false
+arrives blocks true None k c b line work x t system = refl
+arrives blocks true (Some o) k c b line work x t system = refl
+arrives blocks false None k c b line work x t system = refl
+arrives blocks false (Some o) k c b line work x t system = refl
 
 -- its condition is true, and the variable is counted up, without a turn
-pub counts : (blocks : List Block) (which : Bool) (other : Option At) (k b line : ℕ) (work : List Work) (x t : ℕ) (system : Traced) → ltb x 32767 ≡ true
+pub counts : (blocks : List Block) (which : Bool) (other : Option At) (k c b line : ℕ) (work : List Work) (x t : ℕ) (system : Traced) → ltb x 32767 ≡ true
     → leb (x + 1) 32767 ≡ true
-    → step (unit_of blocks) (state which (arrived k b line work) other x t system) (name_of which)
-    ≡ went (state which (behind k b work) other (x + 1) t system) stays false
-counts blocks true None k b line work x t system less few = rw (less, few) refl
-counts blocks true (Some o) k b line work x t system less few = rw (less, few) refl
-counts blocks false None k b line work x t system less few = rw (less, few) refl
-counts blocks false (Some o) k b line work x t system less few = rw (less, few) refl
+    → step (unit_of blocks) (state which (arrived k c b line work) other x t system) (name_of which)
+    ≡ went (state which (behind k c b work) other (x + 1) t system) stays false
+counts blocks true None k c b line work x t system less few = rw (less, few) refl
+counts blocks true (Some o) k c b line work x t system less few = rw (less, few) refl
+counts blocks false None k c b line work x t system less few = rw (less, few) refl
+counts blocks false (Some o) k c b line work x t system less few = rw (less, few) refl
 
 -- it is left
-pub returns : (blocks : List Block) (which : Bool) (other : Option At) (k b : ℕ) (work : List Work) (x t : ℕ) (system : Traced)
-    → step (unit_of blocks) (state which (behind k b work) other x (suc t) system) (name_of which)
+pub returns : (blocks : List Block) (which : Bool) (other : Option At) (k c b : ℕ) (work : List Work) (x t : ℕ) (system : Traced)
+    → step (unit_of blocks) (state which (behind k c b work) other x (suc t) system) (name_of which)
     ≡ went (state which (at_call k work) other x t system) stays false
-returns blocks true None k b work x t system = refl
-returns blocks true (Some o) k b work x t system = refl
-returns blocks false None k b work x t system = refl
-returns blocks false (Some o) k b work x t system = refl
+returns blocks true None k c b work x t system = refl
+returns blocks true (Some o) k c b work x t system = refl
+returns blocks false None k c b work x t system = refl
+returns blocks false (Some o) k c b work x t system = refl
 
 -- a branch ends while the other lives
 pub leaves : (blocks : List Block) (which : Bool) (o : At) (k x t : ℕ) (system : Traced)
@@ -171,19 +171,19 @@ call_stops blocks true (Some o) k b line body_line position work x system is = r
 call_stops blocks false None k b line body_line position work x system is = rw is refl
 call_stops blocks false (Some o) k b line body_line position work x system is = rw is refl
 
-pub when_stops : (blocks : List Block) (which : Bool) (other : Option At) (k b line : ℕ) (work : List Work) (x : ℕ) (system : Traced)
-    → step (unit_of blocks) (state which (entered k b line work) other x 0 system) (name_of which) ≡ ended outcome.turns system 0
-when_stops blocks true None k b line work x system = refl
-when_stops blocks true (Some o) k b line work x system = refl
-when_stops blocks false None k b line work x system = refl
-when_stops blocks false (Some o) k b line work x system = refl
+pub when_stops : (blocks : List Block) (which : Bool) (other : Option At) (k c b line : ℕ) (work : List Work) (x : ℕ) (system : Traced)
+    → step (unit_of blocks) (state which (entered k c b line work) other x 0 system) (name_of which) ≡ ended outcome.turns system 0
+when_stops blocks true None k c b line work x system = refl
+when_stops blocks true (Some o) k c b line work x system = refl
+when_stops blocks false None k c b line work x system = refl
+when_stops blocks false (Some o) k c b line work x system = refl
 
-pub return_stops : (blocks : List Block) (which : Bool) (other : Option At) (k b : ℕ) (work : List Work) (x : ℕ) (system : Traced)
-    → step (unit_of blocks) (state which (behind k b work) other x 0 system) (name_of which) ≡ ended outcome.turns system 0
-return_stops blocks true None k b work x system = refl
-return_stops blocks true (Some o) k b work x system = refl
-return_stops blocks false None k b work x system = refl
-return_stops blocks false (Some o) k b work x system = refl
+pub return_stops : (blocks : List Block) (which : Bool) (other : Option At) (k c b : ℕ) (work : List Work) (x : ℕ) (system : Traced)
+    → step (unit_of blocks) (state which (behind k c b work) other x 0 system) (name_of which) ≡ ended outcome.turns system 0
+return_stops blocks true None k c b work x system = refl
+return_stops blocks true (Some o) k c b work x system = refl
+return_stops blocks false None k c b work x system = refl
+return_stops blocks false (Some o) k c b work x system = refl
 
 pub end_stops : (blocks : List Block) (which : Bool) (other : Option At) (k x : ℕ) (system : Traced)
     → step (unit_of blocks) (state which (at_call k (branch_end ∷ [])) other x 0 system) (name_of which) ≡ ended outcome.turns system 0

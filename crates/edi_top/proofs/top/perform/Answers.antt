@@ -67,19 +67,6 @@ returns-in-Walk g c =
       no_terminal = λ e. refl;
     }
 
-pub returns-in-Watch : goal.returns-in-Watch
-returns-in-Watch g c =
-    let none = not_built c.args.command _ c.in-Watch.is refl in
-    record {
-      came = refused c.silent-in-Watch.result.status c.silent-in-Watch.result.due _ _ _ c.silent-in-Watch.ensures.status
-          c.silent-in-Watch.ensures.due none;
-      cause = search rules;
-      later = search rules;
-      size = counts_of_none _ c.silent-in-Watch.result.status _ _ none;
-      untouched = none_touched _ _ _;
-      no_terminal = λ e. refl;
-    }
-
 pub returns-in-Run-clause-size : goal.returns-in-Run-clause-size
 returns-in-Run-clause-size g c =
     counts_so c.args.command (command.Run c.in-Run.file c.in-Run.options) c.run_file.result.status c.run_file.result.status _ _ _ _ c.in-Run.is refl
@@ -118,6 +105,18 @@ returns-in-Exec-clause-untouched g c =
     untouched_so c.args.command (command.Exec c.in-Exec.file c.in-Exec.options) c.run_file-in-Exec.result.status c.run_file-in-Exec.result.status _ _ c.in-Exec.is refl
     (untouched _ _ (words.exec c.in-Exec.file.now (options_of c.in-Exec.options)) c.run_file-in-Exec.result.status refl refl refl refl (λ e. e)
     (λ none. absurd (true≢false none)) c.run_file-in-Exec.ensures.early)
+
+pub returns-in-Watch-clause-size : goal.returns-in-Watch-clause-size
+returns-in-Watch-clause-size g c =
+    counts_so c.args.command (command.Watch c.in-Watch.file c.in-Watch.stops c.in-Watch.out c.in-Watch.options) c.watch_file.result.status
+    c.watch_file.result.status _ _ _ _ c.in-Watch.is refl (c.watch_file.ensures.size, c.watch_file.ensures.fits)
+
+pub returns-in-Watch-clause-untouched : goal.returns-in-Watch-clause-untouched
+returns-in-Watch-clause-untouched g c =
+    untouched_so c.args.command (command.Watch c.in-Watch.file c.in-Watch.stops c.in-Watch.out c.in-Watch.options) c.watch_file.result.status
+    c.watch_file.result.status _ _ c.in-Watch.is refl
+    (untouched _ _ (words.watch c.in-Watch.file.now c.in-Watch.stops.now c.in-Watch.out.now (options_of c.in-Watch.options)) c.watch_file.result.status
+    refl refl refl refl (λ e. e) (λ none. absurd (true≢false none)) c.watch_file.ensures.early)
 
 pub returns-in-Boot-clause-size : goal.returns-in-Boot-clause-size
 returns-in-Boot-clause-size g c =

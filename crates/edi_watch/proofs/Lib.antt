@@ -1,0 +1,4 @@
+pub mod Ended
+pub mod Limited
+pub mod Meant
+pub mod Read
