@@ -8,7 +8,8 @@ use Rattle.std.specs.Str.{bytes_eq}
 use Rattle.std.proofs.lemmas.List.Folds.{list_all-append}
 use Rattle.edi_calls.specs.declared.kinds.FileKind.{FileKind}
 use Rattle.edi_calls.specs.declared.kinds.FileKind.TheVariants as kind
-use Rattle.edi_calls.specs.State.{File, Found, State, IsState, IsFoundAs, IsFoundIn, is_buffer, are_bytes, is_byte, is_slot, is_title, without_blanks}
+use Rattle.edi_calls.specs.State.{File, Found, State, is_title, without_blanks}
+use Rattle.edi_calls.specs.SoundState.{IsState, IsFoundAs, IsFoundIn, is_buffer, are_bytes, is_byte, is_slot}
 use Rattle.edi_calls.specs.State.{character, most_bytes, title_of, find_file, free, blocks_of}
 use Rattle.edi_calls.specs.Calls as calls
 use Rattle.edi_calls.specs.Calls.{CallResult, answered, no_file, file_limit, gives, call, text_file, other_than, room_for, slot_for, open_slot}

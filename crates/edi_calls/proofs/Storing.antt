@@ -6,7 +6,8 @@ use Rattle.std.specs.Option.{option_map, option_and_then}
 use Rattle.std.specs.List.{list_all}
 use Rattle.std.specs.Str.{bytes_eq}
 use Rattle.std.proofs.lemmas.Slice.Eq.{bytes_eq-Decides}
-use Rattle.edi_calls.specs.State.{File, first_index, find_slot, find_file, first_free, slot_at, is_titled, AreDistinct, Found, IsFoundAs}
+use Rattle.edi_calls.specs.State.{File, first_index, find_slot, find_file, first_free, slot_at, is_titled, Found}
+use Rattle.edi_calls.specs.SoundState.{AreDistinct, IsFoundAs}
 use Rattle.edi_calls.specs.Calls.{open_slot, slot_for, is_protected}
 use Rattle.edi_calls.proofs.Indices.{first_index-found}
 

@@ -1,6 +1,7 @@
 -- Words of contracts. Laws of the ten calls.
 use Rattle.std.specs.Prelude.{◌≡◌, ◌⊎◌, ◌↔◌, ℕ, ◌≤◌, true, List, [], ◌∷◌, ◌++◌, length, map, replicate, Some}
-use Rattle.edi_calls.specs.State.{State, IsState, character, is_title, title_of, find_file}
+use Rattle.edi_calls.specs.State.{State, character, is_title, title_of, find_file}
+use Rattle.edi_calls.specs.SoundState.{IsState}
 use Rattle.edi_calls.specs.Calls.{call, close, answered, answer_words, text_file}
 use Rattle.edi_calls.specs.Ends.{IsTorn}
 

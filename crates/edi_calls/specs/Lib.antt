@@ -1,4 +1,5 @@
 pub mod State
+pub mod SoundState
 pub mod Calls
 pub mod Ends
 pub mod Outcome

@@ -1,6 +1,6 @@
 -- Definition. The state of the system that a program sees: what is left of the input, what was shown and printed, the files
 -- in their slots, and the two files that the program has open.
-use Rattle.std.specs.Prelude.{◌≡◌, ℕ, suc, ◌+◌, ◌-◌, ◌/◌, ◌%◌, ◌≤◌, Bool, true, false, ◌&&◌, ◌||◌, ◌==◌, nat_lt, nat_le, if◌then◌else◌, IsTrue, ⊤, List, []}
+use Rattle.std.specs.Prelude.{ℕ, suc, ◌+◌, ◌-◌, ◌/◌, ◌%◌, Bool, false, ◌&&◌, ◌||◌, ◌==◌, nat_lt, nat_le, if◌then◌else◌, List, []}
 use Rattle.std.specs.Prelude.{◌∷◌, ◌++◌, length, map, slice_set, slice_index_or, Option, Some, None, is_none}
 use Rattle.std.specs.List.{list_all}
 use Rattle.std.specs.Option.{option_map, option_and_then}
@@ -50,9 +50,6 @@ is_title_character c = is_letter c || is_digit c || c == 95
 abbrev pub is_title : List ℕ → Bool
 is_title [] = false
 is_title (c ∷ cs) = is_letter c && list_all is_title_character cs && nat_lt (length cs) 24
-
-abbrev pub IsTitle : List ℕ → Type 0
-IsTitle title = IsTrue (is_title title)
 
 -- a character before others; a blank before nothing is dropped
 abbrev pub before : ℕ → List ℕ → List ℕ
@@ -133,45 +130,6 @@ abbrev pub find_file : List (Option File) → List ℕ → Option File
 find_file slots title = option_and_then (slot_at slots) (find_slot slots title)
 
 -- ---- what every state keeps
-
--- each file is the one that its title finds, so no two files have one title
-abbrev pub AreDistinct : List (Option File) → Type 0
-AreDistinct slots =
-    (index : ℕ) (file : File) → slot_at slots index ≡ Some file → find_slot slots file.title ≡ Some index
-
-abbrev pub is_byte : ℕ → Bool
-is_byte b = nat_lt b 256
-
--- at most 261,120 bytes
-abbrev pub are_bytes : List ℕ → Bool
-are_bytes bytes = nat_le (length bytes) most_bytes && list_all is_byte bytes
-
--- a free slot, or a file with a title
-abbrev pub is_slot : Option File → Bool
-is_slot None = true
-is_slot (Some file) = is_title file.title && are_bytes file.bytes
-
--- the found file is a text file of this title, and its position is not behind its end
-pub record IsFoundAs (slots : List (Option File)) (found : Found) : Type 0 where
-  pub file : File
-  pub there : find_file slots found.title ≡ Some file
-  pub text : file.kind ≡ kind.Text
-  pub within : found.position ≤ length file.bytes
-
-abbrev pub IsFoundIn : List (Option File) → Option Found → Type 0
-IsFoundIn slots None = ⊤
-IsFoundIn slots (Some found) = IsFoundAs slots found
-
-abbrev pub is_buffer : Option (List ℕ) → Bool
-is_buffer None = true
-is_buffer (Some bytes) = are_bytes bytes
-
-pub record IsState (state : State) : Type 0 where
-  pub slot_count : length state.slots ≡ 256
-  pub files : list_all is_slot state.slots ≡ true
-  pub distinct : AreDistinct state.slots
-  pub found : IsFoundIn state.slots state.found
-  pub buffer : is_buffer state.buffer ≡ true
 
 -- the state in which a program is begun: it has no file open
 abbrev pub fresh : State → State

@@ -7,7 +7,11 @@ ghost use Rattle.edi_calls.specs.State.{State};
 ghost use Rattle.edi_calls.specs.Calls.{argument_words, answer_words, call};
 ghost use Rattle.edi_calls.specs.Ends.{Meets, Blames, is_refused};
 
+use crate::call_number;
 use crate::ends::CallEnd;
+
+// The argument words of a title.
+const TITLE_WORDS: usize = 12;
 
 /// The argument words of a call, without those of its `var` parameter, and its answer words. The number is 1 to 10.
 ///
@@ -30,9 +34,9 @@ pub fn words_of(number: u8) -> (usize, usize)
     ensures answer { result.1 ≡ answer_words number }
 {
     match number {
-        2 | 3 | 8 => (1, 0),
-        4 | 9 | 10 => (12, 1),
-        7 => (0, 0),
+        call_number::DISPLAY | call_number::PRINT | call_number::WRITE => (1, 0),
+        call_number::FIND | call_number::CLOSE | call_number::REMOVE => (TITLE_WORDS, 1),
+        call_number::FRESH => (0, 0),
         _ => (0, 1),
     }
 }

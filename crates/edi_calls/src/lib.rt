@@ -3,6 +3,7 @@
 #![tactic(auto)]
 
 mod blocks;
+pub mod call_number;
 mod calls;
 mod ends;
 mod kinds;

@@ -19,8 +19,9 @@ use Rattle.edi_image.specs.Image.{slots_of}
 use Rattle.edi_image.specs.Stored.{StoredFile, is_record, is_stored, are_data, is_titled, IsKeptOf}
 use Rattle.edi_catalog.specs.Files.{find_index, file_titled}
 use Rattle.edi_catalog.specs.Mounted.{AreEntries, AreWhole, HaveEntries, IsMounted, disk_of, entry_blocks_of, files_of, room_reference}
-use Rattle.edi_catalog.specs.Changes.{CatalogAnswers, BeforeOrAfter, Changes, Leaves, Untouched, changed_at, kept_changed, not_deleted, not_renamed}
-use Rattle.edi_catalog.specs.Changes.{slots_changed}
+use Rattle.edi_catalog.specs.Changes.{CatalogAnswers, BeforeOrAfter, Changes, Leaves, Untouched, kept_changed, not_deleted, not_renamed}
+use Rattle.edi_catalog.specs.SlotsChanged.{changed_at}
+use Rattle.edi_catalog.specs.SlotsChanged.{slots_changed}
 use Rattle.edi_image.specs.Bytes.{bytes_of_slot}
 use Rattle.edi_catalog.specs.Writing.{patched, is_protected, IsWritten, EntryLeaves, PutsEntry, kept_as, put_kept, file_as, put_file, IsRecordFor, IsRecordAt}
 use Rattle.edi_image.proofs.Spelled.{both}

@@ -24,9 +24,11 @@ use Rattle.edi_catalog.specs.declared.ends.CatEnd.{CatEnd}
 use Rattle.edi_catalog.specs.declared.ends.CatEnd.TheVariants as cat
 use Rattle.edi_catalog.specs.Changes.{CatalogAnswers, Changes, Leaves, not_deleted, not_found, not_renamed}
 use Rattle.edi_catalog.specs.Files.{entry_of, file_titled, PageIs}
-use Rattle.edi_catalog.specs.InSlots.{entry_told, free_in, no_deletion, no_renaming, no_room, no_such, PageIn, SlotsAnswer}
+use Rattle.edi_catalog.specs.InSlots.{entry_told, free_in, PageIn, SlotsAnswer}
+use Rattle.edi_catalog.specs.Refusing.{no_deletion, no_renaming, no_room, no_such}
 use Rattle.edi_catalog.specs.Mounted.{IsMounted, disk_of, files_of}
-use Rattle.edi_catalog.specs.Storing.{StoreAnswers, StoreChanges, blocks_free, index_for, not_stored, slots_stored, stored_entry}
+use Rattle.edi_catalog.specs.Storing.{StoreAnswers, StoreChanges, blocks_free, index_for, not_stored, stored_entry}
+use Rattle.edi_catalog.specs.SlotsStored.{slots_stored}
 use Rattle.edi_catalog.specs.Writing.{is_protected}
 use Rattle.edi_catalog.proofs.PageBytes.{file_in, page_at}
 use Rattle.edi_catalog.proofs.Sizes.{bytes_sized, kept_at, kept_pages, page_sized, slots_kept, some_fact, taken_same, titled_kept}

@@ -27,7 +27,8 @@ use Rattle.edi_image.specs.Build.{two}
 use Rattle.edi_image.specs.Records.{FileRecord}
 use Rattle.edi_catalog.specs.Plan.{are_different, blocks_used, used_in, AreFree}
 use Rattle.edi_catalog.specs.Putting.{EntryCached, FileCached, OnlyIn, IsNew, NewLeaves, WritesNew}
-use Rattle.edi_catalog.specs.Storing.{StoreChanges, index_for, put_at, stored_entry, stored_file, slots_stored}
+use Rattle.edi_catalog.specs.Storing.{StoreChanges, index_for, stored_entry}
+use Rattle.edi_catalog.specs.SlotsStored.{put_at, stored_file, slots_stored}
 use Rattle.edi_catalog.proofs.Unchanged.{IsSameImage, free_same, same_kept, same_slots}
 use Rattle.edi_catalog.proofs.StoredIndex.{slot_for_same}
 use Rattle.edi_catalog.proofs.NewlyLaid.{IsLaid}

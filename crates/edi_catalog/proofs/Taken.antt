@@ -13,7 +13,8 @@ use Rattle.edi_image.specs.Records.{maps_of}
 use Rattle.edi_image.specs.Rules.{first_broken, page_rules, is_in}
 use Rattle.edi_image.specs.Stored.{StoredFile}
 use Rattle.edi_catalog.specs.Plan.{are_different, blocks_used, used_in}
-use Rattle.edi_catalog.specs.Taken.{AreTaken, TakesMap, IsUseOf, IsInRange, IsOfCount}
+use Rattle.edi_catalog.specs.Taken.{AreTaken, TakesMap, IsUseOf}
+use Rattle.edi_catalog.specs.Counted.{IsInRange, IsOfCount}
 use Rattle.edi_catalog.proofs.Different.{different_join, different_first, different_rest}
 use Rattle.edi_catalog.proofs.Unchanged.{in_append, in_first, in_right}
 

@@ -1,18 +1,19 @@
 -- Words of contracts. The calls that change the files of a catalogue: why they are refused, what they are to leave, and what they leave.
-use Rattle.std.specs.Prelude.{◌≡◌, ◌⊎◌, ◌≤◌, ◌<◌, ◌+◌, [], ℕ, Bool, List, slice_set, slice_index_or, Option, Some, None, is_some, if◌then◌else◌, Result, Ok, Err, ⊤}
-use Rattle.std.specs.Option.{option_and_then}
+use Rattle.std.specs.Prelude.{◌≡◌, ◌⊎◌, ◌≤◌, ◌<◌, ◌+◌, [], ℕ, Bool, List, slice_index_or, Option, Some, None, is_some, if◌then◌else◌, Result, Ok, Err, ⊤}
 use Rattle.edi_told.specs.Faults.{CountRose}
 use Rattle.edi_told.specs.Told.{WhereTold}
 use Rattle.edi_disk.specs.Shown.{cached, drive_of, reference_of}
-use Rattle.edi_calls.specs.State.{File, find_file, find_slot}
+use Rattle.edi_calls.specs.State.{File, find_file}
 use Rattle.edi_image.specs.Image.{Holds, slots_of}
 use Rattle.edi_image.specs.Stored.{StoredFile}
 use Rattle.edi_catalog.specs.Files.{file_titled, find_index}
-use Rattle.edi_catalog.specs.InSlots.{SlotsAnswer, no_such}
+use Rattle.edi_catalog.specs.InSlots.{SlotsAnswer}
+use Rattle.edi_catalog.specs.Refusing.{no_such}
 use Rattle.edi_catalog.specs.Mounted.{IsMounted, disk_of, entry_blocks_of, files_of, room_reference}
 use Rattle.edi_catalog.specs.declared.catalog.Catalog.{Catalog}
 use Rattle.edi_catalog.specs.declared.ends.CatEnd.{CatEnd}
 use Rattle.edi_catalog.specs.declared.ends.CatEnd.TheVariants as cat
+use Rattle.edi_catalog.specs.SlotsChanged.{changed_at, file_protected, slots_changed}
 
 -- ---- why a call is refused
 
@@ -34,16 +35,6 @@ not_renamed (Some file) there =
 
 -- ---- what is changed
 
--- slots with what a change makes of the file in one; a change to None frees the slot
-abbrev pub changed_at : {A : Type 0} → (A → Option A) → Option ℕ → List (Option A) → List (Option A)
-changed_at change None slots = slots
-changed_at change (Some index) slots =
-    slice_set slots index (option_and_then change (slice_index_or slots index None))
-
--- the file is deleted
-abbrev pub deleted : {A : Type 0} → A → Option A
-deleted file = None
-
 -- changes of a file that is kept
 abbrev pub kept_protected : Bool → StoredFile → Option StoredFile
 kept_protected now file = Some (record file { record_ = record file.record_ { protected = now } })
@@ -54,17 +45,6 @@ kept_renamed title file = Some (record file { record_ = record file.record_ { ti
 -- the slots that are kept, with the file of a title changed
 abbrev pub kept_changed : (StoredFile → Option StoredFile) → List ℕ → List (Option StoredFile) → List (Option StoredFile)
 kept_changed change title files = changed_at change (find_index title files) files
-
--- the same changes of a file in an image
-abbrev pub file_protected : Bool → File → Option File
-file_protected now file = Some (record file { protected = now })
-
-abbrev pub file_renamed : List ℕ → File → Option File
-file_renamed title file = Some (record file { title = title })
-
--- the slots of an image, with the file of a title changed
-abbrev pub slots_changed : (File → Option File) → List ℕ → List (Option File) → List (Option File)
-slots_changed change title slots = changed_at change (find_slot slots title) slots
 
 -- ---- what a call leaves
 

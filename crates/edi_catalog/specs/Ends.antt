@@ -6,7 +6,8 @@ use Rattle.edi_host.specs.declared.drive.DriveEnd.TheVariants as drive
 use Rattle.edi_catalog.specs.declared.formatting.FormatEnd.{FormatEnd}
 use Rattle.edi_catalog.specs.declared.formatting.FormatEnd.TheVariants as format
 use Rattle.edi_image.specs.Image.{Holds}
-use Rattle.edi_image.specs.Formatted.{formatted, new_catalogue, no_files}
+use Rattle.edi_image.specs.Formatted.{formatted, new_catalogue}
+use Rattle.edi_image.specs.NoFiles.{no_files}
 
 -- the blocks of the catalogue are written, where there are so many; after a fault nothing is said
 abbrev pub CatalogueLeaves : DriveEnd → ℕ → List (List ℕ) → List (List ℕ) → Type 0

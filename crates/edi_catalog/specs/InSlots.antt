@@ -1,9 +1,8 @@
 -- Words of contracts. The calls of a catalogue, told by the slots of its image, as the state of a system has them.
-use Rattle.std.specs.Prelude.{◌≡◌, ◌⊎◌, ℕ, ◌+◌, ◌-◌, ◌*◌, ◌<◌, is_none, is_some, nat_lt, if◌then◌else◌, List, length, slice_get, Option, Some, None, Result}
+use Rattle.std.specs.Prelude.{◌≡◌, ◌⊎◌, ℕ, ◌+◌, ◌-◌, ◌*◌, ◌<◌, List, length, slice_get, Option, Some, None, Result}
 use Rattle.std.specs.Prelude.{Ok, Err, ⊤}
-use Rattle.edi_calls.specs.State.{File, blocks_of, find_file, most_bytes}
+use Rattle.edi_calls.specs.State.{File}
 use Rattle.edi_calls.specs.State as calls
-use Rattle.edi_calls.specs.Calls.{is_protected, slot_for}
 use Rattle.edi_image.specs.Image.{slots_of}
 use Rattle.edi_catalog.specs.declared.ends.CatEnd.{CatEnd}
 use Rattle.edi_catalog.specs.declared.ends.CatEnd.TheVariants as cat
@@ -27,30 +26,6 @@ abbrev pub PageIn : {X E : Type 0} → Result X E → Option File → (i : ℕ) 
 PageIn (Ok x) (Some file) i page = IsPageOf file i page
 PageIn (Ok x) None i page = ⊥
 PageIn (Err e) file i page = ⊤
-
--- ---- why a call is refused, from the file with its title
-
-abbrev pub no_such : Option File → Option CatEnd
-no_such None = Some cat.NoSuch
-no_such (Some file) = None
-
-abbrev pub no_deletion : Option File → Option CatEnd
-no_deletion None = Some cat.NoSuch
-no_deletion (Some file) = if file.protected then Some cat.Protected else None
-
-abbrev pub no_renaming : (file there : Option File) → Option CatEnd
-no_renaming None there = Some cat.NoSuch
-no_renaming (Some file) there =
-    if file.protected then Some cat.Protected else (if is_some there then Some cat.Taken else None)
-
--- so many bytes are not stored under a title, where so many blocks are free
-abbrev pub no_room : (title : List ℕ) → (size free : ℕ) → List (Option File) → Option CatEnd
-no_room title size free slots =
-    if is_protected (find_file slots title) then Some cat.Protected
-    else (if nat_lt most_bytes size then Some (cat.TooLarge size)
-    else (if is_none (slot_for slots title) then Some cat.CatalogFull
-    else (if nat_lt free (blocks_of size) then Some (cat.Full (blocks_of size) free)
-    else None)))
 
 -- ---- what a call leaves
 

@@ -1,11 +1,15 @@
+pub mod SlotsChanged
 pub mod Changes
 pub mod Ends
 pub mod Files
 pub mod InSlots
+pub mod Refusing
 pub mod Mounted
 pub mod Plan
 pub mod Putting
 pub mod Reads
+pub mod SlotsStored
 pub mod Storing
 pub mod Taken
+pub mod Counted
 pub mod Writing

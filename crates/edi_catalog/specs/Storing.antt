@@ -5,8 +5,7 @@ use Rattle.std.specs.Option.{option_map}
 use Rattle.edi_told.specs.Faults.{CountRose}
 use Rattle.edi_told.specs.Told.{WhereTold}
 use Rattle.edi_disk.specs.Shown.{drive_of, reference_of}
-use Rattle.edi_calls.specs.State.{File, blocks_of, most_bytes, put_slot}
-use Rattle.edi_calls.specs.Calls.{slot_for}
+use Rattle.edi_calls.specs.State.{blocks_of, most_bytes}
 use Rattle.edi_calls.specs.declared.kinds.FileKind.{FileKind}
 use Rattle.edi_catalog.specs.declared.ends.CatEnd.{CatEnd}
 use Rattle.edi_catalog.specs.declared.ends.CatEnd.TheVariants as cat
@@ -20,6 +19,7 @@ use Rattle.edi_catalog.specs.Changes.{ChangedAreCached, Leaves, Untouched}
 use Rattle.edi_catalog.specs.Plan.{AreFree, used_in}
 use Rattle.edi_catalog.specs.Putting.{FileCached}
 use Rattle.edi_catalog.specs.Writing.{is_protected}
+use Rattle.edi_catalog.specs.SlotsStored.{slots_stored}
 
 -- ---- where it is stored
 
@@ -54,9 +54,6 @@ not_stored title size free files =
 abbrev pub stored_entry : (title : List ℕ) → FileKind → (size : ℕ) → Entry
 stored_entry title kind size = record { title = title; kind = kind; protected = false; length = size }
 
-abbrev pub stored_file : (title : List ℕ) → FileKind → (bytes : List ℕ) → File
-stored_file title kind bytes = record { title = title; kind = kind; protected = false; bytes = bytes }
-
 -- one slot has a file with this entry, and every other is as before
 pub record IsStoredAt (index : Option ℕ) (entry : Entry) (old new : List (Option StoredFile)) : Type 0 where
   pub file : StoredFile
@@ -82,15 +79,6 @@ abbrev pub IsCachedAt : {D X : Type 0} → Result X CatEnd → (index : Option �
 IsCachedAt (Ok done) index bytes after = (at : ℕ) → index ≡ Some at
     → IfSome (slice_index_or (files_of after) at None) (λ file. FileCached file bytes (disk_of after))
 IsCachedAt (Err why) index bytes after = ⊤
-
--- the slots of an image with a file in one of them
-abbrev pub put_at : Option ℕ → File → List (Option File) → List (Option File)
-put_at None file slots = slots
-put_at (Some index) file slots = put_slot slots index (Some file)
-
--- the slots of an image with a file stored
-abbrev pub slots_stored : (title : List ℕ) → FileKind → (bytes : List ℕ) → List (Option File) → List (Option File)
-slots_stored title kind bytes slots = put_at (slot_for slots title) (stored_file title kind bytes) slots
 
 -- A store on a mounted catalogue, by its answer: `refusal` is the first reason against it.
 pub record StoreChanges {D X : Type 0} (contents : D → Option (List (List ℕ))) (count faults : D → ℕ) (result : Result X CatEnd) (refusal : Option CatEnd)

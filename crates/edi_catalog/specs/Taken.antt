@@ -1,14 +1,11 @@
 -- Words of contracts. What a check of an image shows whatever the drive tells: no block is used twice, and a fault fits the number of blocks.
-use Rattle.std.specs.Prelude.{◌≡◌, ◌≤◌, ◌<◌, ℕ, true, false, ◌||◌, List, ◌∷◌, ◌++◌, Option, Some, ⊤}
+use Rattle.std.specs.Prelude.{◌≡◌, ℕ, true, false, ◌||◌, List, ◌∷◌, ◌++◌, Option, Some}
 use Rattle.std.specs.Str.{bytes_eq}
 use Rattle.edi_disk.specs.declared.disk.Disk.{Disk}
 use Rattle.edi_disk.specs.Shown.{cached}
 use Rattle.edi_image.specs.Image.{header_block}
 use Rattle.edi_image.specs.Rules.{is_in}
-use Rattle.edi_image.specs.Entries.{is_data}
 use Rattle.edi_image.specs.Stored.{StoredFile}
-use Rattle.edi_image.specs.declared.faults.MountFault.{MountFault}
-use Rattle.edi_image.specs.declared.faults.MountFault.TheVariants as fault
 use Rattle.edi_catalog.specs.Plan.{are_different, blocks_used}
 
 -- ---- blocks
@@ -31,22 +28,6 @@ pub record IsUseOf (used : List ℕ) (files : List (Option StoredFile)) : Type 0
   pub same : (n : ℕ) → is_in n used ≡ is_in n (blocks_used files)
 
 -- ---- faults
-
--- a fault of the slots: a number that `Page` names lies outside the data of a drive of so many blocks, one that `Shared` names inside
-abbrev pub IsInRange : (count : ℕ) → MountFault → Type 0
-IsInRange count fault.Short = ⊥
-IsInRange count fault.Header = ⊥
-IsInRange count (fault.Page slot page) = is_data 33 count page ≡ false
-IsInRange count (fault.Shared block) = is_data 33 count block ≡ true
-IsInRange count other = ⊤
-
--- a fault of an image: `Short` of 1 to 63 blocks; `Header` of 64 or more; a fault of a slot of 64 to 4096
-abbrev pub IsOfCount : (count : ℕ) → MountFault → Type 0
-IsOfCount count fault.Short = (0 < count) × (count < 64)
-IsOfCount count fault.Header = 64 ≤ count
-IsOfCount count fault.Fault = ⊤
-IsOfCount count fault.NoMemory = ⊤
-IsOfCount count other = (64 ≤ count) × ((count ≤ 4096) × IsInRange count other)
 
 -- block 0 is cached, and is not that of an image of so many blocks; of a clean disk it is as the drive has given it or has taken it
 pub record IsOtherHeader {D : Type 0} (count : ℕ) (disk : Disk D) : Type 0 where

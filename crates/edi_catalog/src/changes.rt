@@ -4,12 +4,15 @@ ghost use Rattle.std.specs.Prelude.{◌≡◌, ◌<◌, IfSome, None, true, fals
 ghost use Rattle.edi_told.specs.Told.{WhereTold};
 ghost use Rattle.edi_disk.specs.Shown.{drive_of};
 ghost use Rattle.edi_image.specs.Image.{slots_of};
-ghost use Rattle.edi_catalog.specs.InSlots.{no_deletion, no_renaming, SlotsAnswer};
+ghost use Rattle.edi_catalog.specs.InSlots.{SlotsAnswer};
+ghost use Rattle.edi_catalog.specs.Refusing.{no_deletion, no_renaming};
 ghost use Rattle.edi_calls.specs.State.{find_file, is_title};
 ghost use Rattle.edi_catalog.specs.Mounted.{IsMounted, disk_of, files_of};
 ghost use Rattle.edi_catalog.specs.Files.{file_titled};
-ghost use Rattle.edi_catalog.specs.Changes.{Changes, SetsInSlots, SetsProtection, deleted, file_renamed, kept_changed, kept_renamed, not_deleted};
-ghost use Rattle.edi_catalog.specs.Changes.{not_renamed, slots_changed};
+ghost use Rattle.edi_catalog.specs.Changes.{Changes, SetsInSlots, SetsProtection, kept_changed, kept_renamed, not_deleted};
+ghost use Rattle.edi_catalog.specs.SlotsChanged.{deleted, file_renamed};
+ghost use Rattle.edi_catalog.specs.Changes.{not_renamed};
+ghost use Rattle.edi_catalog.specs.SlotsChanged.{slots_changed};
 ghost use Rattle.edi_catalog.specs.Writing.{IsRecordAt, is_protected, kept_as, put_file, put_kept, record_protected, record_renamed};
 
 use crate::catalog::Catalog;

@@ -21,6 +21,7 @@ mod writing;
 
 pub use catalog::Catalog;
 pub use edi_calls::FileKind;
+pub use edi_image::migrate::{MigrateEnd, migrate};
 pub use edi_image::{MountFault, Title};
 pub use ends::CatEnd;
 pub use entry::Entry;

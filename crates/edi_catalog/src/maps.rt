@@ -9,7 +9,8 @@ ghost use Rattle.edi_image.specs.Entries.{block_at, is_data};
 ghost use Rattle.edi_image.specs.Image.{map_rules, maps_rules, numbers_in, numbers_of};
 ghost use Rattle.edi_image.specs.Stored.{are_data, is_record};
 ghost use Rattle.edi_catalog.specs.Reads.{Checks, EntriesStay};
-ghost use Rattle.edi_catalog.specs.Taken.{AreTaken, IsInRange, TakesMap};
+ghost use Rattle.edi_catalog.specs.Taken.{AreTaken, TakesMap};
+ghost use Rattle.edi_catalog.specs.Counted.{IsInRange};
 ghost use Rattle.edi_image.specs.Finds.{Finds, failed, Takes};
 
 use crate::reading::block;

@@ -11,7 +11,8 @@ ghost use Rattle.edi_image.specs.Stored.{is_stored, stored_of};
 ghost use Rattle.edi_image.specs.Finds.{Finds, failed};
 ghost use Rattle.edi_catalog.specs.Plan.{are_different, blocks_used};
 ghost use Rattle.edi_catalog.specs.Reads.{Checks};
-ghost use Rattle.edi_catalog.specs.Taken.{IsOfCount, IsOtherHeader};
+ghost use Rattle.edi_catalog.specs.Taken.{IsOtherHeader};
+ghost use Rattle.edi_catalog.specs.Counted.{IsOfCount};
 ghost use Rattle.edi_catalog.specs.Mounted.{AreCached, AreEntries, AreWhole, HaveEntries, IsMountedOn, disk_of, room_of, room_reference};
 
 use crate::catalog::Catalog;

@@ -11,7 +11,8 @@ ghost use Rattle.edi_image.specs.Stored.{StoredFile, is_fit, is_record, is_store
 ghost use Rattle.edi_catalog.specs.Mounted.{AreEntries, AreWhole, HaveEntries, entry_kept, said_kept};
 ghost use Rattle.edi_catalog.specs.Reads.{Checks, EntriesStay};
 ghost use Rattle.edi_catalog.specs.Plan.{are_different, blocks_used, used_in};
-ghost use Rattle.edi_catalog.specs.Taken.{AreTaken, IsInRange, IsUseOf};
+ghost use Rattle.edi_catalog.specs.Taken.{AreTaken, IsUseOf};
+ghost use Rattle.edi_catalog.specs.Counted.{IsInRange};
 ghost use Rattle.edi_image.specs.Finds.{Finds, TakesSlot, failed};
 
 use crate::maps::read_maps;

@@ -10,8 +10,10 @@ ghost use Rattle.edi_catalog.specs.Mounted.{IsMounted, disk_of, files_of};
 ghost use Rattle.edi_catalog.specs.Writing.{is_protected};
 ghost use Rattle.edi_told.specs.Told.{WhereTold};
 ghost use Rattle.edi_image.specs.Image.{slots_of};
-ghost use Rattle.edi_catalog.specs.InSlots.{free_in, no_room, SlotsAnswer};
-ghost use Rattle.edi_catalog.specs.Storing.{slots_stored, StoreChanges, blocks_free, free_index, not_stored, index_for, stored_entry};
+ghost use Rattle.edi_catalog.specs.InSlots.{free_in, SlotsAnswer};
+ghost use Rattle.edi_catalog.specs.Refusing.{no_room};
+ghost use Rattle.edi_catalog.specs.Storing.{StoreChanges, blocks_free, free_index, not_stored, index_for, stored_entry};
+ghost use Rattle.edi_catalog.specs.SlotsStored.{slots_stored};
 
 use crate::catalog::Catalog;
 use crate::ends::CatEnd;

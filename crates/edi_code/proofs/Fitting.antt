@@ -4,13 +4,15 @@ use Rattle.edi_unit.specs.declared.expressions.Operator.{Operator}
 use Rattle.edi_unit.specs.declared.expressions.Operator.TheVariants as op
 use Rattle.edi_unit.specs.declared.expressions.Callee.{Callee}
 use Rattle.edi_unit.specs.declared.expressions.Callee.TheVariants as callee
-use Rattle.edi_unit.specs.Types.{Shape, size, greatest_size, IsTypeTable}
+use Rattle.edi_unit.specs.Types.{Shape, size, greatest_size}
+use Rattle.edi_unit.specs.TypeTables.{IsTypeTable}
 use Rattle.edi_unit.specs.Tree.{Expression, constant, load, not_of, sign_of, chain, make, convert, apply_of, Expressions, no_expression, expression_then}
 use Rattle.edi_unit.specs.Tree.{link, Links, no_link, link_then, Place, place, Part, field, index, Parts, no_part, part_then, by_value, by_variable}
 use Rattle.edi_unit.specs.Tree.{by_procedure, Arguments, no_argument, argument_then, Act, skip, assign, call, halt, if_act, while_act, when_act, cobegin}
 use Rattle.edi_unit.specs.Tree.{Acts, no_act, act_then, Clause, clause, Clauses, no_clause, clause_then, Block, ProgramUnit}
 use Rattle.edi_unit.specs.Need.{block_at, slot_at, slot_type, part_type, operator_type, place_type, expression_type}
-use Rattle.edi_unit.specs.Fits.{Heading, Formals, no_formal, value_then, variable_then, procedure_then, CalleeFits, ExpressionFits, ExpressionsFit, LinksFit}
+use Rattle.edi_unit.specs.Fits.{CalleeFits, ExpressionFits, ExpressionsFit, LinksFit}
+use Rattle.edi_unit.specs.Headings.{Heading, Formals, no_formal, value_then, variable_then, procedure_then}
 use Rattle.edi_unit.specs.Fits.{PlaceFits, PartFits, PartsFit, ArgumentsFit, BranchFits, ActFits, ActsFit, ClauseFits, ClausesFit, BlockFits, Fits}
 use Rattle.edi_scheme.specs.Pieces.{constant_words}
 use Rattle.edi_scheme.specs.Code.{code_of}

@@ -9,7 +9,7 @@ use Rattle.std.specs.Prelude.{sum_by, map, slice_get}
 use Rattle.std.specs.Option.{option_map_or}
 use Rattle.edi_unit.specs.declared.units.Parameter.TheVariants as slot
 use Rattle.edi_unit.specs.Types.{Shape, int, char, bool, enumeration, record_of, array_of, set_of, shape_at, fields_of, size, shape_size, greatest_size}
-use Rattle.edi_unit.specs.Types.{IsTypeTable}
+use Rattle.edi_unit.specs.TypeTables.{IsTypeTable}
 use Rattle.edi_unit.specs.Tree.{Block}
 use Rattle.edi_unit.specs.Need.{block_at, no_block, slots, slot_words, link_words, variable_words}
 use Rattle.edi_unit.proofs.Tables.{size-is, size-small}

@@ -3,7 +3,8 @@
 ghost use Rattle.std.specs.Prelude.{◌≡◌, ◌≤◌, ◌<◌, ℕ, is_some, length, slice_get, sum_by};
 ghost use Rattle.std.specs.Option.{option_map_or};
 ghost use Rattle.edi_unit.specs.Lists.{list_items};
-ghost use Rattle.edi_unit.specs.Types.{IsTypeTable, field_type, greatest_size, is_set_shape, shape_at, size};
+ghost use Rattle.edi_unit.specs.Types.{field_type, greatest_size, is_set_shape, shape_at, size};
+ghost use Rattle.edi_unit.specs.TypeTables.{IsTypeTable};
 ghost use Rattle.edi_unit.specs.Tree.{Clauses};
 ghost use Rattle.edi_unit.specs.View.{expressions_of};
 ghost use Rattle.edi_unit.specs.Need as need;

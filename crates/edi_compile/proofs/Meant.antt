@@ -14,7 +14,8 @@ use Rattle.edi_compile.proofs.codable.Fielded.{records_have_fields}
 use Rattle.edi_compile.proofs.codable.Following.{code_is_short, code_is_short_for_text, lines_are_small, units_fit}
 use Rattle.edi_follows.specs.Theorem.{CanBeCoded}
 use Rattle.edi_follows.proofs.Whole.{same_outcomes, same_moments, code_private}
-use Rattle.edi_texts.specs.Texts.{AreAccepted, IsSoundUnit, IsUnit}
+use Rattle.edi_texts.specs.Texts.{AreAccepted, IsUnit}
+use Rattle.edi_texts.specs.Laws.{IsSoundUnit}
 use Rattle.edi_texts.specs.Length.{extent_of, symbol_count}
 use Rattle.edi_texts.specs.Run.{IsCodeFor}
 use Rattle.edi_texts.proofs.Bounded.{accepted_texts_are_sound, symbols_bounded}

@@ -1,4 +1,4 @@
--- Definition. What a watched run logs, in the words of the program's meaning.
+-- Words of contracts. What a watched run logs, in the words of the program's meaning.
 use Rattle.std.specs.Prelude.{◌≡◌, ℕ, List, ◌++◌, Some}
 use Rattle.edi_calls.specs.Choice.{Choices}
 use Rattle.edi_calls.specs.Names.{Name}

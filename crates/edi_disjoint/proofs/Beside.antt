@@ -9,7 +9,8 @@ use Rattle.edi_calls.specs.State.{State, after_call}
 use Rattle.edi_unit.specs.declared.expressions.Callee.{Callee}
 use Rattle.edi_unit.specs.declared.expressions.Callee.TheVariants as callee
 use Rattle.edi_unit.specs.Need.{block_at, outer, slots, slot_at, slot_type}
-use Rattle.edi_unit.specs.Fits.{Fits, Heading, is_procedure}
+use Rattle.edi_unit.specs.Fits.{Fits, is_procedure}
+use Rattle.edi_unit.specs.Headings.{Heading}
 use Rattle.edi_unit.specs.Values.{Value}
 use Rattle.edi_unit.specs.Tree as tree
 use Rattle.edi_unit.specs.Tree.{Block, Argument, Arguments, Expression, Place, ProgramUnit}

@@ -4,7 +4,7 @@ use Rattle.std.proofs.Common.{◌≡◌, ℕ, zero, suc, ◌-◌, ◌<◌, ◌�
 use Rattle.std.specs.Prelude.{slice_get, unwrap_or}
 use Rattle.edi_calls.specs.Names.{Name}
 use Rattle.edi_unit.specs.Need.{block_at, outer}
-use Rattle.edi_unit.specs.Fits.{Heading}
+use Rattle.edi_unit.specs.Headings.{Heading}
 use Rattle.edi_unit.specs.Tree.{Block, ProgramUnit}
 use Rattle.edi_meaning.specs.Store.{Spot, Store, Shape, instances, Frame, shape, no_frame, frame_at, reached, now, IsLive}
 use Rattle.edi_meaning.specs.Laws.{Means}

@@ -7,7 +7,8 @@ use Rattle.edi_calls.proofs.Tables.{same-or-other}
 use Rattle.edi_unit.specs.declared.units.Parameter.{Parameter}
 use Rattle.edi_unit.specs.declared.units.Parameter.TheVariants as slot
 use Rattle.edi_unit.specs.Need.{block_at, slots}
-use Rattle.edi_unit.specs.Fits.{Fits, Heading, ArgumentsFit, block_heading, callee_heading, heading_formals, formals_from, first_parameter}
+use Rattle.edi_unit.specs.Fits.{Fits, ArgumentsFit, block_heading, callee_heading, formals_from, first_parameter}
+use Rattle.edi_unit.specs.Headings.{Heading, heading_formals}
 use Rattle.edi_unit.specs.Values.{Value, zero_value}
 use Rattle.edi_unit.specs.Tree as tree
 use Rattle.edi_unit.specs.Tree.{Argument, Arguments, ProgramUnit}

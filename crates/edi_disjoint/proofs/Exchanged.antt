@@ -12,7 +12,8 @@ use Rattle.edi_unit.specs.Fits.{Fits, is_procedure}
 use Rattle.edi_unit.specs.Tree.{ProgramUnit}
 use Rattle.edi_meaning.specs.Store.{Spot, instances, frames, shape, now, cells_in, no_cell, cell, ancestor, Owns}
 use Rattle.edi_meaning.specs.Evaluation.{World, Evaluation, gives}
-use Rattle.edi_meaning.specs.Step.{Asks, Process, Processes, is_running, local_step}
+use Rattle.edi_meaning.specs.Step.{Asks, Process, Processes, local_step}
+use Rattle.edi_meaning.specs.Permitted.{is_running}
 use Rattle.edi_meaning.specs.Laws.{IsWaiting}
 use Rattle.edi_meaning.proofs.Own.{owns_self, owns_first, length-ancestor}
 use Rattle.edi_meaning.proofs.Parents.{Family, waiting_does_not_run}

@@ -6,7 +6,8 @@ use Rattle.edi_calls.specs.Names.{Name}
 use Rattle.edi_unit.specs.declared.expressions.Callee.{Callee}
 use Rattle.edi_unit.specs.declared.expressions.Callee.TheVariants as callee
 use Rattle.edi_unit.specs.Need.{block_at, outer, slots}
-use Rattle.edi_unit.specs.Fits.{Fits, Heading, ArgumentsFit, block_heading, heading_formals}
+use Rattle.edi_unit.specs.Fits.{Fits, ArgumentsFit, block_heading}
+use Rattle.edi_unit.specs.Headings.{Heading, heading_formals}
 use Rattle.edi_unit.specs.Values.{Value}
 use Rattle.edi_unit.specs.Tree as tree
 use Rattle.edi_unit.specs.Tree.{Arguments, ProgramUnit}

@@ -11,13 +11,15 @@ use Rattle.edi_calls.specs.Outcome.{Ending}
 use Rattle.edi_calls.proofs.Names.{some_is}
 use Rattle.edi_calls.proofs.Tables.{same-or-other, same-symmetric}
 use Rattle.edi_unit.specs.Need.{block_at, slots}
-use Rattle.edi_unit.specs.Fits.{Fits, Heading}
+use Rattle.edi_unit.specs.Fits.{Fits}
+use Rattle.edi_unit.specs.Headings.{Heading}
 use Rattle.edi_unit.specs.Tree.{ProgramUnit}
 use Rattle.edi_meaning.specs.Store.{Spot, Instance, no_frame, Store, Shape, instances, frames, shape, frame_at, now, IsLive, procedure, system_procedure}
 use Rattle.edi_meaning.specs.Evaluation.{World, Evaluation, gives, ends, turn_from}
 use Rattle.edi_meaning.specs.Whole.{instance_of}
 use Rattle.edi_meaning.specs.Step.{Standing, ready, at_when, waiting, Work, program_entry, body_of, Asks, goes, arrives, again, forks, leaves, Process}
-use Rattle.edi_meaning.specs.Step.{Processes, Stepped, went, ended, is_running, local_step, kernel, step_of, step, start, at, permitted}
+use Rattle.edi_meaning.specs.Step.{Processes, Stepped, went, ended, local_step, kernel, step_of, step, start}
+use Rattle.edi_meaning.specs.Permitted.{is_running, at, permitted}
 use Rattle.edi_meaning.specs.Laws.{IsWaiting}
 use Rattle.edi_meaning.proofs.Lasting.{Every, Gives, Keeps}
 use Rattle.edi_meaning.proofs.Kernel.{After, of_process, permitted_keep}

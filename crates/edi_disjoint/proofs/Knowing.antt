@@ -9,7 +9,8 @@ use Rattle.edi_calls.specs.State.{Traced, after_call}
 use Rattle.edi_unit.specs.declared.expressions.Callee.{Callee}
 use Rattle.edi_unit.specs.declared.expressions.Callee.TheVariants as callee
 use Rattle.edi_unit.specs.Need.{block_at, outer, slots}
-use Rattle.edi_unit.specs.Fits.{Fits, Heading, ArgumentsFit, heading_formals}
+use Rattle.edi_unit.specs.Fits.{Fits, ArgumentsFit}
+use Rattle.edi_unit.specs.Headings.{Heading, heading_formals}
 use Rattle.edi_unit.specs.Tree as tree
 use Rattle.edi_unit.specs.Tree.{Argument, Arguments, ProgramUnit}
 use Rattle.edi_meaning.specs.Store.{Spot, Location, Closure, system_procedure, block_procedure, Cell, value, location, procedure, Store, Shape}

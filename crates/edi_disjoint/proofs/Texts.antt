@@ -2,8 +2,10 @@
 use Rattle.std.proofs.Common.{◌≡◌, ℕ, suc, ◌<◌, List, [], ◌∷◌, ◌++◌, length, refl, arith}
 use Rattle.std.specs.Prelude.{All, IsTrue, slice_index_or}
 use Rattle.edi_unit.specs.Need.{block_at, slot_at}
-use Rattle.edi_unit.specs.Fits.{Fits, is_variable, CalleeFits, ArgumentsFit, callee_heading, heading_formals, Formals, ExpressionFits, ExpressionsFit, LinksFit, PlaceFits}
+use Rattle.edi_unit.specs.Fits.{Fits, is_variable, CalleeFits, ArgumentsFit, callee_heading, ExpressionFits, ExpressionsFit, LinksFit, PlaceFits}
+use Rattle.edi_unit.specs.Headings.{heading_formals, Formals}
 use Rattle.edi_unit.specs.Fits as fits
+use Rattle.edi_unit.specs.Headings as headings
 use Rattle.edi_unit.specs.Tree as tree
 use Rattle.edi_unit.specs.Tree.{Expression, Expressions, Link, Links, Place, Part, Parts, Argument, Arguments, Act, Acts, Clause, Clauses, ProgramUnit}
 use Rattle.edi_meaning.proofs.Lasting.{Every}
@@ -87,22 +89,22 @@ module _ (unit : ProgramUnit) (ok : Fits unit) where
       arguments_may : (xs : Arguments) (fs : Formals) → Every There (in_arguments xs) → ArgumentsFit unit.types unit.blocks ok.headings n xs fs
           → ArgumentsMay (text_of n) xs
       arguments_may tree.no_argument fs h f = tt
-      arguments_may (tree.argument_then (tree.by_value e) xs) (fits.value_then t fs) h f =
+      arguments_may (tree.argument_then (tree.by_value e) xs) (headings.value_then t fs) h f =
           let both : Every There (in_expression e) × Every There (in_arguments xs) = split (in_expression e) (in_arguments xs) h in
           (expression_may e both.0 f.1, arguments_may xs fs both.1 f.2)
-      arguments_may (tree.argument_then (tree.by_variable (tree.place levels v ps)) xs) (fits.variable_then t fs) h f =
+      arguments_may (tree.argument_then (tree.by_variable (tree.place levels v ps)) xs) (headings.variable_then t fs) h f =
           let both : Every There (in_parts ps) × Every There (in_arguments xs) = split (in_parts ps) (in_arguments xs) h.1 in
           (((h.0, f.1.1), parts_may _ ps both.0 f.1.2), arguments_may xs fs both.1 f.2)
-      arguments_may (tree.argument_then (tree.by_procedure c) xs) (fits.procedure_then g fs) h f = ((h.0, f.1), arguments_may xs fs h.1 f.2)
-      arguments_may (tree.argument_then (tree.by_value e) xs) fits.no_formal h f = absurd f
-      arguments_may (tree.argument_then (tree.by_value e) xs) (fits.variable_then t fs) h f = absurd f
-      arguments_may (tree.argument_then (tree.by_value e) xs) (fits.procedure_then g fs) h f = absurd f
-      arguments_may (tree.argument_then (tree.by_variable v) xs) fits.no_formal h f = absurd f
-      arguments_may (tree.argument_then (tree.by_variable v) xs) (fits.value_then t fs) h f = absurd f
-      arguments_may (tree.argument_then (tree.by_variable v) xs) (fits.procedure_then g fs) h f = absurd f
-      arguments_may (tree.argument_then (tree.by_procedure c) xs) fits.no_formal h f = absurd f
-      arguments_may (tree.argument_then (tree.by_procedure c) xs) (fits.value_then t fs) h f = absurd f
-      arguments_may (tree.argument_then (tree.by_procedure c) xs) (fits.variable_then t fs) h f = absurd f
+      arguments_may (tree.argument_then (tree.by_procedure c) xs) (headings.procedure_then g fs) h f = ((h.0, f.1), arguments_may xs fs h.1 f.2)
+      arguments_may (tree.argument_then (tree.by_value e) xs) headings.no_formal h f = absurd f
+      arguments_may (tree.argument_then (tree.by_value e) xs) (headings.variable_then t fs) h f = absurd f
+      arguments_may (tree.argument_then (tree.by_value e) xs) (headings.procedure_then g fs) h f = absurd f
+      arguments_may (tree.argument_then (tree.by_variable v) xs) headings.no_formal h f = absurd f
+      arguments_may (tree.argument_then (tree.by_variable v) xs) (headings.value_then t fs) h f = absurd f
+      arguments_may (tree.argument_then (tree.by_variable v) xs) (headings.procedure_then g fs) h f = absurd f
+      arguments_may (tree.argument_then (tree.by_procedure c) xs) headings.no_formal h f = absurd f
+      arguments_may (tree.argument_then (tree.by_procedure c) xs) (headings.value_then t fs) h f = absurd f
+      arguments_may (tree.argument_then (tree.by_procedure c) xs) (headings.variable_then t fs) h f = absurd f
 
     mutual
       act_may : (a : Act) → Every There (in_act a) → fits.ActFits unit.types unit.blocks ok.headings n a → ActMay (text_of n) a

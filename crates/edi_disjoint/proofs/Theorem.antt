@@ -7,8 +7,9 @@ use Rattle.edi_unit.specs.Fits.{Fits}
 use Rattle.edi_unit.specs.Tree.{ProgramUnit}
 use Rattle.edi_meaning.specs.Store.{instances, shape, Owns}
 use Rattle.edi_meaning.specs.Evaluation.{World, Evaluation, gives, ends}
-use Rattle.edi_meaning.specs.Step.{Asks, Process, Processes, Stepped, went, ended, is_running, local_step, kernel, step_of, step, Led, at, nowhere}
-use Rattle.edi_meaning.specs.Step.{may_step, onward, permitted}
+use Rattle.edi_meaning.specs.Step.{Asks, Process, Processes, Stepped, went, ended, local_step, kernel, step_of, step}
+use Rattle.edi_meaning.specs.Permitted.{is_running, Led, at, nowhere}
+use Rattle.edi_meaning.specs.Permitted.{may_step, onward, permitted}
 use Rattle.edi_meaning.specs.Laws.{IsWaiting}
 use Rattle.edi_meaning.proofs.Kernel.{After, permitted_keep}
 use Rattle.edi_meaning.proofs.Frames.{length-frames}

@@ -1,11 +1,12 @@
--- Definition. Steps of two processes that may be exchanged.
+-- Words of contracts. Steps of two processes that may be exchanged.
 use Rattle.std.specs.Prelude.{◌≡◌, ◌<◌, ℕ, true, List, [], ◌∷◌, length, Some}
 use Rattle.edi_calls.specs.Names.{Name, find}
 use Rattle.edi_calls.specs.State.{State}
 use Rattle.edi_unit.specs.Tree.{ProgramUnit}
 use Rattle.edi_unit.specs.Fits.{Fits}
 use Rattle.edi_meaning.specs.Store.{instances, shape, frame_at}
-use Rattle.edi_meaning.specs.Step.{ready, is_running, Process, Processes, start, at, permitted}
+use Rattle.edi_meaning.specs.Step.{ready, Process, Processes, start}
+use Rattle.edi_meaning.specs.Permitted.{is_running, at, permitted}
 use Rattle.edi_disjoint.specs.Footprints.{Disjoint}
 
 -- two states are the same: the same processes by their names, with the same instances, the same system and as many turns.

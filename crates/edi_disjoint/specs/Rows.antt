@@ -10,7 +10,8 @@ use Rattle.edi_meaning.specs.Store.{get}
 use Rattle.edi_unit.specs.declared.expressions.Callee.TheVariants as callee
 use Rattle.edi_unit.specs.Tree.{assign, call, cobegin, skip, no_argument, Act, Block, ProgramUnit}
 use Rattle.edi_meaning.specs.Rows.{empty_system, list_of, variable, value_of, number}
-use Rattle.edi_meaning.specs.Step.{Led, at, start, permitted}
+use Rattle.edi_meaning.specs.Step.{start}
+use Rattle.edi_meaning.specs.Permitted.{Led, at, permitted}
 use Rattle.edi_disjoint.specs.declared.mentions.Mention.TheVariants as mention
 use Rattle.edi_disjoint.specs.Mentions.{in_acts}
 use Rattle.edi_disjoint.specs.declared.mentions.Mention.{Mention}

@@ -2,7 +2,8 @@
 use Rattle.std.proofs.Common.{◌≡◌, ℕ, suc, ◌+◌, ◌-◌, ◌≤◌, List, [], ◌∷◌, ◌++◌, length, refl, ◌∙◌, ap, arith, drop, length-drop}
 use Rattle.std.proofs.lemmas.List.{length_push, get_or_push, take_at, drop-append-le, drop-drop}
 use Rattle.edi_edit.specs.declared.TheConstants.{UNDOS}
-use Rattle.edi_edit.specs.Editing.{Editing, changed, undone, after_changes, undone_times, UndosGiveTheTextBack}
+use Rattle.edi_edit.specs.Editing.{Editing, changed, undone}
+use Rattle.edi_edit.specs.Undoing.{after_changes, undone_times, UndosGiveTheTextBack}
 
 -- one undo where the first of the earlier texts are gone
 undone_dropped : (texts : List (List (List ℕ))) (before after : List (List ℕ)) (j : ℕ) → j ≤ length texts

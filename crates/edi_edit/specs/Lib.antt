@@ -1,3 +1,4 @@
 pub mod Lines
 pub mod Editing
+pub mod Undoing
 pub mod Steps

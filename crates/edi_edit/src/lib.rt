@@ -3,7 +3,8 @@
 
 ghost use Rattle.std.specs.Prelude.{◌≡◌, ℕ, ◌+◌, ◌-◌, ◌<◌, ◌≤◌, [], length, insert, remove, slice_set, option_copied, option_map, IfOk, OnErr, false};
 ghost use Rattle.edi_edit.specs.Lines.{lines_of, bytes_of_lines, line_numbered, has_feed};
-ghost use Rattle.edi_edit.specs.Editing.{EndsBy, refusal, missing, is_index, changed, Undoes, UndosGiveTheTextBack};
+ghost use Rattle.edi_edit.specs.Editing.{refusal, missing, is_index, changed};
+ghost use Rattle.edi_edit.specs.Undoing.{EndsBy, Undoes, UndosGiveTheTextBack};
 
 mod list;
 

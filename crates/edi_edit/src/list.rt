@@ -4,7 +4,8 @@ ghost use Rattle.std.specs.Prelude.{IfOk, OnOk, IfErr, ◌==◌, not};
 ghost use Rattle.std.specs.List.{prefix_len};
 ghost use Rattle.circular_buffer.specs.Buffer.{buffer, keep_last};
 ghost use Rattle.edi_edit.specs.Lines.{lines_of, bytes_of_lines, size_of_lines};
-ghost use Rattle.edi_edit.specs.Editing.{EndsBy, refusal, missing, is_index};
+ghost use Rattle.edi_edit.specs.Editing.{refusal, missing, is_index};
+ghost use Rattle.edi_edit.specs.Undoing.{EndsBy};
 ghost use Rattle.edi_edit.specs.Steps.{plain, step_back, CanStep};
 
 use crate::{EditEnd, ROOM};

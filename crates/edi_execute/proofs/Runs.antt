@@ -9,7 +9,8 @@ use Rattle.edi_image.specs.Image.{mount_fault_of}
 use Rattle.edi_kernel.specs.declared.ends.Ending.TheVariants as ending
 use Rattle.edi_kernel.specs.Runs.{RunsTo}
 use Rattle.edi_system.specs.AsCalls.{IsDueFrom, IsDueSince, KeepsDue}
-use Rattle.edi_system.specs.Parts.{due_after, Grows, IsValid, KeepsTold, Shrinks, SystemBegins, ToldStays}
+use Rattle.edi_system.specs.Parts.{due_after, IsValid, KeepsTold, SystemBegins, ToldStays}
+use Rattle.edi_system.specs.Growing.{Grows, Shrinks}
 use Rattle.edi_system.proofs.Lasting.{none_stays, valid_ready}
 use Rattle.edi_system.specs.State.{all_told, drive_in, due_in, faults_of, input_in, printer_in, state_of, state_with, terminal_in, IsReady}
 use Rattle.edi_system.specs.declared.system.System.{System}

@@ -10,7 +10,8 @@ use Rattle.edi_kernel.specs.declared.ends.Ending.{Ending}
 use Rattle.edi_kernel.specs.declared.ends.Ending.TheVariants as ending
 use Rattle.edi_kernel.specs.Runs.{RunsTo}
 use Rattle.edi_system.specs.Parts.{due_after, ToldStays}
-use Rattle.edi_system.specs.State.{all_told, state_begun}
+use Rattle.edi_system.specs.State.{all_told}
+use Rattle.edi_system.specs.Begun.{state_begun}
 use Rattle.edi_target.specs.Check.{CodeParts}
 use Rattle.edi_target.specs.Fetch.{fetch}
 use Rattle.edi_target.specs.Moments.{ComesThrough}

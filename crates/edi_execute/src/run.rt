@@ -3,7 +3,7 @@
 ghost use Rattle.std.specs.Prelude.{◌≡◌, ◌≤◌, ◌<◌, ◌+◌, ◌↔◌, IfErr, IfOk, None, Some, IsSome};
 ghost use Rattle.edi_told.specs.Faults.{CountRose};
 ghost use Rattle.edi_told.specs.Told.{WhereTold};
-ghost use Rattle.edi_catalog.specs.Taken.{IsOfCount};
+ghost use Rattle.edi_catalog.specs.Counted.{IsOfCount};
 ghost use Rattle.edi_image.specs.Image.{mount_fault_of};
 ghost use Rattle.edi_image.specs.Finds.{IsFirst};
 ghost use Rattle.edi_kernel.specs.Kernel.{StandsAtEnd};

@@ -1,4 +1,4 @@
--- Definition. A stint: what one process does from when it is taken until the next one is taken.
+-- Words of contracts. A stint: what one process does from when it is taken until the next one is taken.
 use Rattle.std.specs.Prelude.{ℕ, zero, suc, Bool, List}
 use Rattle.edi_calls.specs.Names.{Name}
 use Rattle.edi_calls.specs.Outcome.{Ending}

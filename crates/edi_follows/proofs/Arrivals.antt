@@ -11,6 +11,7 @@ use Rattle.edi_calls.specs.Ready.{has, Next, stays, joins, Taking, nobody, takin
 use Rattle.edi_calls.specs.State.{State, Traced}
 use Rattle.edi_meaning.specs.Store.{shape}
 use Rattle.edi_meaning.specs.Step as source
+use Rattle.edi_meaning.specs.Permitted as permitted
 use Rattle.edi_meaning.specs.Step.{Process, Processes, Standing, ready, at_when, waiting}
 use Rattle.edi_meaning.specs.Select as selection
 use Rattle.edi_meaning.specs.Select.{finished, marked, is_standstill, select}
@@ -256,8 +257,8 @@ module _ (g : Coded) (claim : StepClaim g) (cohere : StepsCohere) (queues : Step
               (claim none s t p others marks k (λ a x y. x)) (queues g.unit s p others k.kept.coherent k.queue) (cohere g.unit s p k.kept.coherent)
               (standing_size q.standing + work_size q.work) s.world.turns (step_falls g.unit s p q f) e
           of_found None f =
-              let runs : source.is_running_process None ≡ true =
-              sym (ap source.is_running_process f) ∙ k.queue.holds p (ap (λ b. b || has others p) (same-refl p)) in
+              let runs : permitted.is_running_process None ≡ true =
+              sym (ap permitted.is_running_process f) ∙ k.queue.holds p (ap (λ b. b || has others p) (same-refl p)) in
               absurd (cc)
 
 -- ---- from the start

@@ -17,7 +17,7 @@ use Rattle.edi_unit.specs.Need.{outer, slot_at}
 use Rattle.edi_meaning.specs.Store.{Spot, Location, Cell, value, location, Shape, shape, frame_at, reached, now, located, cell, get, IsLive}
 use Rattle.edi_meaning.specs.Store as store
 use Rattle.edi_meaning.specs.Evaluation.{World}
-use Rattle.edi_meaning.specs.Step as source
+use Rattle.edi_meaning.specs.Permitted as source
 use Rattle.edi_meaning.specs.Step.{Process, Processes, Position, Standing, ready, at_when, waiting}
 use Rattle.edi_meaning.specs.Laws.{IsWaiting}
 use Rattle.edi_meaning.proofs.Dangling.{Coherent, owner_waits}

@@ -8,7 +8,8 @@ use Rattle.edi_meaning.proofs.Branching.{fitting_forks_have_branches}
 use Rattle.edi_target.specs.Fetch.{fetch}
 use Rattle.edi_calls.proofs.Names.{some_is}
 use Rattle.edi_target.specs.Op.{Instruction, words_of}
-use Rattle.edi_target.specs.Decode.{AreWords, decode}
+use Rattle.edi_target.specs.Decode.{decode}
+use Rattle.edi_target.specs.Reading.{AreWords}
 use Rattle.edi_target.proofs.Reading.{decode_reads}
 use Rattle.edi_target.proofs.Stands.{code_stands_below}
 use Rattle.edi_target.proofs.segments.Reaching.{allowed_at}

@@ -9,7 +9,8 @@ use Rattle.edi_calls.specs.Ready.{has, Next, stays, joins, taking, take_next}
 use Rattle.edi_calls.specs.State.{State, Traced}
 use Rattle.edi_calls.proofs.Tables.{same-refl}
 use Rattle.edi_meaning.specs.Step as source
-use Rattle.edi_meaning.specs.Step.{Process, Processes, is_running_process}
+use Rattle.edi_meaning.specs.Step.{Process, Processes}
+use Rattle.edi_meaning.specs.Permitted.{is_running_process}
 use Rattle.edi_meaning.specs.Select.{marked, is_standstill}
 use Rattle.edi_meaning.proofs.Sound.{EachTaken, each_next}
 use Rattle.edi_meaning.proofs.Work.{Falls, standing_size, work_size, step_falls}

@@ -13,6 +13,7 @@ use Rattle.edi_meaning.specs.Select as selection
 use Rattle.edi_meaning.specs.Select.{finished, marked, is_standstill, select, Select}
 use Rattle.edi_meaning.specs.Someone.{ForksHaveBranches}
 use Rattle.edi_meaning.specs.Step as source
+use Rattle.edi_meaning.specs.Permitted as permitted
 use Rattle.edi_meaning.specs.Step.{Processes}
 use Rattle.edi_meaning.proofs.Branching.{StateGood, step_good, start_good}
 use Rattle.edi_meaning.proofs.Kernel.{After}
@@ -159,7 +160,7 @@ module _ (g : Coded) (claim : StepClaim g) (cohere : StepsCohere) (queues : Step
 
         by : (x : Taking) → take_next choices drawn (others ++ ps) ≡ x → EachTaken (MayStep s) x →
             selection.go_on x (select g.unit choices n s marks) s drawn ≡ finished outcome.standstill end turns d order → StandsStill d
-        by nobody is each f = let x : (x : Name) × (source.may_step s x ≡ true) = someone s h.kept.coherent good in absurd (each x.0 x.1)
+        by nobody is each f = let x : (x : Name) × (permitted.may_step s x ≡ true) = someone s h.kept.coherent good in absurd (each x.0 x.1)
         by (taking z os c) is each f =
             main s h.machine z os marks c (record { related = h.related; kept = h.kept; queue = each; marks_agree = inl h.same_marks }) good
             (switched h.before h.machine p z others os ps drawn c before h.is is) end turns d order f

@@ -16,6 +16,7 @@ use Rattle.edi_unit.proofs.ZeroValues.{zero_is_of}
 use Rattle.edi_unit.specs.Tree.{Block}
 use Rattle.edi_unit.specs.Need.{slots, slot_words, variable_words, acts_height}
 use Rattle.edi_unit.specs.Fits as fits
+use Rattle.edi_unit.specs.Headings as headings
 use Rattle.edi_unit.specs.Fits.{BlockFits, SlotIsKnown}
 use Rattle.edi_meaning.specs.Store.{Spot, system_procedure, Cell, value, procedure, Instance, Store, Shape, instances, cells_in, shape, frame_at, used, cell}
 use Rattle.edi_meaning.specs.Store.{no_cell, IsLive, within}
@@ -258,7 +259,7 @@ module _ (g : Coded) (long : ValuesAreLong) (zeros : ZeroIsZeros) (system : Stat
 
   -- the heading of a call: its formals, and no result
   abbrev CallsFrom : ℕ → List Parameter → List ℕ → Type 0
-  CallsFrom v ps ns = (i : ℕ) → i < length ns → fits.IsCall ts (slice_index ns i) (fits.heading_formals (heading_of g b0 (v + i)))
+  CallsFrom v ps ns = (i : ℕ) → i < length ns → fits.IsCall ts (slice_index ns i) (headings.heading_formals (heading_of g b0 (v + i)))
 
   calls_hold : (v : ℕ) (ps : List Parameter) (ns : List ℕ) → All (λ p. p ≡ slot.Formal None) ps → length ps ≡ length ns → CallsFrom v ps ns →
       fits.ResultsAgree (g.fits.headings b0) v ps →
@@ -270,9 +271,9 @@ module _ (g : Coded) (long : ValuesAreLong) (zeros : ZeroIsZeros) (system : Stat
       let is : p ≡ slot.Formal None = h 0 p (omega arith) in
       let none : fits.ResultAgrees (heading_of g b0 v) (slot.Formal None) = subst (fits.ResultAgrees (heading_of g b0 v)) is r.0 in (
         subst (λ y. Holds g F ([], 0) (heading_of g b0 v) (Some y) (procedure (system_procedure k))) (sym is)
-            (subst (λ y. fits.IsCall ts k (fits.heading_formals (heading_of g b0 y))) (omega arith) (c 0 (omega arith)), none),
+            (subst (λ y. fits.IsCall ts k (headings.heading_formals (heading_of g b0 y))) (omega arith) (c 0 (omega arith)), none),
         calls_hold (suc v) ps ns (λ i d l. h (suc i) d (omega (arith, l))) (omega (arith, e))
-            (λ i l. subst (λ y. fits.IsCall ts (slice_index ns i) (fits.heading_formals (heading_of g b0 y))) (omega arith) (c (suc i) (omega (arith, l)))) r.1,
+            (λ i l. subst (λ y. fits.IsCall ts (slice_index ns i) (headings.heading_formals (heading_of g b0 y))) (omega arith) (c (suc i) (omega (arith, l)))) r.1,
       )
 
   all_hold : HoldAll g F ([], 0) b0 0 (slots B) inst.cells
@@ -284,8 +285,8 @@ module _ (g : Coded) (long : ValuesAreLong) (zeros : ZeroIsZeros) (system : Stat
           hold_append g F ([], 0) b0 0 (length B.parameters) B.parameters (map slot.Value B.variables) (map (λ k. procedure (system_procedure k)) g.unit.calls)
           (map (λ t. value (zero_value ts t)) B.variables) (omega arith)
           (calls_hold 0 B.parameters g.unit.calls procedures as_many
-          (λ i l. subst (λ b. fits.IsCall ts (slice_index g.unit.calls i) (fits.heading_formals (g.fits.headings b (0 + i)))) (sym g.fits.first)
-          (subst (λ y. fits.IsCall ts (slice_index g.unit.calls i) (fits.heading_formals (g.fits.headings 0 y))) (omega arith)
+          (λ i l. subst (λ b. fits.IsCall ts (slice_index g.unit.calls i) (headings.heading_formals (g.fits.headings b (0 + i)))) (sym g.fits.first)
+          (subst (λ y. fits.IsCall ts (slice_index g.unit.calls i) (headings.heading_formals (g.fits.headings 0 y))) (omega arith)
           (g.fits.fits_calls.each i l))) r)
           (zeros_hold g F ([], 0) b0 (length B.parameters) B.variables known_variables)
 

@@ -1,4 +1,4 @@
--- Definition. A grammar as data, and the texts that it has. The parts of the grammar are a type N. The symbols of a text are a type
+-- Words of contracts. A grammar as data, and the texts that it has. The parts of the grammar are a type N. The symbols of a text are a type
 -- S, each of a kind, a number. Some kinds open a level; where a level ends is written in the rules.
 use Rattle.std.specs.Prelude.{◌≡◌, ℕ, zero, suc, ◌-◌, List, [], ◌∷◌, ◌++◌, Bool, Option, Some, None, if◌then◌else◌}
 

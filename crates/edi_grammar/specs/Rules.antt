@@ -1,4 +1,4 @@
--- Definition. The grammar of Edison as data, factored so that one symbol in hand decides. Braces have become parts of their own, and so
+-- Words of contracts. The grammar of Edison as data, factored so that one symbol in hand decides. Braces have become parts of their own, and so
 -- has what may stand behind a name. A level ends where its construct ends. Nobody has to believe this table: it is tied
 -- to the definition of what a syntax tree spells, one line for each rule.
 use Rattle.std.specs.Prelude.{ℕ, List, [], ◌∷◌, Bool, ◌==◌, ◌||◌}

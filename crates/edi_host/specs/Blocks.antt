@@ -1,6 +1,5 @@
 -- Words of contracts. The blocks of a drive, each a list of 512 bytes.
-use Rattle.std.specs.Prelude.{◌≡◌, ◌⊎◌, ℕ, ◌-◌, ◌/◌, Bool, true, false, ◌==◌, List, ◌++◌, length, take, replicate, slice_get, slice_set, flat_map, Some, ⊤}
-use Rattle.std.specs.Simd.{first_chunks}
+use Rattle.std.specs.Prelude.{◌≡◌, ◌⊎◌, ℕ, ◌-◌, Bool, true, false, ◌==◌, List, ◌++◌, length, take, replicate, slice_get, slice_set, flat_map, Some, ⊤}
 use Rattle.edi_host.specs.declared.drive.DriveEnd.{DriveEnd}
 use Rattle.edi_host.specs.declared.drive.DriveEnd.TheVariants as drive
 use Rattle.edi_host.specs.declared.drive.ResizeEnd.{ResizeEnd}
@@ -20,10 +19,6 @@ block_of bytes = take 512 (bytes ++ replicate 512 0)
 -- the blocks cut to n, or with blocks of zeros added up to n
 abbrev pub resized : List (List ℕ) → ℕ → List (List ℕ)
 resized blocks n = take n blocks ++ replicate (n - length blocks) zero_block
-
--- bytes, a multiple of 512 of them, as blocks
-abbrev pub blocks_of : List ℕ → List (List ℕ)
-blocks_of bytes = first_chunks 512 (length bytes / 512) bytes
 
 -- the blocks one after another
 abbrev pub bytes_of : List (List ℕ) → List ℕ

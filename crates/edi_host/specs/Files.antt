@@ -1,16 +1,11 @@
 -- Words of contracts. What the calls on files answer and leave.
 use Rattle.std.specs.Prelude.{◌≡◌, ℕ, Bool, true, false, List, [], take, Option, None, ⊤, IsSome, IsSomeAnd}
-use Rattle.std.specs.Ordering.{nat_cmp}
-use Rattle.std.specs.Cmp.Lexicographic.{slice_cmp}
 use Rattle.std.specs.FinMap as map
 use Rattle.edi_host.specs.declared.files.FetchEnd.{FetchEnd}
 use Rattle.edi_host.specs.declared.files.FetchEnd.TheVariants as fetch
 use Rattle.edi_host.specs.declared.files.KeepEnd.{KeepEnd}
 use Rattle.edi_host.specs.declared.files.KeepEnd.TheVariants as keep
-
--- the bytes of each file, by the bytes of its name
-abbrev pub Contents : Type 0
-Contents = map.FinMap (slice_cmp nat_cmp) (List ℕ)
+use Rattle.edi_host.specs.Contents.{Contents}
 
 -- what a fetch gives, by the file of that name: its first bytes on Ok; Absent exactly where there is none
 abbrev pub FetchGives : FetchEnd → Option (List ℕ) → ℕ → List ℕ → Type 0

@@ -1,4 +1,6 @@
 pub mod Blocks
+pub mod BytesAsBlocks
+pub mod Contents
 pub mod Files
 pub mod Forms
 pub mod Images

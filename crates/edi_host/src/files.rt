@@ -4,7 +4,8 @@ ghost use Rattle.std.specs.Prelude.{◌≡◌, ◌≤◌, ℕ, Option, vec_len};
 ghost use Rattle.std.specs.FinMap as map;
 ghost use Rattle.edi_told.specs.Faults.{CountRose};
 ghost use Rattle.edi_told.specs.Told.{WhereTold};
-ghost use Rattle.edi_host.specs.Files.{Contents, FetchGives, FetchEmpties, KeepLeaves};
+ghost use Rattle.edi_host.specs.Files.{FetchGives, FetchEmpties, KeepLeaves};
+ghost use Rattle.edi_host.specs.Contents.{Contents};
 
 use std::alloc::Global;
 

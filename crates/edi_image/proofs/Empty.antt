@@ -14,7 +14,8 @@ use Rattle.edi_image.specs.Rules.{needs, first_broken}
 use Rattle.edi_image.specs.declared.entries.Said.TheVariants.{Free}
 use Rattle.edi_image.specs.Entries.{block_at, entry_says}
 use Rattle.edi_image.specs.Image.{header_block, header_rules, slot_in, slot_rules, entry_at, entries_from, entries_of, image_rules, slots_of, Holds}
-use Rattle.edi_image.specs.Formatted.{new_catalogue, new_block, formatted, no_files}
+use Rattle.edi_image.specs.Formatted.{new_catalogue, new_block, formatted}
+use Rattle.edi_image.specs.NoFiles.{no_files}
 
 -- one more block is written
 pub write_next : (new old : List (List ℕ)) (n : ℕ) (block : List ℕ) → block ≡ get_or new n [] → n < length new → n < length old

@@ -1,7 +1,6 @@
 -- Words of contracts. A drive that has just been formatted.
-use Rattle.std.specs.Prelude.{ℕ, ◌==◌, if◌then◌else◌, List, ◌∷◌, ◌++◌, drop, length, replicate, Option, None}
+use Rattle.std.specs.Prelude.{ℕ, ◌==◌, if◌then◌else◌, List, ◌∷◌, ◌++◌, drop, length, replicate}
 use Rattle.edi_host.specs.Blocks.{zero_block}
-use Rattle.edi_calls.specs.State.{File}
 use Rattle.edi_image.specs.Image.{header_block}
 
 -- the blocks of the catalogue of an image of so many blocks that has no files
@@ -15,7 +14,3 @@ new_block count n = if n == 0 then header_block 2 count else zero_block
 -- the blocks with the catalogue of no files; the others are as they were
 abbrev pub formatted : List (List ℕ) → List (List ℕ)
 formatted blocks = new_catalogue (length blocks) ++ drop 33 blocks
-
--- 256 free slots
-unfoldable pub no_files : List (Option File)
-no_files = replicate 256 None

@@ -4,6 +4,7 @@ pub mod Bytes
 pub mod Entries
 pub mod Finds
 pub mod Formatted
+pub mod NoFiles
 pub mod Image
 pub mod Laws
 pub mod Records

@@ -4,5 +4,6 @@ pub mod Migrated
 pub mod OldBuild
 pub mod OldEntries
 pub mod OldFiles
+pub mod MigratedSlots
 pub mod OldImage
 pub mod OldLaws

@@ -1,7 +1,8 @@
 //! What is kept of a process between two stints.
 
 ghost use Rattle.std.specs.Prelude.{◌≡◌, ◌+◌, ◌-◌, ◌^◌, ◌<◌, ◌≤◌, ◌++◌, length, List, ℕ, [], None, Some, IsSome, false, true, OnOk, IfOk};
-ghost use Rattle.edi_store.specs.Memory.{IsMemory, words_at, written};
+ghost use Rattle.edi_store.specs.Memory.{words_at, written};
+ghost use Rattle.edi_store.specs.Copied.{IsMemory};
 ghost use Rattle.edi_target.specs.Memory.{word};
 ghost use Rattle.edi_calls.specs.Names.{Name};
 ghost use Rattle.edi_calls.specs.Ready.{name_at, without_index};

@@ -12,7 +12,8 @@ mod table;
 
 ghost use Rattle.std.specs.Prelude.{◌≡◌, ◌≤◌, ◌<◌, ◌+◌, ◌-◌, ◌^◌, min, length, slice_get, slice_index, [], None, Some, IsSome, IfOk, ℕ, List, true, false, ◌↔◌, IsTrue};
 ghost use Rattle.edi_told.specs.Told.{WhereTold};
-ghost use Rattle.edi_store.specs.Memory.{IsMemory, zero_memory};
+ghost use Rattle.edi_store.specs.Memory.{zero_memory};
+ghost use Rattle.edi_store.specs.Copied.{IsMemory};
 ghost use Rattle.edi_calls.specs.declared.ends.Outside.{Outside};
 ghost use Rattle.edi_calls.specs.Names.{Name};
 ghost use Rattle.edi_calls.specs.Ready.{name_at, without_index};

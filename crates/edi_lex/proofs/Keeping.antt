@@ -8,7 +8,8 @@ use Rattle.std.proofs.lemmas.List.Folds.{list_all-append}
 use Rattle.std.proofs.lemmas.List.Sums.{sum_by-append}
 use Rattle.edi_lex.specs.Words.{symbol_beside, word_symbols, word_of}
 use Rattle.edi_lex.specs.Specials.{special_of, special_pair}
-use Rattle.edi_lex.specs.Spelling.{is_name, is_spelled, are_spelled, word_or_name}
+use Rattle.edi_lex.specs.Spelling.{word_or_name}
+use Rattle.edi_lex.specs.Spelled.{is_name, is_spelled, are_spelled}
 use Rattle.edi_lex.specs.Order.{is_orderly, size_of, extent}
 use Rattle.edi_lex.specs.declared.symbol.Symbol.{Symbol}
 use Rattle.edi_lex.specs.declared.symbol.Symbol.TheVariants as is

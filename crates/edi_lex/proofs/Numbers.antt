@@ -2,7 +2,8 @@
 use Rattle.std.proofs.Common.{◌≡◌, ℕ, ◌+◌, ◌-◌, ◌*◌, ◌<◌, ◌≤◌, true, false, List, [], ◌∷◌, length, get_or, drop, ℤ, None, Some, cond, pos, leb, arith}
 use Rattle.std.proofs.Common.{drop-cons, add-one, refl, subst}
 use Rattle.std.proofs.lemmas.Bool.Decides.{nat_tests}
-use Rattle.edi_lex.specs.Spelling.{number_from, number_of, is_spelled}
+use Rattle.edi_lex.specs.Spelling.{number_from, number_of}
+use Rattle.edi_lex.specs.Spelled.{is_spelled}
 use Rattle.edi_lex.specs.declared.symbol.Symbol.TheVariants.{Numeral}
 
 -- more digits never make a number less

@@ -7,7 +7,8 @@ use Rattle.std.proofs.lemmas.Bool.Decides.{nat_tests}
 use Rattle.std.proofs.Math.Seq.{take-append_seam}
 use Rattle.edi_lex.specs.Bytes.{is_separator, is_letter, is_digit, is_name_byte, is_string_byte, is_comment_byte, feeds_at, line_feeds}
 use Rattle.edi_lex.specs.Specials.{special_of, special_pair, special_with}
-use Rattle.edi_lex.specs.Spelling.{is_name, is_numeral, number_of, word_or_name}
+use Rattle.edi_lex.specs.Spelling.{number_of, word_or_name}
+use Rattle.edi_lex.specs.Spelled.{is_name, is_numeral}
 use Rattle.edi_lex.specs.Symbols.{space, stands, stray, too_great, comment_piece, string_piece, special_piece, longer_of, with_value, piece_of, with_front}
 use Rattle.edi_lex.specs.Symbols.{by_piece, symbols_from}
 use Rattle.edi_lex.specs.Sound.{is_special}

@@ -7,7 +7,8 @@ use Rattle.std.proofs.lemmas.List.{append-nil}
 use Rattle.std.proofs.lemmas.List.Folds.{list_all-append}
 use Rattle.edi_lex.specs.Bytes.{is_separator, is_letter, is_digit, is_name_byte, is_string_byte, is_comment_byte, feeds_at}
 use Rattle.edi_lex.specs.Specials.{special_of, special_pair, special_with}
-use Rattle.edi_lex.specs.Spelling.{is_name, is_numeral, is_spelled, are_spelled, number_of, word_or_name}
+use Rattle.edi_lex.specs.Spelling.{number_of, word_or_name}
+use Rattle.edi_lex.specs.Spelled.{is_name, is_numeral, is_spelled, are_spelled}
 use Rattle.edi_lex.specs.Order.{is_orderly, size_of, extent}
 use Rattle.edi_lex.specs.Symbols.{with_front, longer_of, piece_of, symbols_from}
 use Rattle.edi_lex.specs.Effects.{special_turn, first_effect, pair_turn}

@@ -2,6 +2,7 @@ pub mod Bytes
 pub mod Words
 pub mod Specials
 pub mod Spelling
+pub mod Spelled
 pub mod Order
 pub mod Symbols
 pub mod Effects

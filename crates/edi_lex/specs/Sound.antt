@@ -3,7 +3,7 @@ use Rattle.std.specs.Prelude.{◌≡◌, ℕ, ◌+◌, ◌≤◌, Bool, true, fa
 use Rattle.std.specs.List.{list_all}
 use Rattle.edi_lex.specs.Bytes.{is_letter, is_digit, is_separator, is_string_byte}
 use Rattle.edi_lex.specs.Specials.{special_of}
-use Rattle.edi_lex.specs.Spelling.{is_name, is_numeral, are_spelled}
+use Rattle.edi_lex.specs.Spelled.{is_name, is_numeral, are_spelled}
 use Rattle.edi_lex.specs.Order.{is_orderly, extent}
 use Rattle.edi_lex.specs.declared.effect.Unfinished.{Unfinished}
 use Rattle.edi_lex.specs.declared.effect.Unfinished.TheVariants.{Nothing, Comment, Name, Numeral, Chars, Apostrophes, Special}

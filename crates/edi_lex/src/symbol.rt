@@ -1,7 +1,7 @@
 //! The symbols of a text, with their lines.
 
 ghost use Rattle.std.specs.Prelude.{◌≡◌, ◌≤◌, true, [], ◌∷◌, ◌++◌, length, ◌==◌, OnOk, OnErr, slice_get, option_copied};
-ghost use Rattle.edi_lex.specs.Spelling.{are_spelled};
+ghost use Rattle.edi_lex.specs.Spelled.{are_spelled};
 ghost use Rattle.edi_lex.specs.Order.{is_orderly, extent};
 
 use crate::Text;

@@ -4,7 +4,8 @@ use Rattle.std.proofs.Common.{sym, ap, ap₂, ◌∙◌, arith, append_assoc, le
 use Rattle.std.specs.Prelude.{nat_le}
 use Rattle.std.proofs.lemmas.Bool.{le-leb, lt-leb}
 use Rattle.std.proofs.lemmas.List.{take_more, take_at, drop_at, drop-drop, drop_more}
-use Rattle.edi_store.specs.Memory.{IsMemory, words_at, written}
+use Rattle.edi_store.specs.Memory.{words_at, written}
+use Rattle.edi_store.specs.Copied.{IsMemory}
 use Rattle.edi_store.proofs.MemoryLaws.{written-one, length-written, length-words_at}
 use Rattle.edi_target.specs.Effect.{Local, Effect, bad, goes, pop, pop_word, push, to, within}
 use Rattle.edi_machine.specs.declared.ends.StepEnd.{StepEnd}

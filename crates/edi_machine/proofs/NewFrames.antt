@@ -2,7 +2,8 @@
 use Rattle.std.proofs.Common.{◌≡◌, ℕ, ◌+◌, ◌^◌, ◌≤◌, List, ◌++◌, length, sym, ap, ap₂, ◌∙◌, inl, arith, append_assoc, length-append}
 use Rattle.std.specs.Prelude.{replicate}
 use Rattle.std.proofs.lemmas.List.{length-replicate}
-use Rattle.edi_store.specs.Memory.{IsMemory, words_at, written, copied, cleared}
+use Rattle.edi_store.specs.Memory.{words_at, written}
+use Rattle.edi_store.specs.Copied.{IsMemory, copied, cleared}
 use Rattle.edi_store.proofs.MemoryLaws.{length-words_at, words_at-written_apart}
 use Rattle.edi_machine.proofs.Frames.{written_append}
 

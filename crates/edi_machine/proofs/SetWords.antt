@@ -3,12 +3,14 @@ use Rattle.std.proofs.Common.{◌≡◌, ℕ, ◌+◌, ◌<◌, ◌≤◌, ◌^�
 use Rattle.std.specs.Prelude.{nat_lt}
 use Rattle.std.proofs.lemmas.Grind.{same_number_lists}
 use Rattle.edi_word.specs.Words.{signed}
-use Rattle.edi_word.specs.Sets.{AreSetWords, members_of, words_of_members, set_union, set_minus, set_meet, set_has_int, with_member, word_has, words_union}
+use Rattle.edi_word.specs.Sets.{set_union, set_minus, set_meet, set_has_int, with_member, word_has, words_union}
+use Rattle.edi_word.specs.SetWords.{AreSetWords, members_of, words_of_members}
 use Rattle.edi_word.specs.Sets.{words_minus, words_meet, words_with}
 use Rattle.edi_word.specs.SetViews.{words_of_members-members_of}
 use Rattle.edi_word.proofs.SetLaws.{members_of-words_union, members_of-words_minus, members_of-words_meet, members_of-words_with, AreSetWords-words_union}
 use Rattle.edi_word.proofs.SetLaws.{AreSetWords-words_minus, AreSetWords-words_meet, AreSetWords-words_with, has_agrees}
-use Rattle.edi_store.specs.Memory.{IsMemory, words_at}
+use Rattle.edi_store.specs.Memory.{words_at}
+use Rattle.edi_store.specs.Copied.{IsMemory}
 use Rattle.edi_store.proofs.MemoryLaws.{length-words_at, get_or-words_at}
 
 pub union_words : (one other : List ℕ) → AreSetWords one → AreSetWords other → words_of_members (set_union (members_of one) (members_of other)) ≡ words_union

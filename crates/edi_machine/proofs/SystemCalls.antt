@@ -11,7 +11,8 @@ use Rattle.edi_calls.specs.declared.ends.CallEnd.TheVariants as call_end
 use Rattle.edi_calls.specs.State.{State}
 use Rattle.edi_calls.specs.Calls.{CallResult, answered, no_file, file_limit, argument_words, answer_words, call}
 use Rattle.edi_calls.specs.Ends.{Meets}
-use Rattle.edi_store.specs.Memory.{IsMemory, words_at}
+use Rattle.edi_store.specs.Memory.{words_at}
+use Rattle.edi_store.specs.Copied.{IsMemory}
 use Rattle.edi_target.specs.Effect.{Local, Effect, asks, pop}
 use Rattle.edi_target.specs.Mach.{answer_at}
 use Rattle.edi_machine.specs.declared.ends.StepEnd.{StepEnd}

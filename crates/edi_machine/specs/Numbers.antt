@@ -1,6 +1,7 @@
 -- Words of contracts. The effect of an instruction that stands at the program counter, by the words from there on.
 use Rattle.std.specs.Prelude.{ℕ, ◌+◌, Bool, nat_eq, List, [], ◌∷◌, Option, Some, None}
 use Rattle.std.specs.List.{list_any}
+use Rattle.edi_target.specs.declared.opcode.TheConstants as opcode
 use Rattle.edi_target.specs.Op.{Instruction}
 use Rattle.edi_target.specs.Decode.{shaped, if_allowed}
 use Rattle.edi_target.specs.Fetch.{fetch}
@@ -16,7 +17,7 @@ effect_by words live is_first front l = effect_at (fetch words) (placed l.pc (if
 
 -- the numbers of the instructions that are seldom executed
 abbrev pub rare_numbers : List ℕ
-rare_numbers = 2 ∷ 3 ∷ 22 ∷ 23 ∷ 24 ∷ 25 ∷ 26 ∷ 35 ∷ 36 ∷ 38 ∷ 40 ∷ 42 ∷ 43 ∷ []
+rare_numbers = opcode.TEXT ∷ opcode.ZEROS ∷ opcode.UNION ∷ opcode.MINUS ∷ opcode.MEET ∷ opcode.IN ∷ opcode.MEMBER ∷ opcode.CALL_P ∷ opcode.PROC ∷ opcode.HALT ∷ opcode.RETRY ∷ opcode.COBEGIN ∷ opcode.EXIT ∷ []
 
 abbrev pub is_rare : ℕ → Bool
 is_rare number = list_any (nat_eq number) rare_numbers
@@ -24,7 +25,7 @@ is_rare number = list_any (nat_eq number) rare_numbers
 -- the numbers of the plain instructions, which are executed most often and stay in their frame
 abbrev pub plain_numbers : List ℕ
 plain_numbers =
-    1 ∷ 4 ∷ 5 ∷ 6 ∷ 7 ∷ 8 ∷ 9 ∷ 10 ∷ 11 ∷ 12 ∷ 13 ∷ 14 ∷ 15 ∷ 16 ∷ 17 ∷ 18 ∷ 19 ∷ 20 ∷ 21 ∷ 27 ∷ 28 ∷ 29 ∷ 30 ∷ 31 ∷ 32 ∷ 39 ∷ 41 ∷ []
+    opcode.CONST ∷ opcode.ADDRESS ∷ opcode.FIELD ∷ opcode.INDEX ∷ opcode.LOAD ∷ opcode.STORE ∷ opcode.ADD ∷ opcode.SUB ∷ opcode.MUL ∷ opcode.DIV ∷ opcode.MOD ∷ opcode.NEG ∷ opcode.NOT ∷ opcode.EQ ∷ opcode.NE ∷ opcode.LT ∷ opcode.LE ∷ opcode.GT ∷ opcode.GE ∷ opcode.CHECK ∷ opcode.JUMP ∷ opcode.FALSE ∷ opcode.AND ∷ opcode.OR ∷ opcode.LOOP ∷ opcode.WHEN ∷ opcode.DONE ∷ []
 
 abbrev pub is_plain_number : ℕ → Bool
 is_plain_number number = list_any (nat_eq number) plain_numbers

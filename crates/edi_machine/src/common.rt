@@ -15,6 +15,7 @@ use crate::processes;
 use crate::rare::execute_rare;
 use edi_calls::Calls;
 use edi_store::Store;
+use edi_target::opcode;
 
 // Executes the instruction of this number and these operands.
 #[tactic(auto, using(crate::proofs::Commonly::asks_nothing))]
@@ -49,7 +50,7 @@ fn execute_by<C: Calls>(
         return end;
     }
     match number {
-        34 => match four_of(words, at, operands) {
+        opcode::CALL => match four_of(words, at, operands) {
             Some((level, high, low, line)) => if level <= 64 {
                 call(
                     store,
@@ -65,7 +66,7 @@ fn execute_by<C: Calls>(
             },
             None => StepEnd::Bad(at)
         },
-        37 => match two_of(words, at, operands) {
+        opcode::RETURN => match two_of(words, at, operands) {
             Some((results, function)) => if function <= 1 {
                 leave_block(store, activity, first, results, function)
             } else {
@@ -73,7 +74,7 @@ fn execute_by<C: Calls>(
             },
             None => StepEnd::Bad(at)
         },
-        44 => match two_of(words, at, operands) {
+        opcode::QUIET => match two_of(words, at, operands) {
             Some((high, low)) => processes::try_again(
                 store,
                 activity,
@@ -82,38 +83,50 @@ fn execute_by<C: Calls>(
             ),
             None => StepEnd::Bad(at)
         },
-        2 | 3 | 22 | 23 | 24 | 25 | 26 | 35 | 36 | 38 | 40 | 42 | 43 => execute_rare(
+        opcode::TEXT
+        | opcode::ZEROS
+        | opcode::UNION
+        | opcode::MINUS
+        | opcode::MEET
+        | opcode::IN
+        | opcode::MEMBER
+        | opcode::CALL_P
+        | opcode::PROC
+        | opcode::HALT
+        | opcode::RETRY
+        | opcode::COBEGIN
+        | opcode::EXIT => execute_rare(
             store, activity, words, live, first, number, operands, calls,
         ),
-        0 | 33 => StepEnd::Bad(at),
+        0 | opcode::ENTRY => StepEnd::Bad(at),
         // The plain ones are executed above.
-        1
-        | 4
-        | 5
-        | 6
-        | 7
-        | 8
-        | 9
-        | 10
-        | 11
-        | 12
-        | 13
-        | 14
-        | 15
-        | 16
-        | 17
-        | 18
-        | 19
-        | 20
-        | 21
-        | 27
-        | 28
-        | 29
-        | 30
-        | 31
-        | 32
-        | 39
-        | 41 => unreachable!(),
+        opcode::CONST
+        | opcode::ADDRESS
+        | opcode::FIELD
+        | opcode::INDEX
+        | opcode::LOAD
+        | opcode::STORE
+        | opcode::ADD
+        | opcode::SUB
+        | opcode::MUL
+        | opcode::DIV
+        | opcode::MOD
+        | opcode::NEG
+        | opcode::NOT
+        | opcode::EQ
+        | opcode::NE
+        | opcode::LT
+        | opcode::LE
+        | opcode::GT
+        | opcode::GE
+        | opcode::CHECK
+        | opcode::JUMP
+        | opcode::FALSE
+        | opcode::AND
+        | opcode::OR
+        | opcode::LOOP
+        | opcode::WHEN
+        | opcode::DONE => unreachable!(),
         _ => StepEnd::Bad(at),
     }
 }

@@ -1,7 +1,8 @@
 //! The frame of an activity as a stack of words.
 
 ghost use Rattle.std.specs.Prelude.{◌≡◌, ◌+◌, ◌-◌, ◌<◌, ◌≤◌, ◌^◌, ◌∷◌, [], ℕ, length, nat_lt, IfSome, MatchOption};
-ghost use Rattle.edi_store.specs.Memory.{IsMemory, written};
+ghost use Rattle.edi_store.specs.Memory.{written};
+ghost use Rattle.edi_store.specs.Copied.{IsMemory};
 ghost use Rattle.edi_target.specs.Memory.{word, level};
 ghost use Rattle.edi_target.specs.Effect.{Local, goes, needs, push, to};
 ghost use Rattle.edi_target.specs.Perform.{push_address};

@@ -2,7 +2,7 @@
 //! system call. Each is read, tested and executed at once by its number.
 
 ghost use Rattle.std.specs.Prelude.{◌≡◌, ◌+◌, ◌<◌, ◌≤◌, ◌^◌, ◌∷◌, ⊤, ℕ, Bool, None, false, drop, take, length, MatchOption};
-ghost use Rattle.edi_store.specs.Memory.{IsMemory};
+ghost use Rattle.edi_store.specs.Copied.{IsMemory};
 ghost use Rattle.edi_machine.specs.Activities.{IsOrdered, local_of};
 ghost use Rattle.edi_machine.specs.Numbers.{effect_by, is_plain_number};
 ghost use Rattle.edi_machine.specs.Plain.{Plainly};
@@ -17,6 +17,7 @@ use crate::instruction::code_address;
 use crate::variables::{keep, keep_word, load, load_word};
 use crate::{jumps, processes};
 use edi_store::Store;
+use edi_target::opcode;
 
 // The first `count` of these operands, which stand behind `at`, if there are so many. They are taken from the words themselves, so that each
 // instruction asks once for its own, and the slice of all operands, which only the contract needs, is never made.
@@ -107,11 +108,11 @@ pub fn execute_plain<const IN_LOOP: bool>(
 {
     let at = activity.pc;
     let end = match number {
-        1 => match one_of(words, at, operands) {
+        opcode::CONST => match one_of(words, at, operands) {
             Some(value) => constant(store, activity, value, at + 2),
             None => StepEnd::Bad(at)
         },
-        4 => match two_of(words, at, operands) {
+        opcode::ADDRESS => match two_of(words, at, operands) {
             // Most levels are 0 or 1, which need no test that they are allowed.
             Some((0, offset)) => frame_address(store, activity, 0, offset, at + 3),
             Some((1, offset)) => frame_address(store, activity, 1, offset, at + 3),
@@ -122,11 +123,11 @@ pub fn execute_plain<const IN_LOOP: bool>(
             },
             None => StepEnd::Bad(at)
         },
-        5 => match one_of(words, at, operands) {
+        opcode::FIELD => match one_of(words, at, operands) {
             Some(offset) => field_address(store, activity, offset, at + 2),
             None => StepEnd::Bad(at)
         },
-        6 => match four_of(words, at, operands) {
+        opcode::INDEX => match four_of(words, at, operands) {
             Some((low, high, size, line)) => if low.cast_signed() <= high.cast_signed() {
                 element_address(
                     store,
@@ -142,7 +143,7 @@ pub fn execute_plain<const IN_LOOP: bool>(
             },
             None => StepEnd::Bad(at)
         },
-        7 => match one_of(words, at, operands) {
+        opcode::LOAD => match one_of(words, at, operands) {
             Some(1) => load_word(store, activity, at + 2),
             Some(count) => if count >= 1 {
                 load(store, activity, count, at + 2)
@@ -151,7 +152,7 @@ pub fn execute_plain<const IN_LOOP: bool>(
             },
             None => StepEnd::Bad(at)
         },
-        8 => match one_of(words, at, operands) {
+        opcode::STORE => match one_of(words, at, operands) {
             Some(1) => keep_word(store, activity, at + 2),
             Some(count) => if count >= 1 {
                 keep(store, activity, count, at + 2)
@@ -160,32 +161,32 @@ pub fn execute_plain<const IN_LOOP: bool>(
             },
             None => StepEnd::Bad(at)
         },
-        9 => match one_of(words, at, operands) {
+        opcode::ADD => match one_of(words, at, operands) {
             Some(line) => calculate(store, activity, Operator::Add, line, at + 2),
             None => StepEnd::Bad(at)
         },
-        10 => match one_of(words, at, operands) {
+        opcode::SUB => match one_of(words, at, operands) {
             Some(line) => calculate(store, activity, Operator::Sub, line, at + 2),
             None => StepEnd::Bad(at)
         },
-        11 => match one_of(words, at, operands) {
+        opcode::MUL => match one_of(words, at, operands) {
             Some(line) => calculate(store, activity, Operator::Mul, line, at + 2),
             None => StepEnd::Bad(at)
         },
-        12 => match one_of(words, at, operands) {
+        opcode::DIV => match one_of(words, at, operands) {
             Some(line) => calculate(store, activity, Operator::Div, line, at + 2),
             None => StepEnd::Bad(at)
         },
-        13 => match one_of(words, at, operands) {
+        opcode::MOD => match one_of(words, at, operands) {
             Some(line) => calculate(store, activity, Operator::Mod, line, at + 2),
             None => StepEnd::Bad(at)
         },
-        14 => match one_of(words, at, operands) {
+        opcode::NEG => match one_of(words, at, operands) {
             Some(line) => negation(store, activity, line, at + 2),
             None => StepEnd::Bad(at)
         },
-        15 => other_truth(store, activity, at + 1),
-        16 => match one_of(words, at, operands) {
+        opcode::NOT => other_truth(store, activity, at + 1),
+        opcode::EQ => match one_of(words, at, operands) {
             Some(count) => if count >= 1 {
                 compare_values(store, activity, count, true, at + 2)
             } else {
@@ -193,7 +194,7 @@ pub fn execute_plain<const IN_LOOP: bool>(
             },
             None => StepEnd::Bad(at)
         },
-        17 => match one_of(words, at, operands) {
+        opcode::NE => match one_of(words, at, operands) {
             Some(count) => if count >= 1 {
                 compare_values(store, activity, count, false, at + 2)
             } else {
@@ -201,11 +202,11 @@ pub fn execute_plain<const IN_LOOP: bool>(
             },
             None => StepEnd::Bad(at)
         },
-        18 => compare(store, activity, Order::Below, at + 1),
-        19 => compare(store, activity, Order::AtMost, at + 1),
-        20 => compare(store, activity, Order::Above, at + 1),
-        21 => compare(store, activity, Order::AtLeast, at + 1),
-        27 => match three_of(words, at, operands) {
+        opcode::LT => compare(store, activity, Order::Below, at + 1),
+        opcode::LE => compare(store, activity, Order::AtMost, at + 1),
+        opcode::GT => compare(store, activity, Order::Above, at + 1),
+        opcode::GE => compare(store, activity, Order::AtLeast, at + 1),
+        opcode::CHECK => match three_of(words, at, operands) {
             Some((low, high, line)) => check(
                 store,
                 activity,
@@ -216,11 +217,11 @@ pub fn execute_plain<const IN_LOOP: bool>(
             ),
             None => StepEnd::Bad(at)
         },
-        28 => match two_of(words, at, operands) {
+        opcode::JUMP => match two_of(words, at, operands) {
             Some((high, low)) => jumps::jump(store, activity, code_address(high, low)),
             None => StepEnd::Bad(at)
         },
-        29 => match two_of(words, at, operands) {
+        opcode::FALSE => match two_of(words, at, operands) {
             Some((high, low)) => jumps::jump_if_false(
                 store,
                 activity,
@@ -229,15 +230,15 @@ pub fn execute_plain<const IN_LOOP: bool>(
             ),
             None => StepEnd::Bad(at)
         },
-        30 => match two_of(words, at, operands) {
+        opcode::AND => match two_of(words, at, operands) {
             Some((high, low)) => jumps::jump_and(store, activity, code_address(high, low), at + 3),
             None => StepEnd::Bad(at)
         },
-        31 => match two_of(words, at, operands) {
+        opcode::OR => match two_of(words, at, operands) {
             Some((high, low)) => jumps::jump_or(store, activity, code_address(high, low), at + 3),
             None => StepEnd::Bad(at)
         },
-        32 => match two_of(words, at, operands) {
+        opcode::LOOP => match two_of(words, at, operands) {
             Some((high, low)) => if *turns_left > 0 {
                 jumps::jump_back(store, activity, code_address(high, low))
             } else {
@@ -245,7 +246,7 @@ pub fn execute_plain<const IN_LOOP: bool>(
             },
             None => StepEnd::Bad(at)
         },
-        39 => match one_of(words, at, operands) {
+        opcode::WHEN => match one_of(words, at, operands) {
             Some(line) => if *turns_left > 0 {
                 processes::arrive(store, activity, line, at + 2)
             } else {
@@ -253,7 +254,7 @@ pub fn execute_plain<const IN_LOOP: bool>(
             },
             None => StepEnd::Bad(at)
         },
-        41 => processes::end_phase(store, activity, at + 1),
+        opcode::DONE => processes::end_phase(store, activity, at + 1),
         _ => return None,
     };
     Some(end)

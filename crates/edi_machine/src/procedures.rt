@@ -1,7 +1,8 @@
 //! Calls of procedures, and returns from them.
 
 ghost use Rattle.std.specs.Prelude.{◌≡◌, Some, ◌+◌, ◌-◌, ◌<◌, ◌≤◌, ◌^◌, ◌++◌, if◌then◌else◌, nat_eq, length, replicate};
-ghost use Rattle.edi_store.specs.Memory.{IsMemory, words_at, written};
+ghost use Rattle.edi_store.specs.Memory.{words_at, written};
+ghost use Rattle.edi_store.specs.Copied.{IsMemory};
 ghost use Rattle.edi_target.specs.Op as op;
 ghost use Rattle.edi_target.specs.Fetch.{fetch};
 ghost use Rattle.edi_target.specs.Memory.{level, word};

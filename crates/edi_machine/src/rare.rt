@@ -18,7 +18,7 @@ use crate::system::call_described;
 use crate::{processes, sets};
 use edi_calls::{Calls, Cause};
 use edi_store::Store;
-use edi_target::Op;
+use edi_target::{Op, opcode};
 
 // CALLP.
 #[inline(always)]
@@ -70,7 +70,7 @@ pub fn execute_rare<C: Calls>(
 {
     let at = activity.pc;
     match number {
-        2 => match *operands {
+        opcode::TEXT => match *operands {
             [count, ref rest @ ..] => match rest.get(..usize::from(count)) {
                 Some(words) => if count >= 1 {
                     text(store, activity, words, at + (u32::from(count) + 2))
@@ -81,7 +81,7 @@ pub fn execute_rare<C: Calls>(
             },
             _ => StepEnd::Bad(at)
         },
-        3 => match *operands {
+        opcode::ZEROS => match *operands {
             [count, ..] => if count >= 1 {
                 zeros(store, activity, count, at + 2)
             } else {
@@ -89,15 +89,15 @@ pub fn execute_rare<C: Calls>(
             },
             _ => StepEnd::Bad(at)
         },
-        22 => sets::combine(store, activity, SetOperator::Union, at + 1),
-        23 => sets::combine(store, activity, SetOperator::Minus, at + 1),
-        24 => sets::combine(store, activity, SetOperator::Meet, at + 1),
-        25 => sets::is_member(store, activity, at + 1),
-        26 => match *operands {
+        opcode::UNION => sets::combine(store, activity, SetOperator::Union, at + 1),
+        opcode::MINUS => sets::combine(store, activity, SetOperator::Minus, at + 1),
+        opcode::MEET => sets::combine(store, activity, SetOperator::Meet, at + 1),
+        opcode::IN => sets::is_member(store, activity, at + 1),
+        opcode::MEMBER => match *operands {
             [line, ..] => sets::join(store, activity, line, at + 2),
             _ => StepEnd::Bad(at)
         },
-        35 => match *operands {
+        opcode::CALL_P => match *operands {
             [level, offset, line, ..] => if level <= 64 {
                 execute_described(store, activity, words, level, offset, line, at + 4, calls)
             } else {
@@ -105,7 +105,7 @@ pub fn execute_rare<C: Calls>(
             },
             _ => StepEnd::Bad(at)
         },
-        36 => match *operands {
+        opcode::PROC => match *operands {
             [level, high, low, ..] => if level <= 64 {
                 descriptor(store, activity, level, code_address(high, low), at + 4)
             } else {
@@ -113,11 +113,11 @@ pub fn execute_rare<C: Calls>(
             },
             _ => StepEnd::Bad(at)
         },
-        38 => match *operands {
+        opcode::HALT => match *operands {
             [line, ..] => StepEnd::Fail(Cause::Halt, line),
             _ => StepEnd::Bad(at)
         },
-        40 => match *operands {
+        opcode::RETRY => match *operands {
             [high, low, ..] => processes::try_again(
                 store,
                 activity,
@@ -126,7 +126,7 @@ pub fn execute_rare<C: Calls>(
             ),
             _ => StepEnd::Bad(at)
         },
-        42 => match *operands {
+        opcode::COBEGIN => match *operands {
             [count, line, ref rest @ ..] => match rest.get(..3 * usize::from(count)) {
                 Some(branches) => if (Op::Cobegin { line, branches }).is_allowed() {
                     processes::split(
@@ -144,7 +144,7 @@ pub fn execute_rare<C: Calls>(
             },
             _ => StepEnd::Bad(at)
         },
-        43 => processes::exit(store, activity, first),
+        opcode::EXIT => processes::exit(store, activity, first),
         _ => unreachable!(),
     }
 }

@@ -1,7 +1,8 @@
 //! Sets.
 
 ghost use Rattle.std.specs.Prelude.{◌≡◌, ◌+◌, ◌-◌, ◌<◌, ◌≤◌, ◌^◌, ◌∷◌, [], ◌&&◌, nat_lt, length, MatchOption};
-ghost use Rattle.edi_word.specs.Sets.{AreSetWords, word_has, words_with};
+ghost use Rattle.edi_word.specs.Sets.{word_has, words_with};
+ghost use Rattle.edi_word.specs.SetWords.{AreSetWords};
 ghost use Rattle.edi_store.specs.Memory.{words_at};
 ghost use Rattle.edi_target.specs.Memory.{word};
 ghost use Rattle.edi_target.specs.Effect.{Local, pop, pop_word, push, to, truth};

@@ -3,7 +3,8 @@
 ghost use Rattle.std.specs.Prelude.{◌≡◌, ◌+◌, ◌*◌, ◌<◌, ◌≤◌, ◌^◌, ◌∷◌, [], false, true, length, Some, slice_get};
 ghost use Rattle.std.specs.List.{list_all, list_any};
 ghost use Rattle.std.specs.Option.{option_map};
-ghost use Rattle.edi_store.specs.Memory.{IsMemory, written, zero_memory, zero_words};
+ghost use Rattle.edi_store.specs.Memory.{written, zero_memory, zero_words};
+ghost use Rattle.edi_store.specs.Copied.{IsMemory};
 ghost use Rattle.edi_target.specs.Op.{has_frame};
 ghost use Rattle.edi_target.specs.Decode.{branches_of};
 ghost use Rattle.edi_target.specs.Fetch.{fetch};

@@ -2,7 +2,7 @@
 
 ghost use Rattle.std.specs.Prelude.{◌≡◌, ◌<◌, ◌≤◌, ◌^◌, ℕ, None, true, length, IsTrue};
 ghost use Rattle.edi_calls.specs.declared.ends.Outside.{Outside};
-ghost use Rattle.edi_store.specs.Memory.{IsMemory};
+ghost use Rattle.edi_store.specs.Copied.{IsMemory};
 ghost use Rattle.edi_machine.specs.Activities.{IsOrdered, local_of};
 ghost use Rattle.edi_machine.specs.Steps.{Blames, CanFork, Forks, Keeps, Takes, effect_of, ends_phase, is_released};
 

@@ -7,7 +7,8 @@ use Rattle.edi_unit.specs.Values.{Value, is_true}
 use Rattle.edi_meaning.specs.Evaluation.{World, Evaluation, gives, ends, ◌>>=◌, turn_from, turn}
 use Rattle.edi_meaning.specs.Whole.{expression, acts, first, below, whole_first}
 use Rattle.edi_meaning.specs.Step.{Position, Standing, at_when, Asks, goes, again, is_quiet, local_step, Process, Processes, Stepped, went, ended, kernel}
-use Rattle.edi_meaning.specs.Step.{step_of, step, start, is_running, is_running_process, may_step, at, nowhere, onward, permitted}
+use Rattle.edi_meaning.specs.Step.{step_of, step, start}
+use Rattle.edi_meaning.specs.Permitted.{is_running, is_running_process, may_step, at, nowhere, onward, permitted}
 use Rattle.edi_meaning.specs.Laws.{IsWhole, AttemptsAreWhole}
 use Rattle.edi_meaning.specs.Attempts.{tested, IsExecuted, IsFailed, IsAttempt, AttemptsExecute, AttemptsAreOneStep}
 

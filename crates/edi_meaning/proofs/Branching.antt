@@ -8,6 +8,7 @@ use Rattle.edi_calls.specs.Ready.{child, parent_of}
 use Rattle.edi_calls.specs.State.{State}
 use Rattle.edi_calls.proofs.Tables.{same-or-other, find-with_at-same, find-with_at-other}
 use Rattle.edi_unit.specs.Fits as fits
+use Rattle.edi_unit.specs.Headings as headings_words
 use Rattle.edi_unit.specs.Need.{no_block, block_at}
 use Rattle.edi_unit.specs.Tree as tree
 use Rattle.edi_unit.specs.Tree.{Act, Acts, Clause, Clauses, Block, ProgramUnit}
@@ -26,7 +27,7 @@ use Rattle.edi_meaning.proofs.Family.{kept_without}
 
 -- ---- units that fit
 
-module _ (unit : ProgramUnit) (headings : ℕ → ℕ → fits.Heading) (n : ℕ) where
+module _ (unit : ProgramUnit) (headings : ℕ → ℕ → headings_words.Heading) (n : ℕ) where
   mutual
     act_has : (a : Act) → fits.ActFits unit.types unit.blocks headings n a → ActHasBranches a
     act_has tree.skip h = tt

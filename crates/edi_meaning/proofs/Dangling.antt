@@ -13,7 +13,7 @@ use Rattle.edi_meaning.specs.Evaluation.{World, Evaluation, gives, ends, turn_fr
 use Rattle.edi_meaning.specs.Whole.{instance_of}
 use Rattle.edi_meaning.specs.Step.{Work, program_entry, branch_end, body_of, Standing, ready, at_when, waiting, Asks, goes, Process, Processes, Stepped}
 use Rattle.edi_meaning.specs.Step.{went, ended, back, child_process, with_child, with_children, fork_taken, awaits, local_step, kernel, step_of, step, start}
-use Rattle.edi_meaning.specs.Step.{is_running, at, permitted}
+use Rattle.edi_meaning.specs.Permitted.{is_running, at, permitted}
 use Rattle.edi_meaning.specs.Laws.{IsWaiting, CellMeans, ReferencesLive}
 use Rattle.edi_meaning.proofs.Lasting.{Gives, Keeps}
 use Rattle.edi_meaning.proofs.Kernel.{Handles, kernel_handles, of_process, After, permitted_keep}

@@ -8,8 +8,9 @@ use Rattle.edi_calls.proofs.Lasting.{each_call_goes_on_all}
 use Rattle.edi_unit.specs.Tree.{ProgramUnit}
 use Rattle.edi_meaning.specs.Store.{shape, now}
 use Rattle.edi_meaning.specs.Evaluation.{World}
-use Rattle.edi_meaning.specs.Step.{waiting, Process, Processes, Stepped, went, ended, back, local_step, step_of, step, may_step, Led, at, over, nowhere}
-use Rattle.edi_meaning.specs.Step.{onward, permitted}
+use Rattle.edi_meaning.specs.Step.{waiting, Process, Processes, Stepped, went, ended, back, local_step, step_of, step}
+use Rattle.edi_meaning.specs.Permitted.{may_step, Led, at, over, nowhere}
+use Rattle.edi_meaning.specs.Permitted.{onward, permitted}
 use Rattle.edi_meaning.specs.Laws.{Grows, GoesFrom, LedOn, StepsGoOn}
 use Rattle.edi_meaning.proofs.Lasting.{Lasting}
 use Rattle.edi_meaning.proofs.Worlds.{lasting}

@@ -15,7 +15,8 @@ use Rattle.edi_meaning.specs.Store.{shape, room}
 use Rattle.edi_meaning.specs.Evaluation.{World, Evaluation, gives, ends}
 use Rattle.edi_meaning.specs.Step.{Position, Work, Standing, ready, at_when, waiting, Asks, goes, arrives, again, forks, leaves, Process, Processes, Stepped}
 use Rattle.edi_meaning.specs.Step.{went, ended, back, exceeds, fork_taken, awaits, one_less, notified, local_step, kernel}
-use Rattle.edi_meaning.specs.Step.{step_of, step, may_step, Led, at, nowhere, onward, permitted}
+use Rattle.edi_meaning.specs.Step.{step_of, step}
+use Rattle.edi_meaning.specs.Permitted.{may_step, Led, at, nowhere, onward, permitted}
 use Rattle.edi_meaning.proofs.Lasting.{IsOver, Gives}
 use Rattle.edi_calls.proofs.Names.{some_is, no_some}
 

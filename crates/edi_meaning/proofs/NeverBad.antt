@@ -8,9 +8,11 @@ use Rattle.edi_calls.specs.Outcome.{Ending}
 use Rattle.edi_calls.specs.Ready.{Next, stays, joins, Taking, nobody, taking, take_next}
 use Rattle.edi_calls.specs.State.{Traced}
 use Rattle.edi_unit.specs.Tree.{ProgramUnit}
-use Rattle.edi_meaning.specs.Step.{Process, Processes, Stepped, went, ended, step_of, step, start, may_step, over, nowhere, onward, permitted}
+use Rattle.edi_meaning.specs.Step.{Process, Processes, Stepped, went, ended, step_of, step, start}
+use Rattle.edi_meaning.specs.Permitted.{may_step, over, nowhere, onward, permitted}
 use Rattle.edi_meaning.specs.Select.{Selected, unfinished, finished, stepped_first, marked, is_standstill, go_on, after_next, after_step, select}
-use Rattle.edi_meaning.specs.Bad.{IsNoBad, PermittedIsNeverBad, SelectionIsNeverBad}
+use Rattle.edi_meaning.specs.Bad.{IsNoBad}
+use Rattle.edi_meaning.specs.NeverBad.{PermittedIsNeverBad, SelectionIsNeverBad}
 use Rattle.edi_meaning.proofs.Lasting.{IsOwn}
 use Rattle.edi_meaning.proofs.Work.{Falls, standing_size, work_size, step_falls}
 

@@ -6,7 +6,8 @@ use Rattle.edi_calls.specs.Names.{Name, Table, same, find, with_at, without, nam
 use Rattle.edi_calls.specs.Ready.{child, parent_of, has}
 use Rattle.edi_calls.proofs.Tables.{same-refl, same-equal, same-or-other, same-symmetric, find-with_at-same, find-with_at-other, find-without-same}
 use Rattle.edi_calls.proofs.Tables.{find-without-other}
-use Rattle.edi_meaning.specs.Step.{Standing, waiting, Process, awaits, is_running}
+use Rattle.edi_meaning.specs.Step.{Standing, waiting, Process, awaits}
+use Rattle.edi_meaning.specs.Permitted.{is_running}
 use Rattle.edi_meaning.specs.Laws.{is_child, children_in, IsWaiting}
 use Rattle.edi_calls.proofs.Names.{some_is, no_some, parent-child, Once}
 use Rattle.edi_meaning.proofs.Sound.{once-append, not_true, right_false}

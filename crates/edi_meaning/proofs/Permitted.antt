@@ -14,7 +14,8 @@ use Rattle.edi_unit.specs.Tree.{ProgramUnit}
 use Rattle.edi_meaning.specs.Store.{shape, now}
 use Rattle.edi_meaning.specs.Evaluation.{World, Evaluation, gives, ends}
 use Rattle.edi_meaning.specs.Step.{Work, ready, at_when, waiting, Asks, Process, Processes, Stepped, went, ended, back, with_children, fork_taken, awaits}
-use Rattle.edi_meaning.specs.Step.{local_step, step, start, is_running, is_running_process, may_step, Led, over, nowhere, onward, permitted}
+use Rattle.edi_meaning.specs.Step.{local_step, step, start}
+use Rattle.edi_meaning.specs.Permitted.{is_running, is_running_process, may_step, Led, over, nowhere, onward, permitted}
 use Rattle.edi_meaning.specs.Select.{Selected, unfinished, finished, stepped_first, marked, is_standstill, go_on, after_next, after_step, select}
 use Rattle.edi_meaning.specs.Select.{select_from_start}
 use Rattle.edi_meaning.specs.Laws.{LeadsTo, SelectIsPermitted}

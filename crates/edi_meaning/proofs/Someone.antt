@@ -9,8 +9,10 @@ use Rattle.edi_calls.specs.Outcome as outcome
 use Rattle.edi_calls.specs.Ready.{parent_of, has, all_marked, Next, stays, joins, Taking, nobody, taking, take_next}
 use Rattle.edi_calls.proofs.Tables.{same-refl, same-equal}
 use Rattle.edi_unit.specs.Tree.{ProgramUnit}
-use Rattle.edi_meaning.specs.Step.{Standing, ready, at_when, waiting, Process, Processes, Stepped, went, ended, step, start, is_running, is_running_process}
-use Rattle.edi_meaning.specs.Step.{may_step, nowhere, onward, permitted, local_step}
+use Rattle.edi_meaning.specs.Step.{Standing, ready, at_when, waiting, Process, Processes, Stepped, went, ended, step, start}
+use Rattle.edi_meaning.specs.Permitted.{is_running, is_running_process}
+use Rattle.edi_meaning.specs.Step.{local_step}
+use Rattle.edi_meaning.specs.Permitted.{may_step, nowhere, onward, permitted}
 use Rattle.edi_meaning.specs.Evaluation.{Evaluation, gives, ends}
 use Rattle.edi_meaning.specs.Step.{Asks}
 use Rattle.edi_meaning.specs.Select.{Selected, unfinished, finished, stepped_first, marked, is_standstill, go_on, after_next, after_step, select}

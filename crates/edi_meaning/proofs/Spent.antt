@@ -6,8 +6,9 @@ use Rattle.edi_calls.specs.Outcome as outcome
 use Rattle.edi_calls.specs.State.{Traced}
 use Rattle.edi_unit.specs.Tree.{ProgramUnit}
 use Rattle.edi_meaning.specs.Store.{shape}
-use Rattle.edi_meaning.specs.Step.{Work, Standing, ready, at_when, waiting, Process, Processes, Stepped, went, ended, local_step, step, start, is_running}
-use Rattle.edi_meaning.specs.Step.{is_running_process, may_step, over, nowhere, onward, permitted}
+use Rattle.edi_meaning.specs.Step.{Work, Standing, ready, at_when, waiting, Process, Processes, Stepped, went, ended, local_step, step, start}
+use Rattle.edi_meaning.specs.Permitted.{is_running}
+use Rattle.edi_meaning.specs.Permitted.{is_running_process, may_step, over, nowhere, onward, permitted}
 use Rattle.edi_meaning.specs.Spent.{PermittedEndsSpent, SelectionEndsSpent}
 use Rattle.edi_meaning.proofs.Lasting.{spent_over, Lasting}
 use Rattle.edi_meaning.proofs.Worlds.{lasting}

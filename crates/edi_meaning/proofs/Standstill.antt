@@ -14,8 +14,9 @@ use Rattle.edi_meaning.specs.Evaluation.{World, Evaluation, gives, ends, â—Œ>>=â
 use Rattle.edi_meaning.specs.Whole.{meant, system_call, levels_of, whole_first, whole_arguments, whole_assignment, first}
 use Rattle.edi_meaning.specs.Step.{Position, Work, doing, loop_end, procedure_end, branch_end, program_entry, program_end, Standing, ready, at_when, waiting}
 use Rattle.edi_meaning.specs.Step.{Asks, goes, arrives, again, forks, leaves, is_quiet, chosen, with_chosen, called, statement_step, work_step, attempt}
-use Rattle.edi_meaning.specs.Step.{local_step, Process, Processes, Stepped, went, ended, kernel, step, is_running_process, may_step, Led, nowhere, onward}
-use Rattle.edi_meaning.specs.Step.{permitted}
+use Rattle.edi_meaning.specs.Step.{local_step, Process, Processes, Stepped, went, ended, kernel, step}
+use Rattle.edi_meaning.specs.Permitted.{is_running_process, may_step, Led, nowhere, onward}
+use Rattle.edi_meaning.specs.Permitted.{permitted}
 use Rattle.edi_meaning.specs.Laws.{Settled}
 use Rattle.edi_meaning.proofs.Lasting.{Gives}
 use Rattle.edi_meaning.proofs.Kernel.{if_either, Handles, kernel_handles, of_process}

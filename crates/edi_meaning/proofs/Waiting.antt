@@ -9,7 +9,8 @@ use Rattle.edi_unit.specs.Tree.{ProgramUnit}
 use Rattle.edi_meaning.specs.Store.{Spot, shape, now}
 use Rattle.edi_meaning.specs.Evaluation.{World, Evaluation, gives, ends}
 use Rattle.edi_meaning.specs.Step.{Work, Standing, ready, at_when, waiting, Asks, Process, Processes, Stepped, went, ended, back, child_process, with_child}
-use Rattle.edi_meaning.specs.Step.{with_children, fork_taken, local_step, step_of, step, start, is_running, at, permitted}
+use Rattle.edi_meaning.specs.Step.{with_children, fork_taken, local_step, step_of, step, start}
+use Rattle.edi_meaning.specs.Permitted.{is_running, at, permitted}
 use Rattle.edi_meaning.specs.Laws.{is_child, children_in, IsWaiting, ParentsWait}
 use Rattle.edi_meaning.proofs.Lasting.{Gives}
 use Rattle.edi_meaning.proofs.Kernel.{Handles, kernel_handles, of_process, After, permitted_keep}

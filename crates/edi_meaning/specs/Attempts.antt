@@ -8,7 +8,8 @@ use Rattle.edi_unit.specs.Values.{is_true}
 use Rattle.edi_unit.specs.Tree.{Acts, Clauses, no_clause, clause_then, clause, ProgramUnit}
 use Rattle.edi_meaning.specs.Evaluation.{World, Evaluation, gives, ends, ◌>>=◌}
 use Rattle.edi_meaning.specs.Whole.{expression, acts, below}
-use Rattle.edi_meaning.specs.Step.{Position, ready, at_when, Process, Processes, back, Stepped, went, ended, is_quiet, step, start, at, onward, permitted}
+use Rattle.edi_meaning.specs.Step.{Position, ready, at_when, Process, Processes, back, Stepped, went, ended, is_quiet, step, start}
+use Rattle.edi_meaning.specs.Permitted.{at, onward, permitted}
 
 -- the list behind the first of these conditions that is true, if one is; no condition behind it is evaluated
 abbrev pub tested : ProgramUnit → Name → (size : ℕ) → (deeper : Acts → World → Evaluation (Unit {0})) → Clauses → World → Evaluation (Option Acts)

@@ -11,8 +11,9 @@ use Rattle.edi_unit.specs.Tree.{Clauses, ProgramUnit}
 use Rattle.edi_meaning.specs.Store.{Spot, Cell, value, location, procedure, system_procedure, block_procedure, Store, Shape, instances, shape, frame_at}
 use Rattle.edi_meaning.specs.Store.{cell, Owns, IsLive, Older}
 use Rattle.edi_meaning.specs.Evaluation.{World}
-use Rattle.edi_meaning.specs.Step.{Position, ready, at_when, waiting, is_running, Process, Processes, Stepped, went, ended, is_quiet, step, start, Led, at}
-use Rattle.edi_meaning.specs.Step.{over, nowhere, permitted}
+use Rattle.edi_meaning.specs.Step.{Position, ready, at_when, waiting, Process, Processes, Stepped, went, ended, is_quiet, step, start}
+use Rattle.edi_meaning.specs.Permitted.{is_running, Led, at}
+use Rattle.edi_meaning.specs.Permitted.{over, nowhere, permitted}
 use Rattle.edi_meaning.specs.Select.{Ends, Select}
 
 -- every selection ends, after some number of steps

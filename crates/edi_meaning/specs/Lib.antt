@@ -3,6 +3,7 @@ pub mod Store
 pub mod Evaluation
 pub mod Whole
 pub mod Step
+pub mod Permitted
 pub mod Select
 pub mod Arrivals
 pub mod Laws
@@ -10,5 +11,6 @@ pub mod Attempts
 pub mod Spent
 pub mod Levels
 pub mod Bad
+pub mod NeverBad
 pub mod Someone
 pub mod Rows

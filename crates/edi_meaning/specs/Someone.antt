@@ -9,7 +9,8 @@ use Rattle.edi_unit.specs.Fits.{Fits}
 use Rattle.edi_unit.specs.Need.{block_at}
 use Rattle.edi_unit.specs.Tree.{Act, skip, assign, call, halt, if_act, while_act, when_act, cobegin, Acts, no_act, act_then, Clause, clause, Clauses}
 use Rattle.edi_unit.specs.Tree.{no_clause, clause_then, ProgramUnit}
-use Rattle.edi_meaning.specs.Step.{Processes, went, step, start, may_step, at, permitted}
+use Rattle.edi_meaning.specs.Step.{Processes, went, step, start}
+use Rattle.edi_meaning.specs.Permitted.{may_step, at, permitted}
 use Rattle.edi_meaning.specs.Select.{Ends}
 
 -- each `cobegin` has a branch, but those inside a critical phase, which are never executed

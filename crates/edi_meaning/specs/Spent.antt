@@ -5,7 +5,8 @@ use Rattle.edi_calls.specs.Names.{Name}
 use Rattle.edi_calls.specs.Outcome as outcome
 use Rattle.edi_calls.specs.State.{State, Traced}
 use Rattle.edi_unit.specs.Tree.{ProgramUnit}
-use Rattle.edi_meaning.specs.Step.{start, over, permitted}
+use Rattle.edi_meaning.specs.Step.{start}
+use Rattle.edi_meaning.specs.Permitted.{over, permitted}
 use Rattle.edi_meaning.specs.Select.{Ends}
 
 -- of whatever permitted steps

@@ -6,12 +6,12 @@ use Rattle.std.specs.List.{list_any}
 use Rattle.edi_calls.specs.Forks.{most_processes, equal_share}
 use Rattle.edi_calls.specs.declared.kinds.Cause.TheVariants as cause
 use Rattle.edi_calls.specs.State.{State, Traced, begun}
-use Rattle.edi_calls.specs.Names.{Name, Table, find, with_at, without, names}
+use Rattle.edi_calls.specs.Names.{Name, Table, find, with_at, without}
 use Rattle.edi_calls.specs.Outcome as outcome
 use Rattle.edi_calls.specs.Outcome.{Ending}
 use Rattle.edi_calls.specs.Ready.{child, parent_of, children, Next, stays, joins, freed}
 use Rattle.edi_unit.specs.Tree as tree
-use Rattle.edi_unit.specs.Tree.{Expression, Expressions, Link, Links, Place, Part, Parts, Argument, Arguments, Act, Acts, Clause, Clauses, Block, ProgramUnit}
+use Rattle.edi_unit.specs.Tree.{Expression, Expressions, Link, Links, Place, Part, Parts, Act, Acts, Clauses, ProgramUnit}
 use Rattle.edi_unit.specs.Need.{block_at}
 use Rattle.edi_meaning.specs.Store.{Spot, Closure, system_procedure, block_procedure, Cell, procedure, shape, now, room}
 use Rattle.edi_meaning.specs.Evaluation.{World, Evaluation, gives, ends, ◌>>=◌, stops, turn}
@@ -276,34 +276,3 @@ start unit system bound = record {
   live = ([], record { size = 65536; forks = 0; work = program_entry ∷ program_end ∷ []; standing = ready }) ∷ [];
   world = record { store = []; system = begun system; turns = bound };
 }
-
-abbrev pub is_running : Standing → Bool
-is_running ready = true
-is_running (at_when cs position) = true
-is_running (waiting n) = false
-
-abbrev pub is_running_process : Option Process → Bool
-is_running_process None = false
-is_running_process (Some q) = is_running q.standing
-
--- whether p is ready or at its `when`
-abbrev pub may_step : Processes → Name → Bool
-may_step s p = is_running_process (find s.live p)
-
--- where a list of steps leads: to a state that goes on, to the end of the program, or nowhere, since one of the
--- processes could not step
-pub data Led : Type 0 where
-  at : Processes → Led
-  over : Ending → Traced → (turns : ℕ) → Led
-  nowhere : Led
-
-abbrev pub onward : Stepped → List Name → (Processes → Led) → Led
-onward (went s next quiet) names go = go s
-onward (ended ending system turns) [] go = over ending system turns
-onward (ended ending system turns) (p ∷ ps) go = nowhere
-
--- PERMITTED: the steps of these processes, one after another, each ready or at its `when` as it steps. Any such process
--- may go next at any time.
-abbrev pub permitted : ProgramUnit → List Name → Processes → Led
-permitted unit [] s = at s
-permitted unit (p ∷ ps) s = if may_step s p then onward (step unit s p) ps (permitted unit ps) else nowhere

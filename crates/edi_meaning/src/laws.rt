@@ -2,7 +2,7 @@
 //! all units, system states, bounds and choices.
 
 ghost use Rattle.edi_meaning.specs.Attempts.{AttemptsAreOneStep, AttemptsExecute};
-ghost use Rattle.edi_meaning.specs.Bad.{PermittedIsNeverBad, SelectionIsNeverBad};
+ghost use Rattle.edi_meaning.specs.NeverBad.{PermittedIsNeverBad, SelectionIsNeverBad};
 ghost use Rattle.edi_meaning.specs.Someone.{FittingForksHaveBranches, SomeoneMayStep, StandstillIsMarked};
 ghost use Rattle.edi_meaning.specs.Levels.{LevelsAreEnough};
 ghost use Rattle.edi_meaning.specs.Spent.{PermittedEndsSpent, SelectionEndsSpent};

@@ -12,7 +12,7 @@ use crate::slots::{blocks_taken, find_slot, open_slot, slot_for};
 use crate::state::{MemoryState, Reading, Stop};
 use crate::stored::StoredFile;
 use crate::titles::title_of;
-use edi_calls::{FileKind, Outside, blocks_of, is_title};
+use edi_calls::{FileKind, Outside, blocks_of, call_number, is_title};
 
 /// The character that stands for the end of the input and of a file.
 const END_OF_TEXT: u8 = 25;
@@ -294,15 +294,15 @@ impl MemoryState {
         ensures { Reaches (call number args.now (state_of self.old)) result (state_of self.old) (state_of self.new) }
     {
         match number {
-            1 => self.accept(),
-            2 => self.display(args[0]),
-            3 => self.print(args[0]),
-            4 => self.find(args),
-            5 => self.more(),
-            6 => self.read(),
-            7 => self.fresh(),
-            8 => self.write(args[0]),
-            9 => self.close(args),
+            call_number::ACCEPT => self.accept(),
+            call_number::DISPLAY => self.display(args[0]),
+            call_number::PRINT => self.print(args[0]),
+            call_number::FIND => self.find(args),
+            call_number::MORE => self.more(),
+            call_number::READ => self.read(),
+            call_number::FRESH => self.fresh(),
+            call_number::WRITE => self.write(args[0]),
+            call_number::CLOSE => self.close(args),
             _ => self.remove(args),
         }
     }

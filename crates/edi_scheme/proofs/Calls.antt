@@ -7,7 +7,8 @@ use Rattle.std.proofs.lemmas.List.Folds.{list_any-append}
 use Rattle.std.proofs.lemmas.Map.Made.{IsDistinct-from_AllPairs}
 use Rattle.std.proofs.lemmas.Map.Steps.{length-le_from_distinct_below}
 use Rattle.edi_unit.specs.Types.{Shape}
-use Rattle.edi_unit.specs.Fits.{Formals, IsCall, accept, display, print, find, more, read, fresh, write, close, remove}
+use Rattle.edi_unit.specs.Fits.{IsCall, accept, display, print, find, more, read, fresh, write, close, remove}
+use Rattle.edi_unit.specs.Headings.{Formals}
 use Rattle.edi_target.specs.Check.{numbers_fault, or_else, unless}
 use Rattle.edi_target.specs.declared.code_fault.CodeFault.TheVariants as fault
 

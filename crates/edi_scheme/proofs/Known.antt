@@ -10,12 +10,14 @@ use Rattle.edi_unit.specs.declared.expressions.Callee.{Callee}
 use Rattle.edi_unit.specs.declared.expressions.Callee.TheVariants as callee
 use Rattle.edi_unit.specs.declared.units.Parameter.TheVariants as slot
 use Rattle.edi_unit.specs.Types.{Shape, int, char, bool, enumeration, record_of, array_of, set_of, shape_at, is_ordinal_of, natural, element_count}
-use Rattle.edi_unit.specs.Types.{shape_size, size, named_types, is_set_shape, greatest_size, IsTypeTable, HasOrderedBounds}
+use Rattle.edi_unit.specs.Types.{shape_size, size, is_set_shape, greatest_size}
+use Rattle.edi_unit.specs.TypeTables.{named_types, IsTypeTable, HasOrderedBounds}
 use Rattle.edi_unit.specs.Tree.{Expression, constant, load, not_of, sign_of, chain, make, convert, apply_of, Expressions, no_expression, expression_then}
 use Rattle.edi_unit.specs.Tree.{link, Links, no_link, link_then, Place, place, Part, field, index, Parts, no_part, part_then, Block}
 use Rattle.edi_unit.specs.Need.{block_at, outer, slots, slot_at, slot_type, slot_words, part_type, parts_type, operator_type, links_type, callee_result}
 use Rattle.edi_unit.specs.Need.{place_type, expression_type, variable_words}
-use Rattle.edi_unit.specs.Fits.{ShapeFits, Heading, is_variable, CalleeFits, HaveTypes, MakesValue, ExpressionFits, PlaceFits, SlotIsKnown, BlockFits}
+use Rattle.edi_unit.specs.Fits.{ShapeFits, is_variable, CalleeFits, HaveTypes, MakesValue, ExpressionFits, PlaceFits, SlotIsKnown, BlockFits}
+use Rattle.edi_unit.specs.Headings.{Heading}
 pub use Rattle.edi_unit.proofs.Known.{all_some}
 use Rattle.edi_unit.proofs.Known as unit
 use Rattle.edi_unit.proofs.Tables.{size-is, size-small, length-before}

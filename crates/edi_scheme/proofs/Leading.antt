@@ -9,7 +9,8 @@ use Rattle.edi_unit.specs.Tree.{link, Links, no_link, link_then, Place, place, P
 use Rattle.edi_unit.specs.Tree.{by_procedure, Arguments, no_argument, argument_then, Act, skip, assign, call, halt, if_act, while_act, when_act, cobegin}
 use Rattle.edi_unit.specs.Tree.{Acts, no_act, act_then, Clause, clause, Clauses, no_clause, clause_then, Block}
 use Rattle.edi_unit.specs.Need.{block_at, slot_at, slot_type, part_type, operator_type, expression_type}
-use Rattle.edi_unit.specs.Fits.{is_called, Heading, Formals, no_formal, value_then, variable_then, procedure_then, CalleeFits, ExpressionFits}
+use Rattle.edi_unit.specs.Fits.{is_called, CalleeFits, ExpressionFits}
+use Rattle.edi_unit.specs.Headings.{Heading, Formals, no_formal, value_then, variable_then, procedure_then}
 use Rattle.edi_unit.specs.Fits.{ExpressionsFit, LinksFit, PlaceFits, PartFits, PartsFit, ArgumentsFit, BranchFits, ActFits, ActsFit, ClauseFits, ClausesFit}
 use Rattle.edi_meaning.specs.Step.{is_quiet}
 use Rattle.edi_target.specs.Op as instruction

@@ -1,4 +1,4 @@
--- Definition. THE CODE SCHEME: the instructions of each construct. The code of an expression leaves its value above the operands that
+-- Words of contracts. THE CODE SCHEME: the instructions of each construct. The code of an expression leaves its value above the operands that
 -- were there, that of a place the address of the variable or of its part, that of arguments the words of the parameters,
 -- and that of a statement nothing. A code depends on the address where it stands only by the addresses to which it jumps.
 use Rattle.std.specs.Prelude.{ℕ, zero, suc, ◌+◌, if◌then◌else◌, List, [], ◌∷◌, ◌++◌, length, map}

@@ -4,7 +4,7 @@ use Rattle.edi_unit.specs.Types.{Shape, record_of, shape_at}
 use Rattle.edi_unit.specs.Tree.{ProgramUnit}
 use Rattle.edi_unit.specs.Fits.{Fits}
 use Rattle.edi_target.specs.Check.{CodeParts, IsSound}
-use Rattle.edi_target.specs.Decode.{AreWords}
+use Rattle.edi_target.specs.Reading.{AreWords}
 use Rattle.edi_target.specs.Fetch.{fetch}
 use Rattle.edi_scheme.specs.Code.{entry, code_of}
 use Rattle.edi_scheme.specs.Stands.{AreBlocks}

@@ -1,4 +1,4 @@
--- Definition. The number of words of the code of each construct. It does not depend on the address where the code stands.
+-- Words of contracts. The number of words of the code of each construct. It does not depend on the address where the code stands.
 use Rattle.std.specs.Prelude.{ℕ, ◌+◌, ◌*◌, if◌then◌else◌, List, length}
 use Rattle.edi_unit.specs.declared.expressions.Callee.{Callee}
 use Rattle.edi_unit.specs.declared.expressions.Callee.TheVariants as callee

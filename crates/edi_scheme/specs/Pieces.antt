@@ -1,4 +1,4 @@
--- Definition. What the code of a construct is put together from: places in frames and records, and the instructions that depend on
+-- Words of contracts. What the code of a construct is put together from: places in frames and records, and the instructions that depend on
 -- types, operators and kinds alone.
 use Rattle.std.specs.Prelude.{ℕ, ◌+◌, ◌-◌, pos, Bool, true, false, if◌then◌else◌, List, [], ◌∷◌, ◌++◌, length, take, sum_by, Option, Some, None}
 use Rattle.std.specs.Option.{option_map, option_map_or}

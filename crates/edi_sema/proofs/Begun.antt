@@ -13,7 +13,7 @@ use Rattle.edi_tree.specs.declared.names.Name.{Name}
 use Rattle.edi_tree.specs.Tree as text
 use Rattle.edi_tree.specs.View.{heading_of, params_of, param_step, heading_step}
 use Rattle.edi_unit.specs.declared.units.BlockKind.{BlockKind}
-use Rattle.edi_unit.specs.Fits.{Heading, heading_result}
+use Rattle.edi_unit.specs.Headings.{Heading, heading_result}
 use Rattle.edi_static.specs.declared.faults.StaticFault.{StaticFault}
 use Rattle.edi_static.specs.Judged.{Judged, gives, ◌>>=◌}
 use Rattle.edi_static.specs.Environment.{Begun, Environment, declare}

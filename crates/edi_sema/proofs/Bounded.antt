@@ -9,7 +9,7 @@ use Rattle.std.proofs.Math.Nat.{le_trans}
 use Rattle.std.proofs.lemmas.Bool.Decides.{nat_tests}
 use Rattle.std.proofs.lemmas.List.Sums.{sum_by-cons}
 use Rattle.edi_lex.specs.Bytes.{is_string_byte}
-use Rattle.edi_lex.specs.Spelling.{is_spelled, are_spelled}
+use Rattle.edi_lex.specs.Spelled.{is_spelled, are_spelled}
 use Rattle.edi_lex.specs.Order.{size_of, extent}
 use Rattle.edi_lex.specs.declared.symbol.Symbol.{Symbol}
 use Rattle.edi_lex.specs.declared.symbol.Symbol.TheVariants as is

@@ -7,7 +7,7 @@ use Rattle.edi_tree.specs.declared.constants.Constant.{Constant}
 use Rattle.edi_tree.specs.declared.constants.ConstDecl.{ConstDecl}
 use Rattle.edi_tree.specs.Tree as text
 use Rattle.edi_unit.specs.Types.{Shape, record_of, array_of, set_of, is_elementary}
-use Rattle.edi_unit.specs.Fits.{heading, Formals}
+use Rattle.edi_unit.specs.Headings.{heading, Formals}
 use Rattle.edi_static.specs.declared.faults.StaticKind.TheVariants as kind
 use Rattle.edi_static.specs.Judged.{gives, must}
 use Rattle.edi_static.specs.Environment.{Environment, type_named, declare}

@@ -11,7 +11,7 @@ use Rattle.edi_tree.specs.declared.names.Name.{Name}
 use Rattle.edi_tree.specs.Tree as text
 use Rattle.edi_unit.specs.declared.units.BlockKind.{BlockKind}
 use Rattle.edi_unit.specs.Tree.{Acts}
-use Rattle.edi_unit.specs.Fits.{heading_result}
+use Rattle.edi_unit.specs.Headings.{heading_result}
 use Rattle.edi_static.specs.declared.faults.StaticKind.{StaticKind}
 use Rattle.edi_static.specs.Judged.{Judged, gives, faults, ◌>>=◌}
 use Rattle.edi_static.specs.Environment.{Begun, Environment, declare, give_outside, enter, here}

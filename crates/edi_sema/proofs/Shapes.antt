@@ -3,7 +3,7 @@ use Rattle.std.proofs.Common.{◌≡◌, ◌≢◌, ℕ, suc, Bool, true, false,
 use Rattle.std.proofs.Common.{arith}
 use Rattle.std.proofs.lemmas.List.{length-map}
 use Rattle.edi_unit.specs.Types.{Shape, bool_type}
-use Rattle.edi_unit.specs.Fits.{Heading, heading, heading_formals, heading_result, Formals, no_formal, value_then, variable_then, procedure_then}
+use Rattle.edi_unit.specs.Headings.{Heading, heading, heading_formals, heading_result, Formals, no_formal, value_then, variable_then, procedure_then}
 use Rattle.edi_static.specs.declared.headings.Formal as code_formal
 use Rattle.edi_static.specs.Environment.{same_formals, same_heading, same_result, no_heading}
 use Rattle.edi_static.specs.Programs.{is_titled}

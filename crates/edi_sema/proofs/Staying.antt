@@ -5,7 +5,7 @@ use Rattle.edi_scope.specs.Scope.{Scope, outside}
 use Rattle.edi_unit.specs.Types.{greatest_size}
 use Rattle.edi_unit.specs.Tree.{Acts, Block}
 use Rattle.edi_unit.specs.Need.{need}
-use Rattle.edi_unit.specs.Fits.{Heading}
+use Rattle.edi_unit.specs.Headings.{Heading}
 use Rattle.edi_static.specs.declared.faults.StaticKind.TheVariants as kind
 use Rattle.edi_static.specs.declared.faults.StaticFault.{StaticFault}
 use Rattle.edi_static.specs.Judged.{Judged, gives}

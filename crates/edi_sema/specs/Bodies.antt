@@ -1,4 +1,4 @@
--- Words of contracts. What is judged behind the declarations of procedures and modules.
+-- Definition. What is judged behind the declarations of procedures and modules.
 use Rattle.std.specs.Prelude.{ℕ, true, []}
 use Rattle.edi_tree.specs.Tree as text
 use Rattle.edi_static.specs.Judged.{Judged, gives, ◌>>=◌}

@@ -2,7 +2,7 @@
 use Rattle.std.specs.Prelude.{ℕ, Bool, false, if◌then◌else◌, List, ◌++◌, Option, Some, None, drop}
 use Rattle.edi_tree.specs.Tree as text
 use Rattle.edi_unit.specs.Types.{Shape, shape_at}
-use Rattle.edi_unit.specs.Fits.{Heading}
+use Rattle.edi_unit.specs.Headings.{Heading}
 use Rattle.edi_static.specs.declared.faults.StaticKind.TheVariants as kind
 use Rattle.edi_static.specs.Environment.{no_heading}
 use Rattle.edi_static.specs.Programs.{is_title_shape, system_calls, number_of_call, call_with}

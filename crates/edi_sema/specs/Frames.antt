@@ -1,7 +1,7 @@
 -- Words of contracts. What constructs leave as it was, and what stands at each place of a sound text.
 use Rattle.std.specs.Prelude.{◌≡◌, ℕ, ◌<◌, ◌≤◌, Bool, false, IsTrue, List, [], ◌∷◌, length, map, All}
 use Rattle.edi_scope.specs.Scope.{Scope, in_module, outside}
-use Rattle.edi_unit.specs.Fits.{Heading}
+use Rattle.edi_unit.specs.Headings.{Heading}
 use Rattle.edi_static.specs.Environment.{Begun, Environment}
 use Rattle.edi_static.specs.Proper.{Proper}
 

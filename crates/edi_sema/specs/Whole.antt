@@ -1,4 +1,4 @@
--- Words of contracts. The parts of a whole program.
+-- Definition. The parts of a whole program.
 use Rattle.std.specs.Prelude.{ℕ, false, List}
 use Rattle.edi_scope.specs.declared.entity.Entity.TheVariants as entity
 use Rattle.edi_tree.specs.Tree as text

@@ -3,7 +3,7 @@
 ghost use Rattle.std.specs.Prelude.{◌≡◌, ◌&&◌, ◌==◌, ◌∷◌, [], length, map, Option, Some, None};
 ghost use Rattle.edi_tree.specs.View.{param_of, heading_of, more_params};
 ghost use Rattle.edi_unit.specs.Types.{shape_at};
-ghost use Rattle.edi_unit.specs.Fits.{heading, heading_formals, heading_result, no_formal, value_then, variable_then};
+ghost use Rattle.edi_unit.specs.Headings.{heading, heading_formals, heading_result, no_formal, value_then, variable_then};
 ghost use Rattle.edi_static.specs.Prelude.{JudgedAnswers, asked_of, formal_of, list_items, same_one, shape_of};
 ghost use Rattle.edi_static.specs.Environment.{same_heading, same_result, no_heading};
 ghost use Rattle.edi_static.specs.Programs as spec;

@@ -4,7 +4,7 @@ ghost use Rattle.std.specs.Prelude.{◌≡◌, map, Err, IfErr, IfOk, OnErr, OnO
 ghost use Rattle.edi_tree.specs.View.{globals, global_of, heading_of, procedure_of};
 ghost use Rattle.edi_tree.specs.Whole.{program_of};
 ghost use Rattle.edi_unit.specs.Fits.{Fits};
-ghost use Rattle.edi_unit.specs.Types.{IsTypeTable};
+ghost use Rattle.edi_unit.specs.TypeTables.{IsTypeTable};
 ghost use Rattle.edi_unit.specs.View.{unit_of};
 ghost use Rattle.edi_static.specs.Prelude.{JudgedAnswers, asked_of, environment, gives, list_items};
 ghost use Rattle.edi_static.specs.Programs as spec;

@@ -6,9 +6,9 @@ use Rattle.edi_calls.specs.declared.kinds.FileKind.TheVariants as file_kind
 use Rattle.edi_calls.specs.Calls.{is_text}
 use Rattle.edi_calls.specs.Choice.{Choices}
 use Rattle.edi_calls.specs.State.{File, free}
-use Rattle.edi_catalog.specs.InSlots.{no_room, no_such, no_deletion, no_renaming}
-use Rattle.edi_catalog.specs.Storing.{slots_stored}
-use Rattle.edi_catalog.specs.Changes.{slots_changed, file_protected, file_renamed, deleted}
+use Rattle.edi_catalog.specs.Refusing.{no_room, no_such, no_deletion, no_renaming}
+use Rattle.edi_catalog.specs.SlotsStored.{slots_stored}
+use Rattle.edi_catalog.specs.SlotsChanged.{slots_changed, file_protected, file_renamed, deleted}
 use Rattle.edi_edit.specs.declared.EditEnd.{EditEnd}
 use Rattle.edi_edit.specs.declared.EditEnd.TheVariants as edit_end
 use Rattle.edi_edit.specs.Editing.{Editing, changed, is_index, refusal, missing}

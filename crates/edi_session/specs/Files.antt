@@ -5,9 +5,9 @@ use Rattle.edi_calls.specs.State.{File, free, find_file}
 use Rattle.edi_calls.specs.Calls.{is_text}
 use Rattle.edi_catalog.specs.declared.ends.CatEnd.{CatEnd}
 use Rattle.edi_catalog.specs.declared.ends.CatEnd.TheVariants as cat
-use Rattle.edi_catalog.specs.InSlots.{no_such, no_deletion, no_renaming, no_room}
-use Rattle.edi_catalog.specs.Storing.{slots_stored}
-use Rattle.edi_catalog.specs.Changes.{slots_changed, file_protected, file_renamed, deleted}
+use Rattle.edi_catalog.specs.Refusing.{no_such, no_deletion, no_renaming, no_room}
+use Rattle.edi_catalog.specs.SlotsStored.{slots_stored}
+use Rattle.edi_catalog.specs.SlotsChanged.{slots_changed, file_protected, file_renamed, deleted}
 use Rattle.edi_session.specs.Course.{has_slots}
 use Rattle.edi_session.specs.Texts.{about, with_number, disk_full}
 use Rattle.edi_session.specs.Shell.{Shell, state_in, says}

@@ -11,7 +11,7 @@ use Rattle.edi_calls.specs.Choice.{Choices}
 use Rattle.edi_calls.specs.Outcome.{Ending}
 use Rattle.edi_calls.specs.State.{File, State, free, fresh, most_bytes}
 use Rattle.edi_catalog.specs.declared.ends.CatEnd.{CatEnd}
-use Rattle.edi_catalog.specs.InSlots.{no_room}
+use Rattle.edi_catalog.specs.Refusing.{no_room}
 use Rattle.edi_edit.specs.declared.EditEnd.{EditEnd}
 use Rattle.edi_edit.specs.declared.EditEnd.TheVariants as edit_end
 use Rattle.edi_edit.specs.Editing.{Editing, changed, undone, is_index, refusal, missing}

@@ -5,3 +5,6 @@ pub mod commands;
 pub mod compile;
 pub mod edit;
 pub mod sessions;
+
+pub use edi_session::SessionEnd;
+pub use sessions::session;

@@ -1,4 +1,4 @@
--- Definition. What sights tell of a program's unit: they are the `when`s of their line, and the variables that they name are there.
+-- Words of contracts. What sights tell of a program's unit: they are the `when`s of their line, and the variables that they name are there.
 use Rattle.std.specs.Prelude.{◌≡◌, ◌⊎◌, ℕ, ◌<◌, Bool, true, ◌&&◌, ◌==◌, IsTrue, List, length, All, Option, Some, None, ⊤, slice_get}
 use Rattle.std.specs.List.{list_any}
 use Rattle.edi_tree.specs.Tree as text

@@ -1,4 +1,4 @@
--- Definition. The lines of the `when`s of a block, in the order of their words in the text, an outer one before those in its body.
+-- Words of contracts. The lines of the `when`s of a block, in the order of their words in the text, an outer one before those in its body.
 use Rattle.std.specs.Prelude.{ℕ, List, [], ◌∷◌, ◌++◌}
 use Rattle.edi_unit.specs.Tree.{Act, if_act, while_act, when_act, Acts, no_act, act_then, Clause, clause, Clauses, no_clause, clause_then, Block}
 use Rattle.edi_unit.specs.Need.{block_at}

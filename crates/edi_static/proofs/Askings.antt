@@ -1,7 +1,7 @@
 -- The parameters of headings as lists.
 use Rattle.std.proofs.Common.{◌≡◌, suc, List, [], ◌∷◌, ◌++◌, length, map, refl, ap, ◌∙◌}
 use Rattle.std.proofs.lemmas.List.{length-map, map-append}
-use Rattle.edi_unit.specs.Fits.{value_then, variable_then, procedure_then}
+use Rattle.edi_unit.specs.Headings.{value_then, variable_then, procedure_then}
 use Rattle.edi_static.specs.declared.headings.Formal as code_formal
 use Rattle.edi_static.specs.Environment.{formals_append, formals_count, parameters_of}
 use Rattle.edi_static.specs.Views.{One, value, variable, procedure, formals, formal_of, parameter_of}

@@ -4,7 +4,7 @@ use Rattle.edi_scope.specs.declared.entity.Entity.TheVariants as entity
 use Rattle.edi_tree.specs.declared.names.Name.{Name}
 use Rattle.edi_tree.specs.Tree as text
 use Rattle.edi_unit.specs.Types.{enumeration}
-use Rattle.edi_unit.specs.Fits.{Formals, no_formal, procedure_then}
+use Rattle.edi_unit.specs.Headings.{Formals, no_formal, procedure_then}
 use Rattle.edi_static.specs.Judged.{Judged, gives, faults, ◌>>=◌}
 use Rattle.edi_static.specs.Environment.{Environment, declare, with_type, with_shape, formals_append}
 use Rattle.edi_static.specs.Headings.{Listed, Headed, leave, next_parameter, param_named, procedure_named}

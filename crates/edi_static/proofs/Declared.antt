@@ -17,7 +17,7 @@ use Rattle.edi_tree.specs.Tree as text
 use Rattle.edi_unit.specs.Types.{Shape, enumeration, record_of, array_of, set_of, is_elementary, shape_size, size, greatest_size}
 use Rattle.edi_unit.specs.Tree.{Block}
 use Rattle.edi_unit.specs.Need.{no_block, block_at}
-use Rattle.edi_unit.specs.Fits.{heading, Formals}
+use Rattle.edi_unit.specs.Headings.{heading, Formals}
 use Rattle.edi_static.specs.declared.faults.StaticKind.TheVariants as kind
 use Rattle.edi_static.specs.Judged.{gives, must}
 use Rattle.edi_static.specs.Environment.{Environment, type_named, declare, give_outside, here, with_variable}

@@ -5,10 +5,12 @@ use Rattle.std.specs.List.{list_any}
 use Rattle.edi_scope.specs.declared.entity.Entity.{Entity}
 use Rattle.edi_scope.specs.declared.entity.Entity.TheVariants as entity
 use Rattle.edi_unit.specs.declared.units.Parameter.{Parameter}
-use Rattle.edi_unit.specs.Types.{Shape, shape_at, fields_of, is_ordinal_of, standard_types, AreDeclared}
+use Rattle.edi_unit.specs.Types.{Shape, shape_at, fields_of, is_ordinal_of, standard_types}
+use Rattle.edi_unit.specs.TypeTables.{AreDeclared}
 use Rattle.edi_unit.specs.Tree.{Block}
 use Rattle.edi_unit.specs.Need.{block_at, slots, slot_type, slot_result, callee_result, expression_type, place_type}
-use Rattle.edi_unit.specs.Fits.{ShapesFit, Heading, heading, Formals, no_formal, value_then, variable_then, procedure_then, heading_result, heading_formals}
+use Rattle.edi_unit.specs.Fits.{ShapesFit}
+use Rattle.edi_unit.specs.Headings.{Heading, heading, Formals, no_formal, value_then, variable_then, procedure_then, heading_result, heading_formals}
 use Rattle.edi_unit.specs.Fits.{callee_heading, is_variable, is_procedure, greatest_levels, is_called, CalleeFits, ExpressionFits, PlaceFits, ActsFit}
 use Rattle.edi_unit.specs.Fits.{SlotIsKnown, KindFits}
 use Rattle.edi_static.specs.Environment.{Environment, here, no_heading, heading_at, parameters_of}

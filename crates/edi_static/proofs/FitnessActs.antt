@@ -8,7 +8,8 @@ use Rattle.edi_unit.specs.Types.{Shape}
 use Rattle.edi_unit.specs.Tree.{Act, skip, assign, call, halt, if_act, while_act, when_act, cobegin, Acts, no_act, act_then, Clause, clause, Clauses}
 use Rattle.edi_unit.specs.Tree.{no_clause, clause_then, Block}
 use Rattle.edi_unit.specs.Need.{slot_words, act_height, acts_height, clause_height, clauses_height}
-use Rattle.edi_unit.specs.Fits.{Heading, heading_formals, callee_heading, BranchFits, ActFits, ActsFit, ArgumentsFit, ClauseFits, ClausesFit, SlotIsKnown}
+use Rattle.edi_unit.specs.Fits.{callee_heading, BranchFits, ActFits, ActsFit, ArgumentsFit, ClauseFits, ClausesFit, SlotIsKnown}
+use Rattle.edi_unit.specs.Headings.{Heading, heading_formals}
 use Rattle.edi_static.specs.Statements.{acts_append}
 use Rattle.edi_static.proofs.FitnessGrowth.{Steady, expression_same, place_same, arguments_same, callee_fits, result_same, heading_same, size_same, two}
 

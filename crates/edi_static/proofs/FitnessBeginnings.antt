@@ -17,7 +17,8 @@ use Rattle.edi_unit.specs.declared.units.Parameter.TheVariants as slot
 use Rattle.edi_unit.specs.Types.{Shape}
 use Rattle.edi_unit.specs.Tree.{Block}
 use Rattle.edi_unit.specs.Need.{no_block, block_at, slot_type, slot_result}
-use Rattle.edi_unit.specs.Fits.{Heading, heading, heading_result, heading_formals, first_parameter, is_variable, is_procedure, is_called, KindFits}
+use Rattle.edi_unit.specs.Fits.{first_parameter, is_variable, is_procedure, is_called, KindFits}
+use Rattle.edi_unit.specs.Headings.{Heading, heading, heading_result, heading_formals}
 use Rattle.edi_unit.specs.Fits.{SlotIsKnown}
 use Rattle.edi_static.specs.declared.faults.StaticKind.TheVariants as kind
 use Rattle.edi_static.specs.Judged.{Judged, gives, faults, ◌>>=◌}

@@ -10,7 +10,8 @@ use Rattle.edi_unit.specs.declared.units.BlockKind.TheVariants as block_kind
 use Rattle.edi_unit.specs.Types.{Shape, greatest_size}
 use Rattle.edi_unit.specs.Tree.{Acts, no_act, Block}
 use Rattle.edi_unit.specs.Need.{no_block, block_at, slots, need}
-use Rattle.edi_unit.specs.Fits.{Heading, heading_result, heading_formals, KindFits, ActsFit, SlotIsKnown}
+use Rattle.edi_unit.specs.Fits.{KindFits, ActsFit, SlotIsKnown}
+use Rattle.edi_unit.specs.Headings.{Heading, heading_result, heading_formals}
 use Rattle.edi_static.specs.declared.faults.StaticKind.TheVariants as kind
 use Rattle.edi_static.specs.Environment.{Environment, no_heading, heading_at, parameters_of, with_block, set_block}
 use Rattle.edi_static.specs.Statements.{with_statements, add_statements, with_need, close_block}

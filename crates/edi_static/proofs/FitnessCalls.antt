@@ -10,7 +10,8 @@ use Rattle.edi_tree.specs.Tree as text
 use Rattle.edi_unit.specs.Types.{int_type}
 use Rattle.edi_unit.specs.Tree as unit
 use Rattle.edi_unit.specs.Need.{block_at, slot_result, expression_type}
-use Rattle.edi_unit.specs.Fits.{Heading, heading, Formals, no_formal, value_then, variable_then, procedure_then, heading_formals, is_procedure}
+use Rattle.edi_unit.specs.Fits.{is_procedure}
+use Rattle.edi_unit.specs.Headings.{Heading, heading, Formals, no_formal, value_then, variable_then, procedure_then, heading_formals}
 use Rattle.edi_unit.specs.Fits.{ExpressionFits, ArgumentsFit}
 use Rattle.edi_static.specs.declared.faults.StaticKind.TheVariants as kind
 use Rattle.edi_static.specs.Judged.{Judged, gives}

@@ -6,11 +6,13 @@ use Rattle.std.proofs.lemmas.List.{length-set, get_or-set_same, get_or-set_other
 use Rattle.std.proofs.Math.ListN.{get_or-append}
 use Rattle.std.proofs.Math.Seq.{get_or-append_seam}
 use Rattle.edi_scope.specs.Scope.{Scope}
-use Rattle.edi_unit.specs.Types.{Shape, int, char, bool, enumeration, record_of, array_of, set_of, shape_at, fields_of, named_types, is_ordinal_of}
-use Rattle.edi_unit.specs.Types.{IsDeclarable}
+use Rattle.edi_unit.specs.Types.{Shape, int, char, bool, enumeration, record_of, array_of, set_of, shape_at, fields_of, is_ordinal_of}
+use Rattle.edi_unit.specs.TypeTables.{named_types}
+use Rattle.edi_unit.specs.TypeTables.{IsDeclarable}
 use Rattle.edi_unit.specs.Tree.{Block}
 use Rattle.edi_unit.specs.Need.{no_block, block_at, slots}
-use Rattle.edi_unit.specs.Fits.{ShapeFits, ShapesFit, KindFits, ActsFit, SlotIsKnown, Heading}
+use Rattle.edi_unit.specs.Fits.{ShapeFits, ShapesFit, KindFits, ActsFit, SlotIsKnown}
+use Rattle.edi_unit.specs.Headings.{Heading}
 use Rattle.edi_unit.proofs.Tables.{declared-push, length-before}
 use Rattle.edi_static.specs.Environment.{Begun, Environment, with_type, set_block}
 use Rattle.edi_static.specs.Proper.{ScopesFit}

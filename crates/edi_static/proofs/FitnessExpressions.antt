@@ -6,7 +6,7 @@ use Rattle.edi_tree.specs.Tree as text
 use Rattle.edi_unit.specs.declared.expressions.Operator.{Operator}
 use Rattle.edi_unit.specs.Types.{bool_type, shape_at}
 use Rattle.edi_unit.specs.Tree as unit
-use Rattle.edi_unit.specs.Fits.{Formals, heading_formals}
+use Rattle.edi_unit.specs.Headings.{Formals, heading_formals}
 use Rattle.edi_static.specs.Leaves.{ExprHolds, ComparisonHolds, ExprsHolds, SimpleHolds, AddendsHolds, TermHolds, MultipliersHolds, FactorHolds, ArgsHolds}
 use Rattle.edi_static.specs.Leaves.{VariableHolds, SelectorHolds, SelectorsHolds}
 use Rattle.edi_static.specs.InRange.{in_range}

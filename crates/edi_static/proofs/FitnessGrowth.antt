@@ -12,15 +12,18 @@ use Rattle.edi_unit.specs.declared.expressions.Callee.{Callee}
 use Rattle.edi_unit.specs.declared.expressions.Callee.TheVariants as callee
 use Rattle.edi_unit.specs.declared.units.Parameter.{Parameter}
 use Rattle.edi_unit.specs.declared.units.Parameter.TheVariants as slot
-use Rattle.edi_unit.specs.Types.{Shape, int, char, bool, enumeration, record_of, array_of, set_of, shape_at, int_type, fields_of, part_types, is_elementary}
-use Rattle.edi_unit.specs.Types.{is_elementary_shape, is_ordinal_of, is_set_shape, size, AreDeclared}
+use Rattle.edi_unit.specs.Types.{Shape, int, char, bool, enumeration, record_of, array_of, set_of, shape_at, int_type, fields_of, is_elementary}
+use Rattle.edi_unit.specs.TypeTables.{part_types}
+use Rattle.edi_unit.specs.Types.{is_elementary_shape, is_ordinal_of, is_set_shape, size}
+use Rattle.edi_unit.specs.TypeTables.{AreDeclared}
 use Rattle.edi_unit.specs.Tree.{Expression, constant, load, not_of, sign_of, chain, make, convert, apply_of, Expressions, no_expression, expression_then}
 use Rattle.edi_unit.specs.Tree.{link, Links, no_link, link_then, Place, place, Part, field, index, Parts, no_part, part_then, by_value, by_variable}
 use Rattle.edi_unit.specs.Tree.{by_procedure, Arguments, no_argument, argument_then, Block}
 use Rattle.edi_unit.specs.Need.{block_at, outer, slots, slot_at, slot_type, slot_result, element_type, part_type, parts_type, operator_type, links_type}
 use Rattle.edi_unit.specs.Need.{left_words, callee_result, place_type, expression_type, expression_height, members_height, compound_height, links_height}
 use Rattle.edi_unit.specs.Need.{place_height, part_height, parts_height, arguments_height}
-use Rattle.edi_unit.specs.Fits.{is_called, Heading, heading, heading_formals, Formals, no_formal, value_then, variable_then, procedure_then, formals_from}
+use Rattle.edi_unit.specs.Fits.{is_called, formals_from}
+use Rattle.edi_unit.specs.Headings.{Heading, heading, heading_formals, Formals, no_formal, value_then, variable_then, procedure_then}
 use Rattle.edi_unit.specs.Fits.{first_parameter, callee_heading, is_variable, is_procedure, CalleeFits, OperatorFits, IsIndexedBy, HaveTypes, AllHaveType}
 use Rattle.edi_unit.specs.Fits.{MakesValue, ExpressionFits, ExpressionsFit, LinksFit, PlaceFits, PartFits, PartsFit, ArgumentsFit, SlotIsKnown}
 use Rattle.edi_unit.proofs.Known.{all_some, standard_known, element_known, found_known, field_known, operator_known, type_known, formal_known, first_known}

@@ -15,7 +15,7 @@ use Rattle.edi_tree.specs.Tree as text
 use Rattle.edi_unit.specs.declared.units.Parameter.TheVariants as slot
 use Rattle.edi_unit.specs.Types.{Shape}
 use Rattle.edi_unit.specs.Need.{slot_type, slot_result}
-use Rattle.edi_unit.specs.Fits.{Heading, heading, heading_result, heading_formals, Formals, no_formal, value_then, variable_then, procedure_then}
+use Rattle.edi_unit.specs.Headings.{Heading, heading, heading_result, heading_formals, Formals, no_formal, value_then, variable_then, procedure_then}
 use Rattle.edi_unit.specs.Fits.{first_parameter, is_variable, is_procedure, SlotIsKnown}
 use Rattle.edi_static.specs.Judged.{Judged, gives, ◌>>=◌}
 use Rattle.edi_static.specs.Environment.{Environment, found, look_up, as_type, type_named, declare, no_heading, heading_at, with_shape, formals_append}

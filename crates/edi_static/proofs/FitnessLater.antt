@@ -13,7 +13,8 @@ use Rattle.edi_unit.specs.declared.units.Parameter.TheVariants as slot
 use Rattle.edi_unit.specs.Types.{Shape, int, shape_at, is_ordinal_of}
 use Rattle.edi_unit.specs.Tree.{Block, Acts}
 use Rattle.edi_unit.specs.Need.{block_at, slots, slot_type, slot_result, slot_words, acts_height, need}
-use Rattle.edi_unit.specs.Fits.{Heading, heading_result, heading_formals, is_variable, is_procedure, is_called, ActsFit, SlotIsKnown, KindFits}
+use Rattle.edi_unit.specs.Fits.{is_variable, is_procedure, is_called, ActsFit, SlotIsKnown, KindFits}
+use Rattle.edi_unit.specs.Headings.{Heading, heading_result, heading_formals}
 use Rattle.edi_static.specs.Environment.{Environment, heading_at, parameters_of}
 use Rattle.edi_static.specs.Proper.{ScopesFit}
 use Rattle.edi_static.proofs.Proper.{scopes_fit}

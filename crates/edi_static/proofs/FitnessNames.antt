@@ -8,7 +8,7 @@ use Rattle.edi_scope.specs.Scope.{visible}
 use Rattle.edi_tree.specs.declared.names.Name.{Name}
 use Rattle.edi_unit.specs.Tree.{Block}
 use Rattle.edi_unit.specs.Need.{block_at, outer}
-use Rattle.edi_unit.specs.Fits.{Heading, heading, Formals, no_formal, value_then, variable_then, procedure_then, heading_result, heading_formals}
+use Rattle.edi_unit.specs.Headings.{Heading, heading, Formals, no_formal, value_then, variable_then, procedure_then, heading_result, heading_formals}
 use Rattle.edi_unit.specs.Fits.{formals_from, first_parameter, block_heading}
 use Rattle.edi_static.specs.Environment.{Environment, found, look_up, steps_to, heading_at, parameters_of}
 use Rattle.edi_static.proofs.Judging.{Gives}

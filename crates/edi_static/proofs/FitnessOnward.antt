@@ -10,7 +10,8 @@ use Rattle.edi_scope.specs.declared.entity.Entity.{Entity}
 use Rattle.edi_scope.specs.declared.entity.Entity.TheVariants as entity
 use Rattle.edi_scope.specs.Scope.{Scope, meaning, declared, outside, with_name, exported}
 use Rattle.edi_tree.specs.declared.names.Name.{Name}
-use Rattle.edi_unit.specs.Types.{Shape, greatest_size, fields_of, IsDeclarable}
+use Rattle.edi_unit.specs.Types.{Shape, greatest_size, fields_of}
+use Rattle.edi_unit.specs.TypeTables.{IsDeclarable}
 use Rattle.edi_unit.specs.Tree.{Block}
 use Rattle.edi_unit.specs.Need.{no_block, block_at, slots, need}
 use Rattle.edi_unit.specs.Fits.{is_called, ShapeFits, KindFits, ActsFit, SlotIsKnown}

@@ -14,7 +14,8 @@ use Rattle.edi_unit.specs.declared.units.Parameter.TheVariants as slot
 use Rattle.edi_unit.specs.Types.{shape_at, fields_of, standard_types}
 use Rattle.edi_unit.specs.Tree.{Block, ProgramUnit}
 use Rattle.edi_unit.specs.Need.{block_at}
-use Rattle.edi_unit.specs.Fits.{Heading, heading_result, heading_formals, first_parameter, is_called, greatest_levels, ActsFit, ShapeFits, SlotIsKnown, Fits}
+use Rattle.edi_unit.specs.Fits.{first_parameter, is_called, greatest_levels, ActsFit, ShapeFits, SlotIsKnown, Fits}
+use Rattle.edi_unit.specs.Headings.{Heading, heading_result, heading_formals}
 use Rattle.edi_unit.proofs.Example.{standard_table}
 use Rattle.edi_static.specs.InRange.{GlobalInRange, GlobalsInRange, ProcedureInRange, ProgramInRange}
 use Rattle.edi_static.specs.Judged.{Judged, gives, ◌>>=◌}

@@ -6,7 +6,8 @@ use Rattle.edi_tree.specs.Depth.{list_depth, statements_depth, statement_depth, 
 use Rattle.edi_unit.specs.Types.{Shape, bool_type, int_type}
 use Rattle.edi_unit.specs.Tree as unit
 use Rattle.edi_unit.specs.Tree.{Acts, Block}
-use Rattle.edi_unit.specs.Fits.{Heading, ActFits, ActsFit, ClauseFits, ClausesFit, greatest_levels}
+use Rattle.edi_unit.specs.Fits.{ActFits, ActsFit, ClauseFits, ClausesFit, greatest_levels}
+use Rattle.edi_unit.specs.Headings.{Heading}
 use Rattle.edi_static.specs.declared.faults.StaticKind.TheVariants as kind
 use Rattle.edi_static.specs.Judged.{Judged, gives, ◌>>=◌}
 use Rattle.edi_static.specs.Environment.{Environment, here, look_up}

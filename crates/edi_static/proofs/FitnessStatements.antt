@@ -12,7 +12,8 @@ use Rattle.edi_unit.specs.Types.{Shape, bool_type}
 use Rattle.edi_unit.specs.Tree as unit
 use Rattle.edi_unit.specs.Tree.{Act, Acts, Block}
 use Rattle.edi_unit.specs.Need.{no_block, block_at}
-use Rattle.edi_unit.specs.Fits.{Heading, heading_result, heading_formals, ActFits, ActsFit, ArgumentsFit, ClauseFits, ClausesFit, BranchFits, greatest_levels}
+use Rattle.edi_unit.specs.Fits.{ActFits, ActsFit, ArgumentsFit, ClauseFits, ClausesFit, BranchFits, greatest_levels}
+use Rattle.edi_unit.specs.Headings.{Heading, heading_result, heading_formals}
 use Rattle.edi_static.specs.declared.faults.StaticKind.TheVariants as kind
 use Rattle.edi_static.specs.Environment.{Environment, here, no_heading, begun_block, with_block}
 use Rattle.edi_static.specs.Proper.{ScopesFit}

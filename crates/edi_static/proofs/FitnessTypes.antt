@@ -15,8 +15,10 @@ use Rattle.edi_tree.specs.declared.constants.Constant.TheVariants as code
 use Rattle.edi_tree.specs.declared.constants.ConstDecl.{ConstDecl}
 use Rattle.edi_tree.specs.Tree as text
 use Rattle.edi_unit.specs.Types.{Shape, int, char, bool, enumeration, record_of, array_of, set_of, shape_at, is_ordinal_of, is_elementary}
-use Rattle.edi_unit.specs.Types.{is_elementary_shape, standard_types, named_types, ordinal_types, HasOrderedBounds, shape_size, size, greatest_size}
-use Rattle.edi_unit.specs.Types.{fields_of, IsDeclarable, int_type, char_type}
+use Rattle.edi_unit.specs.Types.{is_elementary_shape, standard_types, shape_size, size, greatest_size}
+use Rattle.edi_unit.specs.TypeTables.{named_types, ordinal_types, HasOrderedBounds}
+use Rattle.edi_unit.specs.Types.{fields_of, int_type, char_type}
+use Rattle.edi_unit.specs.TypeTables.{IsDeclarable}
 use Rattle.edi_unit.specs.Fits.{ShapeFits}
 use Rattle.edi_static.specs.declared.faults.StaticKind.TheVariants as kind
 use Rattle.edi_static.specs.Judged.{Judged, gives, faults, ◌>>=◌, must}

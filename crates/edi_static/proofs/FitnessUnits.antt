@@ -3,7 +3,8 @@ use Rattle.std.proofs.Common.{◌≡◌, ℕ, suc, ◌+◌, ◌<◌, ◌≤◌, 
 use Rattle.edi_unit.specs.Types.{Shape, greatest_size}
 use Rattle.edi_unit.specs.Tree.{Block}
 use Rattle.edi_unit.specs.Need.{block_at, need}
-use Rattle.edi_unit.specs.Fits.{Heading, Formals, no_formal, value_then, variable_then, procedure_then, heading_result, heading_formals, first_parameter}
+use Rattle.edi_unit.specs.Fits.{first_parameter}
+use Rattle.edi_unit.specs.Headings.{Heading, Formals, no_formal, value_then, variable_then, procedure_then, heading_result, heading_formals}
 use Rattle.edi_unit.specs.Fits.{ResultsAgree, BlockFits, Fits}
 use Rattle.edi_static.specs.Environment.{Environment, heading_at, parameters_of}
 use Rattle.edi_static.proofs.Fitness.{asked_at, variable_heading, headings_of, BlockStands, Sits}

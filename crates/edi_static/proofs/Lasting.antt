@@ -14,7 +14,7 @@ use Rattle.edi_unit.specs.Types.{Shape, standard_types, greatest_size, int_type,
 use Rattle.edi_unit.specs.Tree as unit
 use Rattle.edi_unit.specs.Tree.{Act, Acts, Clause, Clauses, Block, ProgramUnit}
 use Rattle.edi_unit.specs.Need.{block_at, need}
-use Rattle.edi_unit.specs.Fits.{heading_result, heading_formals}
+use Rattle.edi_unit.specs.Headings.{heading_result, heading_formals}
 use Rattle.edi_static.specs.declared.faults.StaticKind.TheVariants as kind
 use Rattle.edi_static.specs.Judged.{Judged, gives, faults, ◌>>=◌}
 use Rattle.edi_static.specs.Environment.{Environment, at_first, look_up, declare, enter, here, begun_block, parameters_of}

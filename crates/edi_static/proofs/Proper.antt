@@ -7,9 +7,10 @@ use Rattle.std.specs.Str.{bytes_eq}
 use Rattle.edi_scope.specs.declared.entity.Entity.{Entity}
 use Rattle.edi_scope.specs.declared.entity.Entity.TheVariants as entity
 use Rattle.edi_scope.specs.Scope.{Scope, meaning, visible, outside}
-use Rattle.edi_unit.specs.Types.{Shape, int, is_elementary_shape, IsTypeTable}
+use Rattle.edi_unit.specs.Types.{Shape, int, is_elementary_shape}
+use Rattle.edi_unit.specs.TypeTables.{IsTypeTable}
 use Rattle.edi_unit.specs.Tree.{Block}
-use Rattle.edi_unit.specs.Fits.{Heading}
+use Rattle.edi_unit.specs.Headings.{Heading}
 use Rattle.edi_static.specs.Environment.{Begun, Environment, enter, with_type, with_block, with_shape, set_block}
 use Rattle.edi_static.specs.Headings.{leave}
 use Rattle.edi_static.specs.Proper.{Proper, EntityFits, NumbersFit, NamesFit, ScopesFit}

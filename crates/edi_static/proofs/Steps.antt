@@ -7,7 +7,7 @@ use Rattle.edi_tree.specs.declared.names.Name.{Name}
 use Rattle.edi_tree.specs.Tree as text
 use Rattle.edi_tree.specs.View.{names}
 use Rattle.edi_unit.specs.Types.{Shape, enumeration}
-use Rattle.edi_unit.specs.Fits.{Heading, Formals, no_formal, procedure_then}
+use Rattle.edi_unit.specs.Headings.{Heading, Formals, no_formal, procedure_then}
 use Rattle.edi_static.specs.declared.faults.StaticKind.{StaticKind}
 use Rattle.edi_static.specs.declared.faults.StaticKind.TheVariants as kind
 use Rattle.edi_static.specs.Judged.{Judged, gives, faults, ◌>>=◌, must}

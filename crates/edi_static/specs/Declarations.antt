@@ -8,7 +8,7 @@ use Rattle.edi_tree.specs.Tree as text
 use Rattle.edi_unit.specs.declared.units.BlockKind.{BlockKind}
 use Rattle.edi_unit.specs.declared.units.BlockKind.TheVariants as block_kind
 use Rattle.edi_unit.specs.Tree.{Acts}
-use Rattle.edi_unit.specs.Fits.{heading_result, heading_formals}
+use Rattle.edi_unit.specs.Headings.{heading_result, heading_formals}
 use Rattle.edi_static.specs.declared.faults.StaticKind.TheVariants as kind
 use Rattle.edi_static.specs.Judged.{Judged, gives, faults, ◌>>=◌, must}
 use Rattle.edi_static.specs.Environment.{Begun, Environment, declare, give_outside, enter, here, begun_block, with_block, heading_at, same_heading}

@@ -11,7 +11,7 @@ use Rattle.edi_unit.specs.declared.units.Parameter.TheVariants as slot
 use Rattle.edi_unit.specs.Types.{Shape, standard_types}
 use Rattle.edi_unit.specs.Tree.{no_act, Block}
 use Rattle.edi_unit.specs.Need.{block_at, slots}
-use Rattle.edi_unit.specs.Fits.{Heading, heading, Formals, no_formal, value_then, variable_then, procedure_then, heading_result}
+use Rattle.edi_unit.specs.Headings.{Heading, heading, Formals, no_formal, value_then, variable_then, procedure_then, heading_result}
 use Rattle.edi_tree.specs.declared.names.Name.{Name}
 use Rattle.edi_static.specs.declared.faults.StaticKind.{StaticKind}
 use Rattle.edi_static.specs.declared.faults.StaticKind.TheVariants as kind

@@ -10,7 +10,7 @@ use Rattle.edi_tree.specs.Tree as text
 use Rattle.edi_unit.specs.Types.{int_type, bool_type, shape_at, field_type}
 use Rattle.edi_unit.specs.Tree as unit
 use Rattle.edi_unit.specs.Need.{element_type}
-use Rattle.edi_unit.specs.Fits.{Heading, Formals, no_formal, value_then, variable_then, procedure_then, heading_formals}
+use Rattle.edi_unit.specs.Headings.{Heading, Formals, no_formal, value_then, variable_then, procedure_then, heading_formals}
 use Rattle.edi_static.specs.declared.faults.StaticKind.TheVariants as kind
 use Rattle.edi_static.specs.Judged.{Judged, gives, faults, ◌>>=◌, must}
 use Rattle.edi_static.specs.Environment.{Environment, look_up}

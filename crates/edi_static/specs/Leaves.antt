@@ -1,4 +1,4 @@
--- Definition. What is true of an expression or a statement with such leaves: numerals, strings and constants; and names before
+-- Words of contracts. What is true of an expression or a statement with such leaves: numerals, strings and constants; and names before
 -- arguments, roots of variables and branches of a `cobegin`, each with what is true of its parts.
 use Rattle.std.specs.Prelude.{ℤ, Option, Some, None}
 use Rattle.edi_tree.specs.declared.names.Name.{Name}

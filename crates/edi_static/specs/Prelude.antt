@@ -1,5 +1,5 @@
 -- Words of contracts. Those in which the contracts of all judging functions are written, from here and from below.
-pub use Rattle.edi_unit.specs.Fits.{heading_result}
+pub use Rattle.edi_unit.specs.Headings.{heading_result}
 pub use Rattle.edi_unit.specs.Lists.{list_items}
 pub use Rattle.edi_unit.specs.ShapeView.{shape_of}
 pub use Rattle.edi_unit.specs.View.{acts_of, argument_of, arguments_of, block_of, expression_of}

@@ -10,7 +10,7 @@ use Rattle.edi_tree.specs.Spells.{IsBounded}
 use Rattle.edi_unit.specs.declared.units.BlockKind.TheVariants as block_kind
 use Rattle.edi_unit.specs.Types.{Shape, array_of, shape_at, int_type, char_type, bool_type}
 use Rattle.edi_unit.specs.Tree.{ProgramUnit}
-use Rattle.edi_unit.specs.Fits.{Heading, heading, Formals, no_formal, value_then, variable_then, procedure_then, heading_formals}
+use Rattle.edi_unit.specs.Headings.{Heading, heading, Formals, no_formal, value_then, variable_then, procedure_then, heading_formals}
 use Rattle.edi_static.specs.declared.faults.StaticKind.{StaticKind}
 use Rattle.edi_static.specs.declared.faults.StaticKind.TheVariants as kind
 use Rattle.edi_static.specs.declared.faults.StaticFault.{StaticFault}

@@ -3,7 +3,8 @@ use Rattle.std.specs.Prelude.{◌≡◌, ℕ, ◌<◌, IsTrue, List, [], ◌∷�
 use Rattle.edi_scope.specs.declared.entity.Entity.{Entity}
 use Rattle.edi_scope.specs.declared.entity.Entity.TheVariants as entity
 use Rattle.edi_scope.specs.Scope.{Scope}
-use Rattle.edi_unit.specs.Types.{Shape, is_elementary, IsTypeTable}
+use Rattle.edi_unit.specs.Types.{Shape, is_elementary}
+use Rattle.edi_unit.specs.TypeTables.{IsTypeTable}
 use Rattle.edi_static.specs.Environment.{Environment}
 
 -- the type of a constant is known and elementary, any other type is known, and so are the block of a procedure and the

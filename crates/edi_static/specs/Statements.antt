@@ -6,7 +6,7 @@ use Rattle.edi_unit.specs.Types.{int_type, bool_type, greatest_size}
 use Rattle.edi_unit.specs.Tree as unit
 use Rattle.edi_unit.specs.Tree.{Act, Acts, Block}
 use Rattle.edi_unit.specs.Need.{block_at, need}
-use Rattle.edi_unit.specs.Fits.{heading_formals}
+use Rattle.edi_unit.specs.Headings.{heading_formals}
 use Rattle.edi_static.specs.declared.faults.StaticKind.TheVariants as kind
 use Rattle.edi_static.specs.Judged.{Judged, gives, faults, ◌>>=◌, must}
 use Rattle.edi_static.specs.Environment.{Environment, look_up, here, begun_block, with_block, set_block, no_heading}

@@ -4,7 +4,7 @@ use Rattle.edi_unit.specs.declared.units.Parameter.{Parameter}
 use Rattle.edi_unit.specs.declared.units.Parameter.TheVariants as slot
 use Rattle.edi_unit.specs.Lists.{list_items}
 use Rattle.edi_unit.specs.View.{block_of, expression_of, link_of, part_of}
-use Rattle.edi_unit.specs.Fits.{Heading, heading, Formals, no_formal, value_then, variable_then, procedure_then, heading_result}
+use Rattle.edi_unit.specs.Headings.{Heading, heading, Formals, no_formal, value_then, variable_then, procedure_then, heading_result}
 use Rattle.edi_static.specs.declared.headings.Asked as code_asked
 use Rattle.edi_static.specs.declared.headings.Formal as code_formal
 use Rattle.edi_static.specs.declared.headings.Formal.TheOpen.{Formal-F, Asked-F}

@@ -3,7 +3,7 @@
 ghost use Rattle.std.specs.Prelude.{◌≡◌, [], ◌∷◌, Err, IfOk, OnErr, OnOk, map};
 ghost use Rattle.edi_static.specs.Prelude.{asked_of, formal_of, list_items, same_one};
 ghost use Rattle.edi_static.specs.Headings.{formal_one};
-ghost use Rattle.edi_unit.specs.Fits.{heading, heading_result, heading_formals};
+ghost use Rattle.edi_unit.specs.Headings.{heading, heading_result, heading_formals};
 ghost use Rattle.edi_static.specs.Environment as spec;
 ghost use Rattle.edi_static.specs.Views as view;
 

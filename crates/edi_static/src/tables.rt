@@ -1,7 +1,7 @@
 //! The types, blocks and variables that are known at a place.
 
 ghost use Rattle.std.specs.Prelude.{◌≡◌, ◌+◌, ◌<◌, ◌++◌, ◌∷◌, [], map, length, vec_len, slice_set, option_to_list, OnOk, IfOk};
-ghost use Rattle.edi_unit.specs.Types.{IsDeclarable};
+ghost use Rattle.edi_unit.specs.TypeTables.{IsDeclarable};
 ghost use Rattle.edi_unit.specs.Need.{block_at};
 ghost use Rattle.edi_static.specs.Prelude.{JudgedAnswers, Proper, asked_of, block_of, environment, gives, heading_result, list_items, shape_of};
 ghost use Rattle.edi_static.specs.Environment as spec;

@@ -4,7 +4,8 @@ ghost use Rattle.std.specs.Prelude.{◌≡◌, ◌<◌, All, IsTrue, OnOk, lengt
 ghost use Rattle.edi_tree.specs.Sequences.{items_of};
 ghost use Rattle.edi_tree.specs.Tree as text;
 ghost use Rattle.edi_tree.specs.View.{names, group_of, groups_of, type_decl_of};
-ghost use Rattle.edi_unit.specs.Types.{is_elementary, named_types, ordinal_types, HasOrderedBounds};
+ghost use Rattle.edi_unit.specs.Types.{is_elementary};
+ghost use Rattle.edi_unit.specs.TypeTables.{named_types, ordinal_types, HasOrderedBounds};
 ghost use Rattle.edi_static.specs.Prelude.{Declares, JudgedAnswers, MayDeclare, environment, shape_of};
 ghost use Rattle.edi_static.specs.Types as spec;
 

@@ -8,11 +8,13 @@ use Rattle.edi_words.specs.Words.{Command}
 use Rattle.edi_statuses.specs.declared.status.Status.{Status}
 use Rattle.edi_statuses.specs.declared.status.Status.TheVariants as status
 use Rattle.edi_statuses.specs.Lines.{closing, closing_line, is_due, text_of}
-use Rattle.edi_statuses.specs.Showing.{ClosesWith, IsFront}
+use Rattle.edi_statuses.specs.Showing.{ClosesWith}
+use Rattle.edi_statuses.specs.Fronts.{IsFront}
 use Rattle.edi_statuses.specs.Counts.{Counts, HasCause}
 use Rattle.edi_statuses.specs.EachObject.{LeavesEach}
 use Rattle.edi_statuses.specs.Outside.{Outside, Shows, Lent}
-use Rattle.edi_statuses.specs.Means.{EndsAll, EndsWith, IsCutShort, LinesEnd, Means, with_shown}
+use Rattle.edi_statuses.specs.Means.{EndsWith, IsCutShort, Means}
+use Rattle.edi_statuses.specs.Decided.{EndsAll, LinesEnd, with_shown}
 use Rattle.edi_statuses.proofs.Terminal.{StillTold}
 use Rattle.edi_statuses.proofs.Later.{later}
 

@@ -3,7 +3,8 @@ use Rattle.std.proofs.Common.{◌≡◌, ◌≤◌, ◌<◌, ℕ, Bool, true, fa
 use Rattle.std.proofs.Math.Seq.{take-length}
 use Rattle.edi_told.specs.Told.{WhereTold}
 use Rattle.edi_image.specs.Image.{mount_fault_of}
-use Rattle.edi_system.specs.Parts.{Grows, IsValid, Shrinks}
+use Rattle.edi_system.specs.Parts.{IsValid}
+use Rattle.edi_system.specs.Growing.{Grows, Shrinks}
 use Rattle.edi_words.specs.Words.{Command}
 use Rattle.edi_statuses.specs.declared.status.Status.{Status}
 use Rattle.edi_statuses.specs.EachObject.{DevicesStay, Handed, KeepsImage, LeavesEach, MayBeImage, UnusedStay, is_before_drive, stops_first}

@@ -16,7 +16,8 @@ use Rattle.edi_statuses.specs.Commands.{Comes, Does, IsDone, IsNothing, OnlyKeep
 use Rattle.edi_statuses.specs.Commands.{RunSteps, ExecSteps, WatchSteps, Watches, TextSteps, OldSteps, PutSteps, GetSteps, ListSteps, DemoSteps}
 use Rattle.edi_statuses.specs.Commands.{Demonstrates, OnItsOwn, with_own}
 use Rattle.edi_statuses.specs.Broken.{AtRecord, HasBegun, BrokeDemo, RanWhole, RanUnkept, IsOpen, ArePutInPart}
-use Rattle.edi_statuses.specs.Means.{ComesToBreak, Means, MeansOf, MeansRefused, Wants, with_shown}
+use Rattle.edi_statuses.specs.Means.{ComesToBreak, Means, MeansOf, MeansRefused, Wants}
+use Rattle.edi_statuses.specs.Decided.{with_shown}
 use Rattle.edi_statuses.proofs.Terminal.{StillTold, asks_later, fetch_fails_later, run_later, exec_later, watch_later, text_later, old_later, put_later, get_later, nothing_later, begun_later}
 use Rattle.edi_statuses.proofs.Terminal.{drive_later, keeps_later, blocks_later, code_later, runs_later, whole_later, unkept_later, broke_later}
 use Rattle.edi_statuses.proofs.Terminal.{record_later, does_later, list_later, shows_later, front_later, demo_later}

@@ -3,7 +3,7 @@
 use Rattle.std.proofs.Common.{◌≡◌, ℕ, ◌++◌, Bool, false, List, [], Option, Some, None, refl, sym, subst, inl}
 use Rattle.edi_told.specs.Told.{WhereTold}
 use Rattle.edi_told.specs.Faults.{CountRose}
-use Rattle.edi_host.specs.Files.{Contents}
+use Rattle.edi_host.specs.Contents.{Contents}
 use Rattle.edi_words.specs.Words as words
 use Rattle.edi_words.specs.Words.{Command}
 use Rattle.edi_statuses.specs.declared.status.Status.{Status}
@@ -12,7 +12,8 @@ use Rattle.edi_statuses.specs.Outside.{Outside, seen, KernelLeft}
 pub use Rattle.edi_statuses.specs.Outside.{idle}
 use Rattle.edi_statuses.specs.Counts.{Counts, HasCause}
 use Rattle.edi_statuses.specs.Commands.{IsNothing}
-use Rattle.edi_statuses.specs.Means.{Came, Means}
+use Rattle.edi_statuses.specs.Means.{Means}
+use Rattle.edi_statuses.specs.Decided.{Came}
 use Rattle.edi_statuses.specs.OnFiles.{IsOfFiles, MeansOnFiles, RestIsSame}
 use Rattle.edi_statuses.proofs.EachLeft.{each_same}
 use Rattle.edi_statuses.proofs.Told.{itself, same_told, shows_nothing}

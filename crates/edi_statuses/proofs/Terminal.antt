@@ -2,7 +2,7 @@
 use Rattle.std.proofs.Common.{◌≡◌, ℕ, ◌-◌, List, length, Option, Some, None, inl, inr}
 use Rattle.std.specs.Prelude.{⊤}
 use Rattle.edi_told.specs.Told.{WhereTold}
-use Rattle.edi_host.specs.Files.{Contents}
+use Rattle.edi_host.specs.Contents.{Contents}
 use Rattle.edi_calls.specs.Choice.{Choices}
 use Rattle.edi_debug.specs.stops.Stops.{Watched}
 use Rattle.edi_calls.specs.Outcome.{Ending}
@@ -26,7 +26,8 @@ use Rattle.edi_statuses.specs.Commands.{CommandEffect, Does, IsNothing, OnlyKeep
 use Rattle.edi_statuses.specs.Commands.{RunSteps, ExecSteps, PointSteps, WatchSteps, TextSteps, OldSteps, PutSteps, GetSteps, ListSteps, DemoSteps}
 use Rattle.edi_statuses.specs.Broken.{AtRecord, HasNotBegun, ChangesDrive, ShowsFront, RanWhole, RanUnkept}
 use Rattle.edi_statuses.specs.Facts.{FirstFile, no_file, file_named, file_of_choices, facts_of}
-use Rattle.edi_statuses.specs.Means.{AsksDrive, FetchFails, IsThere, with_shown}
+use Rattle.edi_statuses.specs.Means.{AsksDrive, FetchFails, IsThere}
+use Rattle.edi_statuses.specs.Decided.{with_shown}
 
 -- what is told later was told before
 abbrev pub StillTold : {A : Type 0} → (x y : Option A) → Type 0

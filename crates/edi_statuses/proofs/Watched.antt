@@ -11,7 +11,7 @@ use Rattle.edi_statuses.specs.Steps.{goes}
 use Rattle.edi_statuses.specs.Executions.{text, BrokeRun, HasRun}
 use Rattle.edi_statuses.specs.Commands.{IsLog, IsNothing, Watches, WatchSteps}
 use Rattle.edi_statuses.specs.Broken.{HasBegun, KeepsLog, WatchedUnkept}
-use Rattle.edi_statuses.specs.Means.{with_shown}
+use Rattle.edi_statuses.specs.Decided.{with_shown}
 use Rattle.edi_statuses.proofs.Terminal.{StillTold, broke_later, has_run_silent, nothing_later, told_later, watch_later, whole_later}
 
 module _ (b m : Outside) (y : Option (List ℕ)) (still : StillTold m.shown y) where

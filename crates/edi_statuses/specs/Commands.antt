@@ -11,12 +11,12 @@ use Rattle.edi_calls.specs.State.{File, blocks_of, find_file, find_slot, first_f
 use Rattle.edi_lex.specs.declared.symbol.Mark.{Mark}
 use Rattle.edi_lex.specs.declared.fault.LexFault.{LexFault}
 use Rattle.edi_lex.specs.Symbols.{symbols_of}
-use Rattle.edi_catalog.specs.Changes.{slots_changed, file_protected}
-use Rattle.edi_catalog.specs.Storing.{slots_stored}
-use Rattle.edi_image.specs.Formatted.{no_files}
+use Rattle.edi_catalog.specs.SlotsChanged.{slots_changed, file_protected}
+use Rattle.edi_catalog.specs.SlotsStored.{slots_stored}
+use Rattle.edi_image.specs.NoFiles.{no_files}
 use Rattle.edi_image.specs.Image.{Holds, slots_of}
 use Rattle.edi_image.specs.migrate.OldImage.{old_slots_of}
-use Rattle.edi_image.specs.migrate.OldFiles.{migrated_slots}
+use Rattle.edi_image.specs.migrate.MigratedSlots.{migrated_slots}
 use Rattle.edi_target.specs.Check.{CodeParts}
 use Rattle.edi_target.specs.File.{code_bytes}
 use Rattle.edi_unit.specs.Tree.{ProgramUnit}

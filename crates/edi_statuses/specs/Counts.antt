@@ -1,4 +1,4 @@
--- Words of contracts. How often each object outside has failed, and which status tells which failure.
+-- Definition. How often each object outside has failed, and which status tells which failure.
 use Rattle.std.specs.Prelude.{◌⊎◌, ℕ, ◌≤◌, ⊤}
 use Rattle.edi_told.specs.Faults.{CountRose}
 use Rattle.edi_statuses.specs.declared.status.Status.{Status}

@@ -3,9 +3,9 @@
 use Rattle.std.specs.Prelude.{◌≡◌, ◌≤◌, ◌<◌, ◌⊎◌, ℕ, Bool, true, false, not, ◌&&◌, ◌||◌, List, [], ◌∷◌, Option, Some, None, is_none, ⊤}
 use Rattle.edi_told.specs.Faults.{CountRose}
 use Rattle.edi_told.specs.Told.{WhereTold}
-use Rattle.edi_catalog.specs.Taken.{IsOfCount}
+use Rattle.edi_catalog.specs.Counted.{IsOfCount}
 use Rattle.edi_image.specs.Image.{mount_fault_of}
-use Rattle.edi_system.specs.Parts.{Grows, Shrinks}
+use Rattle.edi_system.specs.Growing.{Grows, Shrinks}
 use Rattle.edi_words.specs.Words as words
 use Rattle.edi_words.specs.Words.{ChoicesFrom, Command, Options}
 use Rattle.edi_statuses.specs.declared.status.Status.{Status}

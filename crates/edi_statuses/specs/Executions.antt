@@ -1,4 +1,4 @@
--- Words of contracts. What a command leaves that has run a program.
+-- Definition. What a command leaves that has run a program.
 use Rattle.std.specs.Prelude.{◌≡◌, ℕ, min, List, [], ◌∷◌, Option, Some, None, ⊤}
 use Rattle.edi_told.specs.Told.{WhereTold}
 use Rattle.edi_calls.specs.declared.kinds.Cause.TheVariants as cause

@@ -1,5 +1,7 @@
 pub mod Counts
 pub mod Lines
+pub mod Numbers
+pub mod Fronts
 pub mod Showing
 pub mod Outside
 pub mod Steps
@@ -10,5 +12,6 @@ pub mod Broken
 pub mod Facts
 pub mod EachObject
 pub mod Means
+pub mod Decided
 pub mod OnFiles
 pub mod Rows

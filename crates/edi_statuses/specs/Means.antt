@@ -2,16 +2,16 @@
 --
 -- A status that the words and contents decide means what `Comes` says. `NoMemory` may come at the places of `Wants`. The four
 -- faults come where the count of an object rose, and mean what `Breaks` says.
-use Rattle.std.specs.Prelude.{◌≡◌, ◌⊎◌, ℕ, Bool, false, List, [], ◌++◌, Option, Some, None, if◌then◌else◌, IsSome, ⊤}
+use Rattle.std.specs.Prelude.{◌≡◌, ◌⊎◌, ℕ, List, [], ◌++◌, Option, Some, None, if◌then◌else◌, IsSome}
 use Rattle.edi_told.specs.Faults.{CountRose}
 use Rattle.edi_words.specs.Words.{Command}
 use Rattle.edi_statuses.specs.declared.status.Status.{Status}
 use Rattle.edi_statuses.specs.declared.status.Status.TheVariants as status
-use Rattle.edi_statuses.specs.Lines.{closing, closing_line, is_due, text_of}
-use Rattle.edi_statuses.specs.Showing.{ClosesWith, IsFront}
+use Rattle.edi_statuses.specs.Lines.{closing, text_of}
+use Rattle.edi_statuses.specs.Fronts.{IsFront}
 use Rattle.edi_statuses.specs.Counts.{Counts, HasCause}
-use Rattle.edi_statuses.specs.Outside.{Outside, seen, Shows, SameFiles, SameBut, IsSomeFile, Lent}
-use Rattle.edi_statuses.specs.EachObject.{LeavesEach, Uses}
+use Rattle.edi_statuses.specs.Outside.{Outside, seen, SameFiles, SameBut, IsSomeFile, Lent}
+use Rattle.edi_statuses.specs.EachObject.{Uses}
 use Rattle.edi_statuses.specs.Steps.{ChoicesAreThere}
 use Rattle.edi_statuses.specs.Commands.{Comes, IsNothing}
 use Rattle.edi_statuses.specs.Broken.{HasNotBegun, names_in}
@@ -95,15 +95,6 @@ abbrev pub Means : Status → Option Command → Outside → Outside → (shown 
 Means s None before after shown kernel = MeansRefused s before after shown kernel
 Means s (Some c) before after shown kernel = MeansOf s c (seen before after) after shown kernel
 
--- A command, or words that are none, came to this status, and the line of the status is still to be shown. A line feed is due before
--- it, or not. What is left of each object is told whatever the others tell.
-pub record Came (s : Status) (due : Bool) (c : Option Command) (before after : Outside) (kernel : Lent) : Type 0 where
-  pub shown : List ℕ
-  pub means : Means s c before after shown kernel
-  pub shows : Shows before after shown
-  pub due_is : due ≡ is_due shown
-  pub each : LeavesEach c before after
-
 -- ---- all that a call shows
 
 -- The line of a status that has one could not be shown whole, since the terminal failed. If that status tells a fault, the count of its object
@@ -125,54 +116,3 @@ EndsWith status.OutputFault c before after had has all kernel =
     Means status.OutputFault c before after all kernel ⊎ IsCutShort c before after had has all kernel
 EndsWith s c before after had has all kernel =
     (shown : List ℕ) × Means s c before after shown kernel × (all ≡ shown ++ closing s shown)
-
--- ---- a law: a line ends a call
-
--- the same outside where the terminal has taken more
-abbrev pub with_shown : Option (List ℕ) → Outside → Outside
-with_shown shown o = record { files = o.files; blocks = o.blocks; input = o.input; shown = shown; printed = o.printed }
-
--- some bytes were shown in a call that ended so, and has left each object so
-abbrev pub EndsAll : Status → Option Command → Outside → Outside → (had has : Counts) → Lent → Type 0
-EndsAll answer c before after had has kernel =
-    (all : List ℕ) × EndsWith answer c before after had has all kernel × Shows before after all × LeavesEach c before after
-
--- A command came to a status, and then the line of the status was shown, or a first part of it, since the terminal failed: this is the end of a
--- call.
-abbrev pub LinesEnd : Type 0
-LinesEnd =
-    (meant answer : Status) (due : Bool) (c : Option Command) (before mid : Outside) (had has : Counts) (shown : Option (List ℕ)) (kernel : Lent)
-    → HasCause meant had has → Came meant due c before mid kernel → ClosesWith meant answer (closing_line due meant) mid.shown shown
-    → (text_of meant ≡ None → (answer ≡ meant) × (shown ≡ mid.shown))
-    → ((answer ≡ meant → ⊥) → CountRose had.terminal has.terminal) → EndsAll answer c before (with_shown shown mid) had has kernel
-
--- ---- a law: the words and the contents decide
-
--- the statuses that they decide
-abbrev pub IsDecisive : Status → Type 0
-IsDecisive status.NoMemory = ⊥
-IsDecisive status.FileFault = ⊥
-IsDecisive status.DriveFault = ⊥
-IsDecisive status.InputFault = ⊥
-IsDecisive status.OutputFault = ⊥
-IsDecisive _ = ⊤
-
--- all contents are told
-pub record IsTold (o : Outside) : Type 0 where
-  pub files : IsSome o.files
-  pub blocks : IsSome o.blocks
-  pub input : IsSome o.input
-  pub shown : IsSome o.shown
-  pub printed : IsSome o.printed
-
--- a session, in which memory may run out at single lines, so that its end is not decided
-abbrev pub is_session : Command → Bool
-is_session c = (facts_of c).session
-
--- Contents that are told decide the status and what is shown before its line, but for `boot`. So each status comes exactly where its
--- cause is there, unless an object fails or memory runs out; and where no refusal has its cause, the command has its effect.
-abbrev pub OneStatus : Type 0
-OneStatus =
-    (s t : Status) (c : Command) (before after behind : Outside) (shown bytes : List ℕ) (kernel other : Lent)
-    → is_session c ≡ false → IsTold before → IsTold after → IsTold behind → IsDecisive s → IsDecisive t
-    → Comes c s before after shown kernel → Comes c t before behind bytes other → (s ≡ t) × (shown ≡ bytes)

@@ -1,6 +1,6 @@
 -- Words of contracts. What a command answers that touches the files alone.
 use Rattle.std.specs.Prelude.{◌≡◌, [], Option, Some, ⊤}
-use Rattle.edi_host.specs.Files.{Contents}
+use Rattle.edi_host.specs.Contents.{Contents}
 use Rattle.edi_words.specs.Words.{Command}
 use Rattle.edi_statuses.specs.declared.status.Status.{Status}
 use Rattle.edi_statuses.specs.declared.status.Status.TheVariants as status

@@ -1,14 +1,14 @@
--- Words of contracts. What the five objects outside tell of their contents before a call and behind it, and the words for what a
+-- Definition. What the five objects outside tell of their contents before a call and behind it, and the words for what a
 -- call leaves of them. Every word speaks of contents where they are told.
 use Rattle.std.specs.Prelude.{IfSome, ◌≡◌, ℕ, List, [], ◌∷◌, ◌++◌, length, Option, Some, None, IsSome}
 use Rattle.std.specs.FinMap as map
 use Rattle.std.specs.Option.{option_map, option_and_then}
 use Rattle.edi_told.specs.Told.{WhereTold}
-use Rattle.edi_host.specs.Files.{Contents}
+use Rattle.edi_host.specs.Contents.{Contents}
 use Rattle.edi_calls.specs.Outcome.{Outcome}
 use Rattle.edi_calls.specs.State.{File, State}
 use Rattle.edi_image.specs.Image.{Holds}
-use Rattle.edi_system.specs.State.{state_begun}
+use Rattle.edi_system.specs.Begun.{state_begun}
 
 -- the files by their names; the drive's blocks; what is left of the input; what the terminal and the printer have taken
 pub record Outside : Type 0 where

@@ -1,4 +1,4 @@
--- Words of contracts. What `boot` leaves: there is a session of the shell on the devices.
+-- Definition. What `boot` leaves: there is a session of the shell on the devices.
 use Rattle.std.specs.Prelude.{◌≡◌, ◌≤◌, ℕ, ◌*◌, List, length, Option}
 use Rattle.edi_told.specs.Told.{WhereTold}
 use Rattle.edi_calls.specs.Choice.{Choices}

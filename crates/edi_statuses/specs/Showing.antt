@@ -5,10 +5,7 @@ use Rattle.edi_statuses.specs.declared.ended.Ended.{Ended}
 use Rattle.edi_statuses.specs.declared.status.Status.{Status}
 use Rattle.edi_statuses.specs.declared.status.Status.TheVariants as status
 use Rattle.edi_statuses.specs.Lines.{is_due}
-
--- these bytes begin those
-abbrev pub IsFront : List ℕ → List ℕ → Type 0
-IsFront front all = (more : List ℕ) × (all ≡ front ++ more)
+use Rattle.edi_statuses.specs.Fronts.{IsFront}
 
 -- The line of the status was shown, and the status is answered; or a first part of it was shown, and a fault of the output is
 -- answered in its place.

@@ -1,9 +1,9 @@
--- Words of contracts. The steps of a command before it has an effect, in their order: each goes on with something, or stops the
+-- Definition. The steps of a command before it has an effect, in their order: each goes on with something, or stops the
 -- command at a status. A step is told by what it may come to.
 use Rattle.std.specs.Prelude.{IfSome, ◌≡◌, ◌⊎◌, ℕ, Bool, true, false, nat_le, List, [], length, Some, None, ⊤}
 use Rattle.edi_calls.specs.Choice.{Choices, listed, seeded}
 use Rattle.edi_calls.specs.State.{most_bytes}
-use Rattle.edi_host.specs.Blocks.{blocks_of}
+use Rattle.edi_host.specs.BytesAsBlocks.{blocks_of}
 use Rattle.edi_image.specs.declared.faults.MountFault.{MountFault}
 use Rattle.edi_image.specs.declared.faults.MountFault.TheVariants as mount
 use Rattle.edi_image.specs.Image.{mount_fault_of}

@@ -1,6 +1,6 @@
 //! Laws of statuses. Each function does nothing, and its contract is the law.
 
-ghost use Rattle.edi_statuses.specs.Means.{LinesEnd, OneStatus};
+ghost use Rattle.edi_statuses.specs.Decided.{LinesEnd, OneStatus};
 
 /// Contents that are told decide the status of a command and what it shows before the line of the status, but for `boot`. So each
 /// status comes exactly where its cause is there, unless an object fails or memory runs out; and where no refusal has its cause, the

@@ -2,6 +2,7 @@
 
 ghost use Rattle.std.specs.Prelude.{◌≡◌, option_map};
 ghost use Rattle.edi_statuses.specs.Lines as lines;
+ghost use Rattle.edi_statuses.specs.Numbers as numbers;
 ghost use Rattle.edi_statuses.specs.declared.status.Status.TheVariants as status;
 
 use crate::lines::{Line, text_of};
@@ -60,7 +61,7 @@ pub enum Status {
 impl Status {
     /// The exit status of the program, 0 to 18.
     pub fn number(&self) -> u8
-        ensures exact { result ≡ lines.status_number self.now }
+        ensures exact { result ≡ numbers.status_number self.now }
     {
         match self {
             Status::Ok => 0,

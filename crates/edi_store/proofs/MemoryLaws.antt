@@ -6,7 +6,8 @@ use Rattle.std.specs.List.{All}
 use Rattle.std.proofs.lemmas.Grind.{same_number_lists}
 use Rattle.std.proofs.lemmas.List.{length-replicate, get_or-replicate, get_or_append_left, get_or-append_right, set_split, length-set}
 use Rattle.std.proofs.lemmas.List.Elements.{All-append, All-take, All-drop, All-set, All-replicate}
-use Rattle.edi_store.specs.Memory.{IsWord, IsMemory, zero_words, zero_memory, words_at, written, copied, cleared}
+use Rattle.edi_store.specs.Memory.{zero_words, zero_memory, words_at, written}
+use Rattle.edi_store.specs.Copied.{IsWord, IsMemory, copied, cleared}
 
 -- ---- zeros
 

@@ -1,6 +1,7 @@
 -- The definitions on small memories, computed.
 use Rattle.std.proofs.Common.{◌≡◌, [], ◌∷◌, refl}
-use Rattle.edi_store.specs.Memory.{words_at, written, copied, cleared}
+use Rattle.edi_store.specs.Memory.{words_at, written}
+use Rattle.edi_store.specs.Copied.{copied, cleared}
 use Rattle.edi_store.specs.Segments.{share_of}
 
 words_from_one : words_at (5 ∷ 6 ∷ 7 ∷ 8 ∷ []) 1 2 ≡ 6 ∷ 7 ∷ []

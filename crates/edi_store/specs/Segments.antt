@@ -1,4 +1,4 @@
--- Definition. Segments of memory, and the equal shares that the branches of a process get of its room.
+-- Words of contracts. Segments of memory, and the equal shares that the branches of a process get of its room.
 use Rattle.std.specs.Prelude.{ℕ, ◌+◌, ◌-◌, ◌*◌, ◌/◌, ◌<◌, ◌≤◌}
 use Rattle.edi_store.specs.declared.segment.Segment.{Segment}
 

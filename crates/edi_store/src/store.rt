@@ -1,14 +1,8 @@
 //! The memory of the machine.
 
 ghost use Rattle.std.specs.Prelude.{◌≡◌, ◌+◌, ◌≤◌, ◌↔◌, IfOk, IsTrue, slice_index, slice_set};
-ghost use Rattle.edi_store.specs.Memory.{
-  IsMemory,
-  zero_words,
-  zero_memory,
-  words_at,
-  copied,
-  cleared,
-};
+ghost use Rattle.edi_store.specs.Memory.{zero_words, zero_memory, words_at};
+ghost use Rattle.edi_store.specs.Copied.{IsMemory, copied, cleared};
 
 use std::alloc::{AllocError, Global};
 use std::marker::Model;
@@ -25,7 +19,7 @@ pub struct Store {
 
 impl Model for Store {
     ghost use Rattle.std.specs.Prelude.{ℕ, List};
-    ghost use Rattle.edi_store.specs.Memory.{IsMemory};
+    ghost use Rattle.edi_store.specs.Copied.{IsMemory};
 
     ghost Value = { List ℕ };
 

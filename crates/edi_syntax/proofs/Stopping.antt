@@ -5,7 +5,7 @@ use Rattle.edi_lex.specs.declared.symbol.Symbol.{Symbol}
 use Rattle.edi_lex.specs.declared.symbol.Symbol.TheVariants as is
 use Rattle.edi_lex.specs.declared.symbol.Mark.{Mark}
 use Rattle.edi_lex.specs.Order.{is_orderly, size_of, extent}
-use Rattle.edi_lex.specs.Spelling.{is_spelled, are_spelled}
+use Rattle.edi_lex.specs.Spelled.{is_spelled, are_spelled}
 use Rattle.edi_tree.specs.Tree.{Program}
 use Rattle.edi_tree.specs.Spells.{StandAsMarks, Spells, to_end, IsBounded}
 use Rattle.edi_tree.specs.Levels.{Element, marks_among, elements}

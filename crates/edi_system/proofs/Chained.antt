@@ -6,7 +6,8 @@ use Rattle.edi_told.specs.Told.{WhereTold}
 use Rattle.edi_calls.specs.declared.ends.Outside.{Outside}
 use Rattle.edi_system.specs.AsCalls.{IsBehind, KeepsDue}
 use Rattle.edi_system.specs.Ends.{Blames, Keeps}
-use Rattle.edi_system.specs.Parts.{Grows, IsValid, KeepsTold, Shrinks, ToldStays}
+use Rattle.edi_system.specs.Parts.{IsValid, KeepsTold, ToldStays}
+use Rattle.edi_system.specs.Growing.{Grows, Shrinks}
 use Rattle.edi_system.specs.State.{drive_in, failed_in, faults_of, input_in, printer_in, terminal_in}
 use Rattle.edi_system.specs.declared.system.System.{System}
 use Rattle.edi_system.proofs.Lasting.{grows_same, shrinks_same}

@@ -17,8 +17,10 @@ use Rattle.edi_catalog.specs.declared.ends.CatEnd.TheVariants as cat
 use Rattle.edi_image.specs.Image.{slots_of}
 use Rattle.edi_catalog.specs.Files.{file_titled}
 use Rattle.edi_catalog.specs.Mounted.{IsMounted, disk_of, files_of}
-use Rattle.edi_catalog.specs.Changes.{CatalogAnswers, Changes, Leaves, deleted, kept_changed, not_deleted, slots_changed}
-use Rattle.edi_catalog.specs.Storing.{StoreAnswers, StoreChanges, blocks_free, not_stored, index_for, slots_stored, stored_entry}
+use Rattle.edi_catalog.specs.Changes.{CatalogAnswers, Changes, Leaves, kept_changed, not_deleted}
+use Rattle.edi_catalog.specs.SlotsChanged.{deleted, slots_changed}
+use Rattle.edi_catalog.specs.Storing.{StoreAnswers, StoreChanges, blocks_free, not_stored, index_for, stored_entry}
+use Rattle.edi_catalog.specs.SlotsStored.{slots_stored}
 use Rattle.edi_system.specs.State.{buffer_in, catalog_in, drive_in, failed_in, found_of, input_in, printer_in, state_of, state_with, terminal_in, IsReading}
 use Rattle.edi_system.specs.State.{IsReady}
 use Rattle.edi_system.specs.Ends.{is_fault, Reaches}

@@ -12,11 +12,13 @@ use Rattle.edi_catalog.specs.declared.catalog.Catalog.{Catalog}
 use Rattle.edi_catalog.specs.declared.ends.CatEnd.{CatEnd}
 use Rattle.edi_catalog.specs.declared.ends.CatEnd.TheVariants as cat
 use Rattle.edi_catalog.specs.Changes.{Changes, Leaves}
-use Rattle.edi_catalog.specs.Storing.{slots_stored, StoreChanges}
+use Rattle.edi_catalog.specs.Storing.{StoreChanges}
+use Rattle.edi_catalog.specs.SlotsStored.{slots_stored}
 use Rattle.edi_calls.specs.declared.kinds.FileKind.{FileKind}
 use Rattle.edi_image.specs.Stored.{StoredFile}
 use Rattle.edi_catalog.specs.Mounted.{IsMounted, disk_of}
-use Rattle.edi_system.specs.Parts.{Grows, IsValid, Shrinks, ToldStays}
+use Rattle.edi_system.specs.Parts.{IsValid, ToldStays}
+use Rattle.edi_system.specs.Growing.{Grows, Shrinks}
 use Rattle.edi_system.specs.State.{catalog_in, drive_in, IsReady}
 use Rattle.edi_system.specs.declared.system.System.{System}
 

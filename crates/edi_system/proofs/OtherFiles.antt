@@ -10,7 +10,8 @@ use Rattle.edi_catalog.specs.declared.entry.Entry.{Entry}
 use Rattle.edi_image.specs.Stored.{StoredFile, is_titled}
 use Rattle.edi_catalog.specs.Files.{file_titled, find_index}
 use Rattle.edi_catalog.specs.Mounted.{files_of}
-use Rattle.edi_catalog.specs.Changes.{changed_at, deleted, kept_changed, kept_protected}
+use Rattle.edi_catalog.specs.Changes.{kept_changed, kept_protected}
+use Rattle.edi_catalog.specs.SlotsChanged.{changed_at, deleted}
 use Rattle.edi_catalog.specs.Storing.{free_index, index_for, stored_entry, IsStoredAt}
 use Rattle.edi_system.specs.State.{IsReading}
 use Rattle.edi_system.specs.Reading.{forgotten, not_titled}

@@ -16,8 +16,10 @@ use Rattle.edi_catalog.specs.declared.ends.CatEnd.TheVariants as cat
 use Rattle.edi_image.specs.Image.{Holds, slots_of}
 use Rattle.edi_image.specs.Stored.{StoredFile, is_stored, is_titled, IsKeptOf}
 use Rattle.edi_catalog.specs.Files.{file_titled, find_index}
-use Rattle.edi_catalog.specs.Changes.{changed_at, deleted, not_deleted, slots_changed, Leaves}
-use Rattle.edi_catalog.specs.Storing.{blocks_free, not_stored, index_for, put_at}
+use Rattle.edi_catalog.specs.Changes.{not_deleted, Leaves}
+use Rattle.edi_catalog.specs.SlotsChanged.{changed_at, deleted, slots_changed}
+use Rattle.edi_catalog.specs.Storing.{blocks_free, not_stored, index_for}
+use Rattle.edi_catalog.specs.SlotsStored.{put_at}
 use Rattle.edi_catalog.specs.Writing.{is_protected}
 use Rattle.edi_image.proofs.KeptFiles.{file_of}
 use Rattle.edi_catalog.proofs.WholeFiles.{index_same}

@@ -7,7 +7,8 @@ use Rattle.edi_catalog.specs.Mounted.{disk_of, room_reference}
 use Rattle.edi_system.specs.State.{buffer_reference, catalog_in, drive_in, due_in, failed_in, input_in, input_reference, printer_in, printer_reference}
 use Rattle.edi_system.specs.State.{terminal_in, terminal_reference, IsReady}
 use Rattle.edi_system.specs.Ends.{Keeps}
-use Rattle.edi_system.specs.Parts.{due_after, Grows, IsValid, Shrinks}
+use Rattle.edi_system.specs.Parts.{due_after, IsValid}
+use Rattle.edi_system.specs.Growing.{Grows, Shrinks}
 use Rattle.edi_system.specs.declared.system.System.{System}
 
 -- This is the object that has failed. Where none has, a call may be made.

@@ -6,10 +6,12 @@ use Rattle.edi_catalog.specs.declared.ends.CatEnd.{CatEnd}
 use Rattle.edi_catalog.specs.declared.ends.CatEnd.TheVariants as cat
 use Rattle.edi_told.specs.Told.{WhereTold}
 use Rattle.edi_image.specs.Image.{slots_of}
-use Rattle.edi_catalog.specs.Changes.{CatalogAnswers, ChangedAreCached, Leaves, deleted, kept_changed, not_deleted, slots_changed}
+use Rattle.edi_catalog.specs.Changes.{CatalogAnswers, ChangedAreCached, Leaves, kept_changed, not_deleted}
+use Rattle.edi_catalog.specs.SlotsChanged.{deleted, slots_changed}
 use Rattle.edi_catalog.specs.Files.{file_titled}
 use Rattle.edi_catalog.specs.Mounted.{files_of}
-use Rattle.edi_catalog.specs.Storing.{IsCachedAt, StoreAnswers, WereFree, blocks_free, not_stored, index_for, slots_stored, stored_entry}
+use Rattle.edi_catalog.specs.Storing.{IsCachedAt, StoreAnswers, WereFree, blocks_free, not_stored, index_for, stored_entry}
+use Rattle.edi_catalog.specs.SlotsStored.{slots_stored}
 use Rattle.edi_system.specs.Catalogue.{done, is_refused, OpenStays}
 use Rattle.edi_system.specs.Reading.{not_titled}
 use Rattle.edi_system.specs.State.{buffer_in, catalog_in, drive_in}

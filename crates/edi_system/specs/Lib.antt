@@ -1,6 +1,8 @@
+pub mod Begun
 pub mod State
 pub mod Buffers
 pub mod Ends
+pub mod Growing
 pub mod Parts
 pub mod Reading
 pub mod Loading

@@ -1,5 +1,5 @@
 -- Words of contracts. What the calls on one object leave of a system.
-use Rattle.std.specs.Prelude.{◌≡◌, ℕ, ◌-◌, ◌≤◌, Bool, true, false, not, ◌==◌, List, [], ◌∷◌, ◌++◌, drop, take, length, slice_get, Option, None, IfSome}
+use Rattle.std.specs.Prelude.{◌≡◌, ℕ, ◌-◌, ◌≤◌, Bool, true, false, not, ◌==◌, List, [], ◌∷◌, ◌++◌, take, length, slice_get, Option, None, IfSome}
 use Rattle.std.specs.Option.{option_map_or}
 use Rattle.edi_told.specs.Told.{WhereTold}
 use Rattle.edi_host.specs.declared.source.Next.{Next}
@@ -8,18 +8,11 @@ use Rattle.edi_calls.specs.State.{State}
 use Rattle.edi_image.specs.Image.{mount_fault_of}
 use Rattle.edi_system.specs.State.{buffer_in, drive_in, input_in, terminal_in, printer_in, due_in}
 use Rattle.edi_system.specs.declared.system.System.{System}
+use Rattle.edi_system.specs.Growing.{Grows, Shrinks}
 
 -- the blocks of a drive are a valid image, where they are told
 abbrev pub IsValid : Option (List (List ℕ)) → Type 0
 IsValid disk = IfSome disk (λ blocks. mount_fault_of blocks ≡ None)
-
--- the bytes that were taken are the first of those that are taken now
-abbrev pub Grows : (taken now : List ℕ) → Type 0
-Grows taken now = take (length taken) now ≡ taken
-
--- what is left is what was left but for a first part
-abbrev pub Shrinks : (left now : List ℕ) → Type 0
-Shrinks left now = (n : ℕ) × (now ≡ drop n left)
 
 -- What is told of a drive, an input, a terminal and a printer before and after: what is told in the end was told at the start,
 -- the blocks are a valid image, the input only loses its first bytes, and what the terminal and the printer have taken only grows.

@@ -8,12 +8,12 @@ use Rattle.edi_calls.specs.declared.ends.Outside.TheVariants as outside
 use Rattle.edi_calls.specs.State.{Found, State}
 use Rattle.edi_catalog.specs.declared.catalog.Catalog.{Catalog}
 use Rattle.edi_image.specs.Entries.{block_at}
-use Rattle.edi_image.specs.Image.{slots_of}
 use Rattle.edi_image.specs.Stored.{StoredFile}
 use Rattle.edi_catalog.specs.Files.{file_titled}
 use Rattle.edi_catalog.specs.Mounted.{IsMounted, disk_of, files_of}
 use Rattle.edi_system.specs.declared.reading.Reading.{Reading}
 use Rattle.edi_system.specs.declared.system.System.{System}
+use Rattle.edi_system.specs.Begun.{state_begun}
 
 -- ---- the parts of a system
 
@@ -68,19 +68,6 @@ faults_of drive input terminal printer system outside.Printer = printer (printer
 
 abbrev pub found_of : Reading → Found
 found_of reading = record { title = reading.title; position = reading.position }
-
--- the state over a drive with these blocks, an input with these bytes left, and a terminal and a printer that have taken these, with no
--- file open
-abbrev pub state_begun : (blocks : List (List ℕ)) → (input shown printed : List ℕ) → State
-state_begun blocks input shown printed = record {
-  input = input;
-  shown = shown;
-  printed = printed;
-  slots = slots_of blocks;
-  blocks = length blocks;
-  found = None;
-  buffer = None;
-}
 
 -- The state of a system whose drive has these blocks, whose input has these bytes left, and whose terminal and printer have
 -- taken these.

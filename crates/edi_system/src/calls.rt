@@ -11,7 +11,7 @@ ghost use Rattle.edi_system.specs.Parts.{KeepsTold};
 
 use crate::ends::Stop;
 use crate::system::System;
-use edi_calls::{CallEnd, Calls};
+use edi_calls::{CallEnd, Calls, call_number};
 use edi_host::{Drive, Sink, Source};
 
 impl<D: Drive, S: Source, T: Sink, P: Sink> System<'_, '_, '_, '_, '_, '_, D, S, T, P> {
@@ -32,15 +32,15 @@ impl<D: Drive, S: Source, T: Sink, P: Sink> System<'_, '_, '_, '_, '_, '_, D, S,
         ensures stays { KeepsSystem D.count T.taken D.faults S.faults T.faults P.faults (is_fault result) self.old self.new }
     {
         match number {
-            1 => self.accept(),
-            2 => self.display(args[0]),
-            3 => self.print(args[0]),
-            4 => self.find_text(args),
-            5 => self.more(),
-            6 => self.read(),
-            7 => self.fresh(),
-            8 => self.write(args[0]),
-            9 => self.close(args),
+            call_number::ACCEPT => self.accept(),
+            call_number::DISPLAY => self.display(args[0]),
+            call_number::PRINT => self.print(args[0]),
+            call_number::FIND => self.find_text(args),
+            call_number::MORE => self.more(),
+            call_number::READ => self.read(),
+            call_number::FRESH => self.fresh(),
+            call_number::WRITE => self.write(args[0]),
+            call_number::CLOSE => self.close(args),
             _ => self.remove(args),
         }
     }

@@ -6,7 +6,8 @@ use Rattle.std.specs.Prelude.{FitsSigned, slice_get}
 use Rattle.std.specs.Int.{w16}
 use Rattle.std.proofs.lemmas.Bool.{lt-ltb}
 use Rattle.edi_target.specs.Op.{address_of_words, branch_words, is_integer, cobegin, words_of}
-use Rattle.edi_target.specs.Decode.{AreWords, branches_of}
+use Rattle.edi_target.specs.Decode.{branches_of}
+use Rattle.edi_target.specs.Reading.{AreWords}
 use Rattle.edi_target.proofs.Reading.{branches_spelled}
 
 pub branch_count : (ws : List ℕ) → length (branches_of ws) ≡ length ws / 3

@@ -22,7 +22,7 @@ use Rattle.edi_target.specs.Fetch as code
 use Rattle.edi_target.proofs.Stands.{code_stands_below}
 use Rattle.edi_target.proofs.Runs.{started_ends, same_end}
 use Rattle.edi_target.specs.Moments.{news_of_call, news_of_effect, news_from, news_at, history_on, history_after, history, history_from_start, ComesThrough}
-use Rattle.edi_target.specs.Moments.{EndIsDetermined, ComesThroughItsPast, PastGrows, SystemIsNewest, EveryRunEndsThrough}
+use Rattle.edi_target.specs.Pasts.{EndIsDetermined, ComesThroughItsPast, PastGrows, SystemIsNewest, EveryRunEndsThrough}
 
 -- ---- more instructions behind the end add nothing
 

@@ -15,7 +15,8 @@ use Rattle.edi_target.specs.Op.{Instruction, Branch, words_of, is_allowed, has_i
 use Rattle.edi_target.specs.Op.{word_of_integer, integer_of_word, const, text, zeros, address, field, index, load, store, add, sub, mul, div, mod_, neg}
 use Rattle.edi_target.specs.Op.{not_, eq, ne, lt, le, gt, ge, union, minus, meet, in_, member, check, jump, false_, and, or, loop, entry, call, call_p, proc}
 use Rattle.edi_target.specs.Op.{return, halt, when, retry, done, cobegin, exit, quiet}
-use Rattle.edi_target.specs.Decode.{Reads, Row, AreWords, rows, no_operands, one_word, two_words, three_words, four_words, five_words, one_target}
+use Rattle.edi_target.specs.Decode.{Row, rows, no_operands, one_word, two_words, three_words, four_words, five_words, one_target}
+use Rattle.edi_target.specs.Reading.{Reads, AreWords}
 use Rattle.edi_target.specs.Decode.{counted_text, counted_branches, branches_of, shaped, if_allowed, decode}
 use Rattle.edi_target.proofs.Stands.{shaped_long}
 

@@ -6,7 +6,8 @@ use Rattle.std.proofs.lemmas.List.{drop-append-le}
 use Rattle.std.specs.Prelude.{IsTrue, nat_le, nat_lt, ◌==◌}
 use Rattle.std.proofs.lemmas.Bool.{ltb-true}
 use Rattle.edi_target.specs.Op.{Instruction, words_of, is_allowed, has_integers}
-use Rattle.edi_target.specs.Decode.{Reads, branches_of}
+use Rattle.edi_target.specs.Decode.{branches_of}
+use Rattle.edi_target.specs.Reading.{Reads}
 use Rattle.edi_target.specs.View.{instruction_of, is_whole}
 use Rattle.edi_target.specs.declared.op.Op.{Op}
 use Rattle.edi_target.specs.declared.op.Op.TheVariants as code

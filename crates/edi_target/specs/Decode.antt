@@ -1,7 +1,7 @@
 -- Definition. The instruction that stands at an address: as a function of the words there, and as a relation.
-use Rattle.std.specs.Prelude.{◌≡◌, ℕ, ◌+◌, ◌*◌, ◌^◌, ◌<◌, All, ◌↔◌, true, nat_lt, if◌then◌else◌, List, [], ◌∷◌, ◌++◌, take, drop, length, slice_get, Option}
+use Rattle.std.specs.Prelude.{ℕ, ◌+◌, ◌*◌, nat_lt, if◌then◌else◌, List, [], ◌∷◌, take, length, slice_get, Option}
 use Rattle.std.specs.Prelude.{Some, None}
-use Rattle.edi_target.specs.Op.{Instruction, Branch, words_of, is_allowed, has_integers, integer_of_word, address_of_words, const, text, zeros, address}
+use Rattle.edi_target.specs.Op.{Instruction, Branch, is_allowed, integer_of_word, address_of_words, const, text, zeros, address}
 use Rattle.edi_target.specs.Op.{field, index, load, store, add, sub, mul, div, mod_, neg, not_, eq, ne, lt, le, gt, ge, union, minus, meet, in_, member}
 use Rattle.edi_target.specs.Op.{check, jump, false_, and, or, loop, entry, call, call_p, proc, return, halt, when, retry, done, cobegin, exit, quiet}
 
@@ -115,23 +115,3 @@ if_allowed (Some x) = if is_allowed x.0 then Some x else None
 -- the instruction at the front of the words, and its length; none where no instruction of allowed operands stands there whole
 unfoldable pub decode : List ℕ → Option (Instruction × ℕ)
 decode words = if_allowed (shaped words)
-
--- The words at an address are those of an instruction with operands that are allowed, and the next address is behind them.
-pub record Reads (words : List ℕ) (at : ℕ) (op : Instruction) (next : ℕ) : Type 0 where
-  pub allowed : is_allowed op ≡ true
-  pub integers : has_integers op ≡ true
-  pub stands : drop at words ≡ words_of op ++ drop next words
-  pub follows : next ≡ at + length (words_of op)
-
--- each number of a list is a word
-abbrev pub AreWords : List ℕ → Type 0
-AreWords words = All (λ word. word < 2 ^ 16) words
-
--- The relation and the function are one, and what an instruction's words give is that instruction, whatever follows.
-abbrev pub ReadingIsDecoding : Type 0
-ReadingIsDecoding =
-    (words : List ℕ) (at : ℕ) (op : Instruction) (n : ℕ) → AreWords words → (decode (drop at words) ≡ Some (op, n)) ↔ Reads words at op (at + n)
-
-abbrev pub WordsAreReadAgain : Type 0
-WordsAreReadAgain =
-    (op : Instruction) (rest : List ℕ) → is_allowed op ≡ true → has_integers op ≡ true → decode (words_of op ++ rest) ≡ Some (op, length (words_of op))

@@ -1,4 +1,4 @@
--- Words of contracts. What stands at a code address. The machine is defined over any such function; the words of a code are the one that
+-- Definition. What stands at a code address. The machine is defined over any such function; the words of a code are the one that
 -- is meant.
 use Rattle.std.specs.Prelude.{ℕ, ◌+◌, List, drop, Option, Some, None}
 use Rattle.edi_target.specs.Op.{Instruction}

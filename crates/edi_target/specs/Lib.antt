@@ -1,6 +1,7 @@
 pub mod segments
 pub mod Op
 pub mod Decode
+pub mod Reading
 pub mod View
 pub mod Check
 pub mod File
@@ -11,6 +12,7 @@ pub mod Effect
 pub mod Perform
 pub mod Mach
 pub mod Moments
+pub mod Pasts
 pub mod Arrivals
 pub mod Laws
 pub mod Starts

@@ -4,7 +4,8 @@ use Rattle.std.specs.Option.{option_map}
 use Rattle.edi_target.specs.Op.{Instruction, const, text, zeros, address, field, index, load, store, add, sub, mul, div, mod_, neg, not_, eq, ne, lt, le, gt}
 use Rattle.edi_target.specs.Op.{ge, union, minus, meet, in_, member, check, jump, false_, and, or, loop, entry, call, call_p, proc, return, halt, when}
 use Rattle.edi_target.specs.Op.{retry, done, cobegin, exit, quiet}
-use Rattle.edi_target.specs.Decode.{Reads, branches_of, decode}
+use Rattle.edi_target.specs.Decode.{branches_of, decode}
+use Rattle.edi_target.specs.Reading.{Reads}
 use Rattle.edi_target.specs.declared.op.Op.{Op}
 use Rattle.edi_target.specs.declared.op.Op.TheVariants as code
 

@@ -2,7 +2,7 @@
 
 ghost use Rattle.edi_target.specs.Laws.{EachMovesUp, EndsByTurnsSpent, EveryRunEnds, RunsAreDetermined};
 ghost use Rattle.edi_target.specs.Limit.{FirstBytesDecide};
-ghost use Rattle.edi_target.specs.Moments.{ComesThroughItsPast, EndIsDetermined, EveryRunEndsThrough, OfEveryRun, PastGrows, SystemIsNewest};
+ghost use Rattle.edi_target.specs.Pasts.{ComesThroughItsPast, EndIsDetermined, EveryRunEndsThrough, OfEveryRun, PastGrows, SystemIsNewest};
 ghost use Rattle.edi_target.specs.Starts.{StartsAreThese};
 
 /// Instructions start at the first address, and where one that is read ends; these are the starts of the checks of code.

@@ -6,13 +6,14 @@ mod code_fault;
 mod header;
 pub mod laws;
 mod op;
+pub mod opcode;
 mod read;
 pub mod segments;
 mod starts;
 mod targets;
 mod write;
 
-ghost use Rattle.edi_target.specs.Decode.{ReadingIsDecoding, WordsAreReadAgain};
+ghost use Rattle.edi_target.specs.Reading.{ReadingIsDecoding, WordsAreReadAgain};
 
 pub use code::Code;
 pub use code_fault::CodeFault;

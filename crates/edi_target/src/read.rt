@@ -2,10 +2,12 @@
 
 ghost use Rattle.std.specs.Prelude.{◌≡◌, ℕ, ◌+◌, ◌≤◌, ◌<◌, ◌^◌, ◌∷◌, List, Some, None, length, drop, IsTrue, IfSome, IfNone};
 ghost use Rattle.edi_target.specs.Op.{Instruction, address_of_words};
-ghost use Rattle.edi_target.specs.Decode.{Reads, decode, shaped};
+ghost use Rattle.edi_target.specs.Decode.{decode, shaped};
+ghost use Rattle.edi_target.specs.Reading.{Reads};
 ghost use Rattle.edi_target.specs.View.{Shows, Found, instruction_of, is_whole};
 
 use crate::op::Op;
+use crate::opcode;
 
 /// The code address of two words.
 #[inline(always)]
@@ -24,11 +26,11 @@ fn data_op<'a>(number: u16, operands: &'a [u16]) -> Option<(Op<'a>, u32)>
 {
     match number {
         0 => None,
-        1 => match *operands {
+        opcode::CONST => match *operands {
             [value, ..] => Some((Op::Const { value }, 2)),
             _ => None,
         },
-        2 => match *operands {
+        opcode::TEXT => match *operands {
             [count, ref words @ ..] => Some((
                 Op::Text {
                     words: words.get(..usize::from(count))?,
@@ -37,19 +39,19 @@ fn data_op<'a>(number: u16, operands: &'a [u16]) -> Option<(Op<'a>, u32)>
             )),
             _ => None,
         },
-        3 => match *operands {
+        opcode::ZEROS => match *operands {
             [count, ..] => Some((Op::Zeros { count }, 2)),
             _ => None,
         },
-        4 => match *operands {
+        opcode::ADDRESS => match *operands {
             [level, offset, ..] => Some((Op::Address { level, offset }, 3)),
             _ => None,
         },
-        5 => match *operands {
+        opcode::FIELD => match *operands {
             [offset, ..] => Some((Op::Field { offset }, 2)),
             _ => None,
         },
-        6 => match *operands {
+        opcode::INDEX => match *operands {
             [low, high, size, line, ..] => Some((
                 Op::Index {
                     low: low.cast_signed(),
@@ -61,7 +63,7 @@ fn data_op<'a>(number: u16, operands: &'a [u16]) -> Option<(Op<'a>, u32)>
             )),
             _ => None,
         },
-        7 => match *operands {
+        opcode::LOAD => match *operands {
             [count, ..] => Some((Op::Load { count }, 2)),
             _ => None,
         },
@@ -81,32 +83,32 @@ fn arithmetic_op<'a>(number: u16, operands: &'a [u16]) -> Option<(Op<'a>, u32)>
     ensures whole { IfSome result (λ r. IsTrue (is_whole r.0)) }
 {
     match number {
-        9 => match *operands {
+        opcode::ADD => match *operands {
             [line, ..] => Some((Op::Add { line }, 2)),
             _ => None,
         },
-        10 => match *operands {
+        opcode::SUB => match *operands {
             [line, ..] => Some((Op::Sub { line }, 2)),
             _ => None,
         },
-        11 => match *operands {
+        opcode::MUL => match *operands {
             [line, ..] => Some((Op::Mul { line }, 2)),
             _ => None,
         },
-        12 => match *operands {
+        opcode::DIV => match *operands {
             [line, ..] => Some((Op::Div { line }, 2)),
             _ => None,
         },
-        13 => match *operands {
+        opcode::MOD => match *operands {
             [line, ..] => Some((Op::Mod { line }, 2)),
             _ => None,
         },
-        14 => match *operands {
+        opcode::NEG => match *operands {
             [line, ..] => Some((Op::Neg { line }, 2)),
             _ => None,
         },
-        15 => Some((Op::Not, 1)),
-        16 => match *operands {
+        opcode::NOT => Some((Op::Not, 1)),
+        opcode::EQ => match *operands {
             [count, ..] => Some((Op::Eq { count }, 2)),
             _ => None,
         },
@@ -126,13 +128,13 @@ fn comparison_op<'a>(number: u16, operands: &'a [u16]) -> Option<(Op<'a>, u32)>
     ensures whole { IfSome result (λ r. IsTrue (is_whole r.0)) }
 {
     match number {
-        18 => Some((Op::Lt, 1)),
-        19 => Some((Op::Le, 1)),
-        20 => Some((Op::Gt, 1)),
-        21 => Some((Op::Ge, 1)),
-        22 => Some((Op::Union, 1)),
-        23 => Some((Op::Minus, 1)),
-        24 => Some((Op::Meet, 1)),
+        opcode::LT => Some((Op::Lt, 1)),
+        opcode::LE => Some((Op::Le, 1)),
+        opcode::GT => Some((Op::Gt, 1)),
+        opcode::GE => Some((Op::Ge, 1)),
+        opcode::UNION => Some((Op::Union, 1)),
+        opcode::MINUS => Some((Op::Minus, 1)),
+        opcode::MEET => Some((Op::Meet, 1)),
         _ => Some((Op::In, 1)),
     }
 }
@@ -146,11 +148,11 @@ fn jump_op<'a>(number: u16, operands: &'a [u16]) -> Option<(Op<'a>, u32)>
     ensures whole { IfSome result (λ r. IsTrue (is_whole r.0)) }
 {
     match number {
-        26 => match *operands {
+        opcode::MEMBER => match *operands {
             [line, ..] => Some((Op::Member { line }, 2)),
             _ => None,
         },
-        27 => match *operands {
+        opcode::CHECK => match *operands {
             [low, high, line, ..] => Some((
                 Op::Check {
                     low: low.cast_signed(),
@@ -161,7 +163,7 @@ fn jump_op<'a>(number: u16, operands: &'a [u16]) -> Option<(Op<'a>, u32)>
             )),
             _ => None,
         },
-        28 => match *operands {
+        opcode::JUMP => match *operands {
             [high, low, ..] => Some((
                 Op::Jump {
                     target: address(high, low),
@@ -170,7 +172,7 @@ fn jump_op<'a>(number: u16, operands: &'a [u16]) -> Option<(Op<'a>, u32)>
             )),
             _ => None,
         },
-        29 => match *operands {
+        opcode::FALSE => match *operands {
             [high, low, ..] => Some((
                 Op::False {
                     target: address(high, low),
@@ -179,7 +181,7 @@ fn jump_op<'a>(number: u16, operands: &'a [u16]) -> Option<(Op<'a>, u32)>
             )),
             _ => None,
         },
-        30 => match *operands {
+        opcode::AND => match *operands {
             [high, low, ..] => Some((
                 Op::And {
                     target: address(high, low),
@@ -188,7 +190,7 @@ fn jump_op<'a>(number: u16, operands: &'a [u16]) -> Option<(Op<'a>, u32)>
             )),
             _ => None,
         },
-        31 => match *operands {
+        opcode::OR => match *operands {
             [high, low, ..] => Some((
                 Op::Or {
                     target: address(high, low),
@@ -218,7 +220,7 @@ fn block_op<'a>(number: u16, operands: &'a [u16]) -> Option<(Op<'a>, u32)>
     ensures whole { IfSome result (λ r. IsTrue (is_whole r.0)) }
 {
     match number {
-        33 => match *operands {
+        opcode::ENTRY => match *operands {
             [need, results, parameters, variables, function, ..] => Some((
                 Op::Entry {
                     need,
@@ -231,7 +233,7 @@ fn block_op<'a>(number: u16, operands: &'a [u16]) -> Option<(Op<'a>, u32)>
             )),
             _ => None,
         },
-        34 => match *operands {
+        opcode::CALL => match *operands {
             [level, high, low, line, ..] => Some((
                 Op::Call {
                     level,
@@ -242,7 +244,7 @@ fn block_op<'a>(number: u16, operands: &'a [u16]) -> Option<(Op<'a>, u32)>
             )),
             _ => None,
         },
-        35 => match *operands {
+        opcode::CALL_P => match *operands {
             [level, offset, line, ..] => Some((
                 Op::CallP {
                     level,
@@ -253,7 +255,7 @@ fn block_op<'a>(number: u16, operands: &'a [u16]) -> Option<(Op<'a>, u32)>
             )),
             _ => None,
         },
-        36 => match *operands {
+        opcode::PROC => match *operands {
             [level, high, low, ..] => Some((
                 Op::Proc {
                     level,
@@ -263,7 +265,7 @@ fn block_op<'a>(number: u16, operands: &'a [u16]) -> Option<(Op<'a>, u32)>
             )),
             _ => None,
         },
-        37 => match *operands {
+        opcode::RETURN => match *operands {
             [results, function, ..] => Some((Op::Return { results, function }, 3)),
             _ => None,
         },
@@ -282,11 +284,11 @@ fn process_op<'a>(number: u16, operands: &'a [u16]) -> Option<(Op<'a>, u32)>
     ensures whole { IfSome result (λ r. IsTrue (is_whole r.0)) }
 {
     match number {
-        39 => match *operands {
+        opcode::WHEN => match *operands {
             [line, ..] => Some((Op::When { line }, 2)),
             _ => None,
         },
-        40 => match *operands {
+        opcode::RETRY => match *operands {
             [high, low, ..] => Some((
                 Op::Retry {
                     target: address(high, low),
@@ -295,8 +297,8 @@ fn process_op<'a>(number: u16, operands: &'a [u16]) -> Option<(Op<'a>, u32)>
             )),
             _ => None,
         },
-        41 => Some((Op::Done, 1)),
-        42 => match *operands {
+        opcode::DONE => Some((Op::Done, 1)),
+        opcode::COBEGIN => match *operands {
             [count, line, ref words @ ..] => Some((
                 Op::Cobegin {
                     line,
@@ -306,8 +308,8 @@ fn process_op<'a>(number: u16, operands: &'a [u16]) -> Option<(Op<'a>, u32)>
             )),
             _ => None,
         },
-        43 => Some((Op::Exit, 1)),
-        44 => match *operands {
+        opcode::EXIT => Some((Op::Exit, 1)),
+        opcode::QUIET => match *operands {
             [high, low, ..] => Some((
                 Op::Quiet {
                     target: address(high, low),

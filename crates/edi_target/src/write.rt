@@ -2,10 +2,12 @@
 
 ghost use Rattle.std.specs.Prelude.{◌≡◌, ◌&&◌, ℕ, ◌+◌, ◌<◌, ◌^◌, ◌/◌, ◌%◌, ◌++◌, List, true, length, vec_len, IsTrue, OnOk, OnErr};
 ghost use Rattle.edi_target.specs.Op.{cobegin, has_integers, high_word, is_allowed, is_integer, low_word, words_of};
-ghost use Rattle.edi_target.specs.Decode.{Reads, branches_of};
+ghost use Rattle.edi_target.specs.Decode.{branches_of};
+ghost use Rattle.edi_target.specs.Reading.{Reads};
 ghost use Rattle.edi_target.specs.View.{instruction_of, is_whole};
 
 use crate::op::Op;
+use crate::opcode;
 use std::alloc::{AllocError, Global};
 
 fn high(target: u32) -> u16
@@ -40,7 +42,11 @@ fn append_cobegin(words: &mut Vec<u16>, line: u16, branches: &[u16]) -> Result<(
     ensures ok { OnOk result (words.new.items ≡ words.old.items ++ words_of (cobegin line (branches_of branches.now))) }
     ensures err { OnErr result (words.new.items ≡ words.old.items) }
 {
-    append(words, &[42, (branches.len() / 3) as u16, line], branches)
+    append(
+        words,
+        &[opcode::COBEGIN, (branches.len() / 3) as u16, line],
+        branches,
+    )
 }
 
 // A word can hold this integer. It does nothing, and neither does the next.
@@ -74,79 +80,108 @@ fn append_op(words: &mut Vec<u16>, op: &Op<'_>) -> Result<(), AllocError>
     ensures err { OnErr result (words.new.items ≡ words.old.items) }
 {
     match *op {
-        Op::Const { value } => words.extend_from_slice(&[1, value]),
-        Op::Text { words: text } => append(words, &[2, text.len() as u16], text),
-        Op::Zeros { count } => words.extend_from_slice(&[3, count]),
-        Op::Address { level, offset } => words.extend_from_slice(&[4, level, offset]),
-        Op::Field { offset } => words.extend_from_slice(&[5, offset]),
+        Op::Const { value } => words.extend_from_slice(&[opcode::CONST, value]),
+        Op::Text { words: text } => append(words, &[opcode::TEXT, text.len() as u16], text),
+        Op::Zeros { count } => words.extend_from_slice(&[opcode::ZEROS, count]),
+        Op::Address { level, offset } => words.extend_from_slice(&[opcode::ADDRESS, level, offset]),
+        Op::Field { offset } => words.extend_from_slice(&[opcode::FIELD, offset]),
         Op::Index {
             low,
             high,
             size,
             line,
-        } => words.extend_from_slice(&[6, low.cast_unsigned(), high.cast_unsigned(), size, line]),
-        Op::Load { count } => words.extend_from_slice(&[7, count]),
-        Op::Store { count } => words.extend_from_slice(&[8, count]),
-        Op::Add { line } => words.extend_from_slice(&[9, line]),
-        Op::Sub { line } => words.extend_from_slice(&[10, line]),
-        Op::Mul { line } => words.extend_from_slice(&[11, line]),
-        Op::Div { line } => words.extend_from_slice(&[12, line]),
-        Op::Mod { line } => words.extend_from_slice(&[13, line]),
-        Op::Neg { line } => words.extend_from_slice(&[14, line]),
-        Op::Not => words.extend_from_slice(&[15]),
-        Op::Eq { count } => words.extend_from_slice(&[16, count]),
-        Op::Ne { count } => words.extend_from_slice(&[17, count]),
-        Op::Lt => words.extend_from_slice(&[18]),
-        Op::Le => words.extend_from_slice(&[19]),
-        Op::Gt => words.extend_from_slice(&[20]),
-        Op::Ge => words.extend_from_slice(&[21]),
-        Op::Union => words.extend_from_slice(&[22]),
-        Op::Minus => words.extend_from_slice(&[23]),
-        Op::Meet => words.extend_from_slice(&[24]),
-        Op::In => words.extend_from_slice(&[25]),
-        Op::Member { line } => words.extend_from_slice(&[26, line]),
+        } => words.extend_from_slice(&[
+            opcode::INDEX,
+            low.cast_unsigned(),
+            high.cast_unsigned(),
+            size,
+            line,
+        ]),
+        Op::Load { count } => words.extend_from_slice(&[opcode::LOAD, count]),
+        Op::Store { count } => words.extend_from_slice(&[opcode::STORE, count]),
+        Op::Add { line } => words.extend_from_slice(&[opcode::ADD, line]),
+        Op::Sub { line } => words.extend_from_slice(&[opcode::SUB, line]),
+        Op::Mul { line } => words.extend_from_slice(&[opcode::MUL, line]),
+        Op::Div { line } => words.extend_from_slice(&[opcode::DIV, line]),
+        Op::Mod { line } => words.extend_from_slice(&[opcode::MOD, line]),
+        Op::Neg { line } => words.extend_from_slice(&[opcode::NEG, line]),
+        Op::Not => words.extend_from_slice(&[opcode::NOT]),
+        Op::Eq { count } => words.extend_from_slice(&[opcode::EQ, count]),
+        Op::Ne { count } => words.extend_from_slice(&[opcode::NE, count]),
+        Op::Lt => words.extend_from_slice(&[opcode::LT]),
+        Op::Le => words.extend_from_slice(&[opcode::LE]),
+        Op::Gt => words.extend_from_slice(&[opcode::GT]),
+        Op::Ge => words.extend_from_slice(&[opcode::GE]),
+        Op::Union => words.extend_from_slice(&[opcode::UNION]),
+        Op::Minus => words.extend_from_slice(&[opcode::MINUS]),
+        Op::Meet => words.extend_from_slice(&[opcode::MEET]),
+        Op::In => words.extend_from_slice(&[opcode::IN]),
+        Op::Member { line } => words.extend_from_slice(&[opcode::MEMBER, line]),
         Op::Check { low, high, line } => words.extend_from_slice(&[
-            27,
+            opcode::CHECK,
             low.cast_unsigned(),
             high.cast_unsigned(),
             line,
         ]),
-        Op::Jump { target } => words.extend_from_slice(&[28, high(target), low(target)]),
-        Op::False { target } => words.extend_from_slice(&[29, high(target), low(target)]),
-        Op::And { target } => words.extend_from_slice(&[30, high(target), low(target)]),
-        Op::Or { target } => words.extend_from_slice(&[31, high(target), low(target)]),
-        Op::Loop { target } => words.extend_from_slice(&[32, high(target), low(target)]),
+        Op::Jump { target } => words.extend_from_slice(&[opcode::JUMP, high(target), low(target)]),
+        Op::False { target } => words.extend_from_slice(&[
+            opcode::FALSE,
+            high(target),
+            low(target),
+        ]),
+        Op::And { target } => words.extend_from_slice(&[opcode::AND, high(target), low(target)]),
+        Op::Or { target } => words.extend_from_slice(&[opcode::OR, high(target), low(target)]),
+        Op::Loop { target } => words.extend_from_slice(&[opcode::LOOP, high(target), low(target)]),
         Op::Entry {
             need,
             results,
             parameters,
             variables,
             function,
-        } => words.extend_from_slice(&[33, need, results, parameters, variables, function]),
+        } => words.extend_from_slice(&[
+            opcode::ENTRY,
+            need,
+            results,
+            parameters,
+            variables,
+            function,
+        ]),
         Op::Call {
             level,
             target,
             line,
-        } => words.extend_from_slice(&[34, level, high(target), low(target), line]),
+        } => words.extend_from_slice(&[opcode::CALL, level, high(target), low(target), line]),
         Op::CallP {
             level,
             offset,
             line,
-        } => words.extend_from_slice(&[35, level, offset, line]),
+        } => words.extend_from_slice(&[opcode::CALL_P, level, offset, line]),
         Op::Proc { level, target } => words.extend_from_slice(&[
-            36,
+            opcode::PROC,
             level,
             high(target),
             low(target),
         ]),
-        Op::Return { results, function } => words.extend_from_slice(&[37, results, function]),
-        Op::Halt { line } => words.extend_from_slice(&[38, line]),
-        Op::When { line } => words.extend_from_slice(&[39, line]),
-        Op::Retry { target } => words.extend_from_slice(&[40, high(target), low(target)]),
-        Op::Done => words.extend_from_slice(&[41]),
+        Op::Return { results, function } => words.extend_from_slice(&[
+            opcode::RETURN,
+            results,
+            function,
+        ]),
+        Op::Halt { line } => words.extend_from_slice(&[opcode::HALT, line]),
+        Op::When { line } => words.extend_from_slice(&[opcode::WHEN, line]),
+        Op::Retry { target } => words.extend_from_slice(&[
+            opcode::RETRY,
+            high(target),
+            low(target),
+        ]),
+        Op::Done => words.extend_from_slice(&[opcode::DONE]),
         Op::Cobegin { line, branches } => append_cobegin(words, line, branches),
-        Op::Exit => words.extend_from_slice(&[43]),
-        Op::Quiet { target } => words.extend_from_slice(&[44, high(target), low(target)]),
+        Op::Exit => words.extend_from_slice(&[opcode::EXIT]),
+        Op::Quiet { target } => words.extend_from_slice(&[
+            opcode::QUIET,
+            high(target),
+            low(target),
+        ]),
     }
 }
 

@@ -17,7 +17,8 @@ use Rattle.edi_lex.proofs.Steps.{IsLexical, Leads, next_leads, end_finishes, Fin
 use Rattle.edi_lex.proofs.Readings.{reads_nothing, reads_more, sound_more, too_long_more, full_is_too_long, fault_ends, end_symbols, end_sound}
 use Rattle.edi_tree.specs.Spells.{AreBounded}
 use Rattle.edi_unit.specs.Tree.{ProgramUnit}
-use Rattle.edi_texts.specs.Texts.{AcceptedTextsAreSound, AreAccepted, IsSoundUnit}
+use Rattle.edi_texts.specs.Texts.{AreAccepted}
+use Rattle.edi_texts.specs.Laws.{AcceptedTextsAreSound, IsSoundUnit}
 
 -- what is known of a text when all of it has been read
 data Read (text : List ℕ) : Type 0 where

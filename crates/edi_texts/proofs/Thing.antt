@@ -1,6 +1,6 @@
 -- Each text is one thing.
 use Rattle.edi_lex.specs.Symbols.{symbols_of}
-use Rattle.edi_texts.specs.Texts.{EachTextIsOneThing}
+use Rattle.edi_texts.specs.Laws.{EachTextIsOneThing}
 use Rattle.edi_texts.proofs.Once.{not_both, one_fault, one_unit}
 use Rattle.edi_texts.proofs.Total.{some_thing}
 

@@ -1,4 +1,4 @@
--- Words of contracts. How many symbols a text has.
+-- Definition. How many symbols a text has.
 use Rattle.std.specs.Prelude.{ℕ, List, Result, Ok, Err}
 use Rattle.edi_lex.specs.declared.symbol.Mark.{Mark}
 use Rattle.edi_lex.specs.declared.fault.LexFault.{LexFault}

@@ -2,6 +2,7 @@ pub mod Kinds
 pub mod Lines
 pub mod Refusals
 pub mod Texts
+pub mod Laws
 pub mod Answers
 pub mod Length
 pub mod Run

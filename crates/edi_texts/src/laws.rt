@@ -1,6 +1,6 @@
 //! Laws of texts. Each function does nothing, and its contract is the law.
 
-ghost use Rattle.edi_texts.specs.Texts.{AcceptedTextsAreSound, EachTextIsOneThing};
+ghost use Rattle.edi_texts.specs.Laws.{AcceptedTextsAreSound, EachTextIsOneThing};
 ghost use Rattle.edi_texts.specs.Executions.{AcceptedTextsRun, RunsAreNeverBad, TextsHaveOneOutcome};
 ghost use Rattle.edi_texts.specs.Fetched.{FetchedBytesDecide};
 

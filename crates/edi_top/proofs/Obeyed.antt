@@ -1,7 +1,7 @@
 -- From what the words are to the command that is obeyed.
 use Rattle.std.proofs.Common.{◌≡◌, ◌∙◌, ◌⊎◌, ◌&&◌, not, inl, inr, ℕ, Bool, true, false, true≢false, List, [], Option, Some, None, option_map, refl, sym, subst}
 use Rattle.edi_told.specs.Faults.{CountRose}
-use Rattle.edi_host.specs.Files.{Contents}
+use Rattle.edi_host.specs.Contents.{Contents}
 use Rattle.std.specs.Borrow.{Bor}
 use Rattle.edi_words.specs.Words.{Command, Text}
 use Rattle.edi_words.specs.declared.commands.Command as commands
@@ -24,7 +24,7 @@ use Rattle.edi_statuses.specs.Lines.{text_of}
 use Rattle.edi_statuses.specs.Facts.{DriveUse, leaves_drive, mounts_last, mounts_first, formats_to, facts_of}
 use Rattle.edi_statuses.specs.EachObject.{CountsBlocks, CountsNew, CountsUsed, FitsCount, FitsGet, Handed, KeepsImage, LeavesEach, UnusedStay}
 use Rattle.edi_statuses.specs.EachObject.{comes_to, formats, handed, stops_by, stops_first, uses_devices, uses_drive, uses_input, uses_kernel}
-use Rattle.edi_statuses.specs.Means.{Came}
+use Rattle.edi_statuses.specs.Decided.{Came}
 
 pub no_words : (f : Option commands.Command) (x : Option Command) → option_map view f ≡ x → f ≡ None → built x ≡ None
 no_words f x exact none = subst (λ y. built y ≡ None) exact (subst (λ g. built (option_map view g) ≡ None) (sym none) refl)

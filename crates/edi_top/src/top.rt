@@ -12,7 +12,8 @@ ghost use Rattle.edi_statuses.specs.Outside.{lent, outside_of, Shows};
 ghost use Rattle.edi_statuses.specs.Counts.{counts_of, HasCause, NoneFalls};
 ghost use Rattle.edi_statuses.specs.EachObject.{command_does, handed, is_before_format, is_silent, uses_files};
 ghost use Rattle.edi_statuses.specs.EachObject.{CountsBlocks, CountsNew, LeavesEach, UnusedStay};
-ghost use Rattle.edi_statuses.specs.Means.{Came, EndsWith};
+ghost use Rattle.edi_statuses.specs.Means.{EndsWith};
+ghost use Rattle.edi_statuses.specs.Decided.{Came};
 
 use edi_commands::boot::boot;
 use edi_commands::code::list;

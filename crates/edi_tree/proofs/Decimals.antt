@@ -5,7 +5,8 @@ use Rattle.std.proofs.lemmas.Fmt.{decimal_is_IsNumeral}
 use Rattle.std.proofs.lemmas.Str.Parse.{IsDigitsTest, FoldsDigits, IsNumeralModel, numerals_by_fold}
 use Rattle.std.specs.List.{list_all}
 use Rattle.edi_lex.specs.Bytes.{is_digit}
-use Rattle.edi_lex.specs.Spelling.{is_numeral, number_from, number_of}
+use Rattle.edi_lex.specs.Spelling.{number_from, number_of}
+use Rattle.edi_lex.specs.Spelled.{is_numeral}
 use Rattle.edi_lex.proofs.Runs.{both}
 
 abbrev are_digits : List ℕ → Type 0

@@ -9,7 +9,7 @@ use Rattle.std.proofs.lemmas.Bool.Decides.{nat_tests}
 use Rattle.edi_lex.specs.Bytes.{is_digit, is_name_byte, is_string_byte}
 use Rattle.edi_lex.specs.Specials.{special_with}
 use Rattle.edi_lex.specs.Words.{word_of}
-use Rattle.edi_lex.specs.Spelling.{is_name, is_string, is_spelled, are_spelled}
+use Rattle.edi_lex.specs.Spelled.{is_name, is_string, is_spelled, are_spelled}
 use Rattle.edi_lex.specs.Order.{is_orderly}
 use Rattle.edi_lex.specs.Symbols.{piece_of, symbols_from, is_too_long, symbols_of}
 use Rattle.edi_lex.specs.declared.symbol.Symbol.{Symbol}

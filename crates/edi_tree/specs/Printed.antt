@@ -1,4 +1,4 @@
--- Definition. The text that is printed for a tree: its symbols with a blank between two of them. Where the line of a symbol is kept and
+-- Words of contracts. The text that is printed for a tree: its symbols with a blank between two of them. Where the line of a symbol is kept and
 -- is greater than the present one, as many line feeds as lead there stand in place of the blank.
 use Rattle.std.specs.Prelude.{ℕ, ◌-◌, max, nat_lt, Bool, true, false, List, [], ◌∷◌, ◌++◌, replicate, Option, Some, None, if◌then◌else◌, codes, decimal}
 use Rattle.std.specs.Prelude.{unsigned_abs}

@@ -1,4 +1,4 @@
--- Definition. What the printed text of a tree scans to.
+-- Words of contracts. What the printed text of a tree scans to.
 use Rattle.std.specs.Prelude.{ℕ, List, Result, Ok, Err}
 use Rattle.edi_lex.specs.declared.symbol.Mark.{Mark}
 use Rattle.edi_lex.specs.declared.fault.LexFault.{LexFault}

@@ -1,7 +1,7 @@
 -- Definition. When a tree spells the marks of a text, and when marks begin a program.
 use Rattle.std.specs.Prelude.{◌≡◌, ℕ, ◌≤◌, ◌<◌, ◌^◌, true, List, [], ◌∷◌, ◌++◌, Option, Some, None}
 use Rattle.edi_lex.specs.Order.{is_orderly, extent}
-use Rattle.edi_lex.specs.Spelling.{are_spelled}
+use Rattle.edi_lex.specs.Spelled.{are_spelled}
 use Rattle.edi_lex.specs.declared.symbol.Mark.{Mark}
 use Rattle.edi_tree.specs.Tree.{Program}
 use Rattle.edi_tree.specs.Spelled.{Spelled, spelled}

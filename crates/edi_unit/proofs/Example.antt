@@ -3,11 +3,13 @@ use Rattle.std.proofs.Common.{◌≡◌, ℕ, zero, suc, ◌<◌, [], ◌∷◌,
 use Rattle.std.specs.Prelude.{None, All, slice_index}
 use Rattle.edi_unit.specs.declared.expressions.Callee.TheVariants as callee
 use Rattle.edi_unit.specs.declared.units.Parameter.TheVariants as slot
-use Rattle.edi_unit.specs.Types.{standard_types, shape_at, IsDeclarable, IsTypeTable}
+use Rattle.edi_unit.specs.Types.{standard_types, shape_at}
+use Rattle.edi_unit.specs.TypeTables.{IsDeclarable, IsTypeTable}
 use Rattle.edi_unit.specs.Tree.{constant, by_value, no_argument, argument_then, call, no_act, act_then, ProgramUnit}
 use Rattle.edi_unit.specs.Need.{slots, block_at}
 use Rattle.edi_unit.specs.Rows.{displaying}
-use Rattle.edi_unit.specs.Fits.{Fits, SlotIsKnown, BlockFits, CallsFit, Heading, heading, value_then, no_formal, heading_formals, IsCall, display, ShapeFits}
+use Rattle.edi_unit.specs.Fits.{Fits, SlotIsKnown, BlockFits, CallsFit, IsCall, display, ShapeFits}
+use Rattle.edi_unit.specs.Headings.{Heading, heading, value_then, no_formal, heading_formals}
 
 abbrev pub showing : ProgramUnit
 showing = record {

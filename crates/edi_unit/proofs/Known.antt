@@ -6,7 +6,8 @@ use Rattle.edi_unit.specs.declared.expressions.Operator.{Operator}
 use Rattle.edi_unit.specs.declared.expressions.Operator.TheVariants as op
 use Rattle.edi_unit.specs.declared.units.Parameter.{Parameter}
 use Rattle.edi_unit.specs.declared.units.Parameter.TheVariants as slot
-use Rattle.edi_unit.specs.Types.{Shape, record_of, array_of, shape_at, int_type, fields_of, named_types, AreDeclared}
+use Rattle.edi_unit.specs.Types.{Shape, record_of, array_of, shape_at, int_type, fields_of}
+use Rattle.edi_unit.specs.TypeTables.{named_types, AreDeclared}
 use Rattle.edi_unit.specs.Need.{slot_type, slot_result, element_type, operator_type}
 use Rattle.edi_unit.specs.Fits.{is_variable, SlotIsKnown}
 use Rattle.edi_unit.proofs.Tables.{length-before}

@@ -8,8 +8,10 @@ use Rattle.std.proofs.lemmas.List.{take-append-drop, take-append-le, length-take
 use Rattle.std.proofs.Math.ListN.{get_or-append, get_or-eq_default}
 use Rattle.std.proofs.Math.Seq.{get_or-append_seam, take-append_seam}
 use Rattle.edi_unit.proofs.Entries.{length-entries, entries-append, entries-before, entries-at}
-use Rattle.edi_unit.specs.Types.{Shape, int, char, bool, enumeration, record_of, array_of, set_of, shape_at, shape_size, element_count, named_types, size}
-use Rattle.edi_unit.specs.Types.{type_sizes, greatest_size, field_type, fields_of, IsDeclarable, AreDeclared, IsTypeTable}
+use Rattle.edi_unit.specs.Types.{Shape, int, char, bool, enumeration, record_of, array_of, set_of, shape_at, shape_size, element_count, size}
+use Rattle.edi_unit.specs.TypeTables.{named_types}
+use Rattle.edi_unit.specs.Types.{type_sizes, greatest_size, field_type, fields_of}
+use Rattle.edi_unit.specs.TypeTables.{IsDeclarable, AreDeclared, IsTypeTable}
 
 pub length-type_sizes : (types : List Shape) → length (type_sizes types) ≡ length types
 length-type_sizes types = length-entries shape_size 0 [] types ∙ omega arith

@@ -4,8 +4,10 @@ use Rattle.std.specs.Prelude.{All, map, replicate, true}
 use Rattle.std.proofs.lemmas.Int.{ints}
 use Rattle.edi_unit.proofs.Entries.{entries-before, entries-at}
 use Rattle.edi_unit.proofs.Tables.{types-split, length-before}
-use Rattle.edi_unit.specs.Types.{Shape, int, char, bool, enumeration, record_of, array_of, set_of, shape_at, element_count, named_types, is_ordinal_of}
-use Rattle.edi_unit.specs.Types.{has_parts, is_set_shape, part_types, IsTypeTable}
+use Rattle.edi_unit.specs.Types.{Shape, int, char, bool, enumeration, record_of, array_of, set_of, shape_at, element_count, is_ordinal_of}
+use Rattle.edi_unit.specs.TypeTables.{named_types}
+use Rattle.edi_unit.specs.Types.{is_set_shape}
+use Rattle.edi_unit.specs.TypeTables.{has_parts, part_types, IsTypeTable}
 use Rattle.edi_unit.specs.Values.{Value, ordinal, compound, values, shape_zero, zero_value, IsOf, AreOf}
 use Rattle.edi_unit.specs.Fits.{ShapeFits, ShapesFit}
 

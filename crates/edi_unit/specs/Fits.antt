@@ -1,4 +1,4 @@
--- Definition. What the checks of a program's text have made sure of: a unit that fits can be run and translated, and nothing in it
+-- Words of contracts. What the checks of a program have made sure of: a unit that fits can be run and translated, and nothing in it
 -- names what is not there.
 use Rattle.std.specs.Prelude.{◌≡◌, ◌≢◌, ℕ, suc, ◌<◌, ◌≤◌, ◌^◌, pos, Bool, true, false, ◌||◌, ◌==◌, IsTrue, IsSome, List, [], ◌∷◌, length, slice_index, All}
 use Rattle.std.specs.Prelude.{AllPairs, Option, Some, None}
@@ -11,12 +11,14 @@ use Rattle.edi_unit.specs.declared.units.Parameter.TheVariants as slot
 use Rattle.edi_unit.specs.declared.units.BlockKind.{BlockKind}
 use Rattle.edi_unit.specs.declared.units.BlockKind.TheVariants as kind
 use Rattle.edi_unit.specs.Types.{Shape, array_of, record_of, set_of, int, char, bool, enumeration, shape_at, int_type, char_type, bool_type, field_type}
-use Rattle.edi_unit.specs.Types.{part_types, is_elementary, is_ordinal_of, is_set_shape, greatest_size, IsTypeTable}
+use Rattle.edi_unit.specs.Types.{is_elementary, is_ordinal_of, is_set_shape, greatest_size}
+use Rattle.edi_unit.specs.TypeTables.{part_types, IsTypeTable}
 use Rattle.edi_unit.specs.Tree.{Expression, constant, load, not_of, sign_of, chain, make, convert, apply_of, Expressions, no_expression, expression_then}
 use Rattle.edi_unit.specs.Tree.{link, Links, no_link, link_then, Place, place, Part, field, index, Parts, no_part, part_then, by_value, by_variable}
 use Rattle.edi_unit.specs.Tree.{by_procedure, Arguments, no_argument, argument_then, Act, skip, assign, call, halt, if_act, while_act, when_act, cobegin}
 use Rattle.edi_unit.specs.Tree.{Acts, no_act, act_then, Clause, clause, Clauses, no_clause, clause_then, Block, ProgramUnit}
 use Rattle.edi_unit.specs.Need.{block_at, outer, slot_at, slot_type, slots, part_type, operator_type, callee_result, place_type, expression_type, need}
+use Rattle.edi_unit.specs.Headings.{Formals, Heading, heading, heading_formals, heading_result, no_formal, procedure_then, value_then, variable_then}
 
 -- ---- types
 
@@ -32,23 +34,6 @@ abbrev pub ShapesFit : List Shape → Type 0
 ShapesFit types = (t : ℕ) → t < length types → ShapeFits types (shape_at types t)
 
 -- ---- headings
-
--- what a heading asks of a call: a value, a variable or a procedure for each parameter; and the type of a result
-mutual
-  pub data Heading : Type 0 where
-    heading : Formals → (result : Option ℕ) → Heading
-
-  pub data Formals : Type 0 where
-    no_formal : Formals
-    value_then : (of : ℕ) → Formals → Formals
-    variable_then : (of : ℕ) → Formals → Formals
-    procedure_then : Heading → Formals → Formals
-
-abbrev pub heading_result : Heading → Option ℕ
-heading_result (heading formals result) = result
-
-abbrev pub heading_formals : Heading → Formals
-heading_formals (heading formals result) = formals
 
 -- the parameters as a heading, where a procedure parameter has the heading of its variable; they are numbered from n
 abbrev pub formals_from : (ℕ → Heading) → ℕ → List Parameter → Formals

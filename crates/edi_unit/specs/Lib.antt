@@ -1,10 +1,12 @@
 pub mod Lists
 pub mod Types
+pub mod TypeTables
 pub mod ShapeView
 pub mod Values
 pub mod Tree
 pub mod View
 pub mod Need
+pub mod Headings
 pub mod Fits
 pub mod Laws
 pub mod Rows

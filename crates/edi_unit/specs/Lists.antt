@@ -1,4 +1,4 @@
--- Definition. The lists of which types, trees and units are made.
+-- Words of contracts. The lists of which types, trees and units are made.
 use Rattle.std.specs.Prelude.{List}
 use Rattle.edi_unit.specs.declared.lists.List as code
 

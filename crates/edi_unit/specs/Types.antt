@@ -1,7 +1,7 @@
 -- Definition. Types by number. A table lists what each type is; types 0, 1 and 2 are `int`, `char` and `bool`, and the declared
 -- types follow. A type names earlier types by their numbers.
-use Rattle.std.specs.Prelude.{◌≡◌, ℕ, ◌*◌, ◌<◌, ◌≤◌, ◌^◌, ℤ, pos, negsuc, ◌+ℤ◌, ◌-ℤ◌, ◌≤ℤ◌, int_le, Bool, true, false, ◌&&◌, IsTrue, List, [], ◌∷◌, ◌++◌}
-use Rattle.std.specs.Prelude.{sum_by, replicate, length, take, All, Option, slice_get, slice_index_or}
+use Rattle.std.specs.Prelude.{ℕ, ◌*◌, ℤ, pos, negsuc, ◌+ℤ◌, ◌-ℤ◌, int_le, Bool, true, false, ◌&&◌, List, [], ◌∷◌, ◌++◌}
+use Rattle.std.specs.Prelude.{sum_by, Option, slice_get, slice_index_or}
 
 -- what a type is
 pub data Shape : Type 0 where
@@ -81,18 +81,6 @@ fields_of _ = []
 abbrev pub field_type : List Shape → ℕ → ℕ → Option ℕ
 field_type types t i = slice_get (fields_of (shape_at types t)) i
 
--- the types of the parts of a value: the fields of a record, the elements of an array; no other value has parts
-abbrev pub part_types : Shape → List ℕ
-part_types (record_of fs) = fs
-part_types (array_of i lo hi e) = replicate (element_count lo hi) e
-part_types _ = []
-
--- records and arrays consist of parts
-abbrev pub has_parts : Shape → Bool
-has_parts (record_of fs) = true
-has_parts (array_of i lo hi e) = true
-has_parts _ = false
-
 abbrev pub is_set_shape : Shape → Bool
 is_set_shape (set_of b) = true
 is_set_shape _ = false
@@ -127,43 +115,6 @@ size types t = slice_index_or (type_sizes types) t 0
 
 -- ---- well-formed tables
 
--- the types that a type names
-abbrev pub named_types : Shape → List ℕ
-named_types (record_of fs) = fs
-named_types (array_of i lo hi e) = i ∷ e ∷ []
-named_types (set_of b) = b ∷ []
-named_types _ = []
-
--- those of them that have to be elementary: an array's index and a set's base
-abbrev pub ordinal_types : Shape → List ℕ
-ordinal_types (array_of i lo hi e) = i ∷ []
-ordinal_types (set_of b) = b ∷ []
-ordinal_types _ = []
-
--- the lower bound of an array is not above the upper one
-abbrev pub HasOrderedBounds : Shape → Type 0
-HasOrderedBounds (array_of i lo hi e) = lo ≤ℤ hi
-HasOrderedBounds _ = Unit {0}
-
 -- the greatest size that a type may have
 abbrev pub greatest_size : ℕ
 greatest_size = 65535
-
--- what may be declared behind the types of a table: it names known types, elementary ones where ordinals count, its
--- bounds are in order, and it takes at most 65,535 words
-pub record IsDeclarable (types : List Shape) (shape : Shape) : Type 0 where
-  pub known : All (λ t. t < length types) (named_types shape)
-  pub elementary : All (λ t. IsTrue (is_elementary types t)) (ordinal_types shape)
-  pub ordered : HasOrderedBounds shape
-  pub small : shape_size (size types) shape ≤ greatest_size
-
--- each type of the table could be declared behind the types before it
-abbrev pub AreDeclared : List Shape → Type 0
-AreDeclared types = (t : ℕ) → t < length types → IsDeclarable (take t types) (shape_at types t)
-
--- a table of types begins with the standard ones, and its numbers are below 2 ^ 32 - 1
-pub record IsTypeTable (types : List Shape) : Type 0 where
-  pub three : 3 ≤ length types
-  pub standard : take 3 types ≡ standard_types
-  pub declared : AreDeclared types
-  pub bounded : length types < 2 ^ 32

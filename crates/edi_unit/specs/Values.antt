@@ -3,11 +3,14 @@ use Rattle.std.specs.Prelude.{ℕ, ℤ, pos, negsuc, ◌-ℤ◌, int_le, int_lt,
 use Rattle.std.specs.Prelude.{◌∷◌, map, replicate, slice_index_or, Option, Some, None, option_map}
 use Rattle.std.specs.Ordering.{int_eq}
 use Rattle.edi_word.specs.Integers.{int_sum, int_difference, int_product, int_quotient, int_remainder}
-use Rattle.edi_word.specs.Sets.{IsOrdinalSet, set_has_int, with_member, set_union, set_minus, set_meet}
+use Rattle.edi_word.specs.Sets.{set_has_int, with_member, set_union, set_minus, set_meet}
+use Rattle.edi_word.specs.SetWords.{IsOrdinalSet}
 use Rattle.edi_unit.specs.declared.expressions.Operator.{Operator}
 use Rattle.edi_unit.specs.declared.expressions.Operator.TheVariants as op
-use Rattle.edi_unit.specs.Types.{Shape, int, char, bool, enumeration, record_of, array_of, set_of, shape_at, is_ordinal_of, element_count, part_types}
-use Rattle.edi_unit.specs.Types.{has_parts, is_set_shape, natural, entries}
+use Rattle.edi_unit.specs.Types.{Shape, int, char, bool, enumeration, record_of, array_of, set_of, shape_at, is_ordinal_of, element_count}
+use Rattle.edi_unit.specs.TypeTables.{part_types}
+use Rattle.edi_unit.specs.Types.{is_set_shape, natural, entries}
+use Rattle.edi_unit.specs.TypeTables.{has_parts}
 
 mutual
   pub data Value : Type 0 where

@@ -1,7 +1,8 @@
 //! Laws of the definitions. Each function does nothing, and its contract is the law.
 
 ghost use Rattle.std.specs.Prelude.{◌≡◌, ℕ, ◌<◌, List, length};
-ghost use Rattle.edi_unit.specs.Types.{Shape, IsTypeTable, shape_at, shape_size, size};
+ghost use Rattle.edi_unit.specs.Types.{Shape, shape_at, shape_size, size};
+ghost use Rattle.edi_unit.specs.TypeTables.{IsTypeTable};
 ghost use Rattle.edi_unit.specs.Tree.{ProgramUnit};
 ghost use Rattle.edi_unit.specs.Values.{IsOf, shape_zero, zero_value};
 ghost use Rattle.edi_unit.specs.Fits.{Fits, ShapesFit};

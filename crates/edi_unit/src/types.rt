@@ -4,8 +4,10 @@ ghost use Rattle.std.specs.Prelude.{◌≡◌, ◌-◌, ◌^◌, ◌<◌, ◌≤
 ghost use Rattle.std.specs.Prelude.{All, IfOk, IfSome, IsTrue, OnErr, OnOk, length, min, slice_index, sum_by};
 ghost use Rattle.edi_unit.specs.Lists.{list_items};
 ghost use Rattle.edi_unit.specs.ShapeView.{shape_of};
-ghost use Rattle.edi_unit.specs.Types.{array_of, element_count, field_type, greatest_size, is_elementary, named_types, record_of, set_of};
-ghost use Rattle.edi_unit.specs.Types.{HasOrderedBounds, IsDeclarable, IsTypeTable, shape_at, shape_size, size, standard_types};
+ghost use Rattle.edi_unit.specs.Types.{array_of, element_count, field_type, greatest_size, is_elementary, record_of, set_of};
+ghost use Rattle.edi_unit.specs.TypeTables.{named_types};
+ghost use Rattle.edi_unit.specs.Types.{shape_at, shape_size, size, standard_types};
+ghost use Rattle.edi_unit.specs.TypeTables.{HasOrderedBounds, IsDeclarable, IsTypeTable};
 
 use crate::lists::List;
 use std::alloc::{AllocError, Global};
@@ -48,7 +50,8 @@ pub struct TypeTable {
 
 impl Model for TypeTable {
     ghost use Rattle.std.specs.Prelude.{◌≡◌, List, map};
-    ghost use Rattle.edi_unit.specs.Types.{Shape, type_sizes, IsTypeTable};
+    ghost use Rattle.edi_unit.specs.Types.{Shape, type_sizes};
+    ghost use Rattle.edi_unit.specs.TypeTables.{IsTypeTable};
 
     ghost Value = { List Shape };
 

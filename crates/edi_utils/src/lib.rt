@@ -1,10 +1,14 @@
-//! The listing of a code, and the text of the demonstration.
+//! The listing of a code, the text of the demonstration, and the utility programs.
 #![tactic(auto)]
 
 pub mod demonstrated;
 mod demonstration;
+mod kinds;
 mod lines;
 mod names;
+mod utilities;
 
 pub use demonstration::demo;
+pub use kinds::Utility;
 pub use lines::listing;
+pub use utilities::utility;

@@ -1,7 +1,7 @@
 -- Names before arguments.
 use Rattle.std.proofs.Common.{◌≡◌, ℕ, ◌++◌, Result, refl, subst}
 use Rattle.edi_tree.specs.Tree as text
-use Rattle.edi_unit.specs.Fits.{heading_formals}
+use Rattle.edi_unit.specs.Headings.{heading_formals}
 use Rattle.edi_unit.specs.Tree.{argument_then}
 use Rattle.edi_unit.specs.Types.{shape_at}
 use Rattle.edi_static.specs.declared.faults.StaticFault.{StaticFault}

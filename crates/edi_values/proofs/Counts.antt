@@ -4,7 +4,7 @@ use Rattle.std.proofs.lemmas.List.{length-map}
 use Rattle.edi_tree.specs.declared.expressions.Expr as code_expr
 use Rattle.edi_tree.specs.Tree.{Expr}
 use Rattle.edi_tree.specs.View.{exprs, expr_of}
-use Rattle.edi_unit.specs.Fits.{Formals, no_formal}
+use Rattle.edi_unit.specs.Headings.{Formals, no_formal}
 use Rattle.edi_static.specs.declared.headings.Formal as code_formal
 use Rattle.edi_static.specs.Environment.{formals_count, same_formals}
 use Rattle.edi_static.specs.Expressions.{exprs_count}

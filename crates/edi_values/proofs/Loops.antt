@@ -9,7 +9,7 @@ use Rattle.edi_tree.specs.Tree as text
 use Rattle.edi_tree.specs.View as see
 use Rattle.edi_tree.specs.View.{addend_of, multiplier_of, selector_of, expr_of}
 use Rattle.edi_unit.specs.declared.expressions.Argument as code_argument
-use Rattle.edi_unit.specs.Fits.{Formals}
+use Rattle.edi_unit.specs.Headings.{Formals}
 use Rattle.edi_unit.specs.Tree.{Arguments, argument_then, Link, Links, no_link, link_then, Part, Parts}
 use Rattle.edi_unit.specs.View as unit_see
 use Rattle.edi_unit.specs.View.{argument_of, arguments_of}

@@ -3,7 +3,7 @@ use Rattle.std.specs.Prelude.{ℕ, Bool, ◌==◌, if◌then◌else◌, List, �
 use Rattle.edi_tree.specs.declared.expressions.Relation.{Relation}
 use Rattle.edi_tree.specs.Tree as text
 use Rattle.edi_unit.specs.Types.{bool_type, shape_at}
-use Rattle.edi_unit.specs.Fits.{heading_formals}
+use Rattle.edi_unit.specs.Headings.{heading_formals}
 use Rattle.edi_unit.specs.Tree as unit
 use Rattle.edi_static.specs.declared.faults.StaticKind.TheVariants as kind
 use Rattle.edi_static.specs.Judged.{Judged, gives, ◌>>=◌, must}

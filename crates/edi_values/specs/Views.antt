@@ -1,6 +1,6 @@
 -- Words of contracts. The plain data for which the values of the code stand.
 use Rattle.std.specs.Prelude.{Option, Some, None, option_copied}
-use Rattle.edi_unit.specs.Fits.{Heading}
+use Rattle.edi_unit.specs.Headings.{Heading}
 use Rattle.edi_unit.specs.View.{links_of, parts_of, place_of}
 use Rattle.edi_static.specs.declared.headings.Asked as code_asked
 use Rattle.edi_static.specs.Environment.{no_heading}

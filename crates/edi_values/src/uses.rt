@@ -2,7 +2,7 @@
 
 ghost use Rattle.std.specs.Prelude.{◌≡◌, ◌&&◌, not, map, option_copied};
 ghost use Rattle.edi_scope.specs.declared.entity.Entity.TheVariants as entity;
-ghost use Rattle.edi_unit.specs.Fits.{heading_formals, no_formal};
+ghost use Rattle.edi_unit.specs.Headings.{heading_formals, no_formal};
 ghost use Rattle.edi_unit.specs.Need.{block_at};
 ghost use Rattle.edi_static.specs.Prelude.{JudgedAnswers, argument_of, asked_of, environment, formal_of, gives, list_items};
 ghost use Rattle.edi_static.specs.Environment.{heading_at, no_heading, same_formals, same_heading};

@@ -7,8 +7,9 @@ use Rattle.edi_calls.specs.Names.{Name, same, find}
 use Rattle.edi_calls.specs.Ready.{has, Next, stays, joins, Taking, nobody, taking, take_next}
 use Rattle.edi_calls.proofs.Tables.{same-refl, same-or-other}
 use Rattle.edi_unit.specs.Tree.{ProgramUnit}
-use Rattle.edi_meaning.specs.Step.{is_running_process, Process, Processes, Stepped, went, ended, step, start, may_step, Led, at, over, nowhere, onward}
-use Rattle.edi_meaning.specs.Step.{permitted}
+use Rattle.edi_meaning.specs.Step.{Process, Processes, Stepped, went, ended, step, start}
+use Rattle.edi_meaning.specs.Permitted.{is_running_process, may_step, Led, at, over, nowhere, onward}
+use Rattle.edi_meaning.specs.Permitted.{permitted}
 use Rattle.edi_meaning.specs.Select.{Selected, unfinished, finished, stepped_first}
 use Rattle.edi_meaning.proofs.Family.{Fresh, start_fresh}
 use Rattle.edi_meaning.proofs.Sound.{Each, EachTaken, each_next, has-append, once-append}

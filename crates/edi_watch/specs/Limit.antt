@@ -1,4 +1,4 @@
--- Definition. How many bytes of a file of points decide how it is read.
+-- Words of contracts. How many bytes of a file of points decide how it is read.
 use Rattle.std.specs.Prelude.{◌≡◌, ℕ, List, take}
 use Rattle.edi_tree.specs.Tree.{Program}
 use Rattle.edi_debug.specs.Points.{read_of}

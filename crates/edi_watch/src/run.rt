@@ -5,7 +5,7 @@ ghost use Rattle.edi_told.specs.Faults.{CountRose};
 ghost use Rattle.edi_told.specs.Told.{WhereTold};
 ghost use Rattle.edi_static.specs.Programs.{Sound};
 ghost use Rattle.edi_scheme.specs.Laws.{parts_of};
-ghost use Rattle.edi_catalog.specs.Taken.{IsOfCount};
+ghost use Rattle.edi_catalog.specs.Counted.{IsOfCount};
 ghost use Rattle.edi_image.specs.Image.{mount_fault_of};
 ghost use Rattle.edi_image.specs.Finds.{IsFirst};
 ghost use Rattle.edi_system.specs.Parts.{ToldStays, due_after};

@@ -2,7 +2,8 @@
 use Rattle.std.proofs.Common.{◌≡◌, [], ◌∷◌, refl}
 use Rattle.std.specs.Prelude.{Some, None, false}
 use Rattle.edi_word.specs.Words.{word_add, word_sub, word_mul, word_div, word_modulo}
-use Rattle.edi_word.specs.Sets.{members_where, words_where, members_of, words_of_members, set_union, words_have}
+use Rattle.edi_word.specs.Sets.{members_where, set_union}
+use Rattle.edi_word.specs.SetWords.{words_where, members_of, words_of_members, words_have}
 
 -- 32767 + 1, and 32767 + -1
 top_sum : word_add 32767 1 ≡ None

@@ -11,9 +11,11 @@ use Rattle.std.proofs.lemmas.List.Elements.{All-from_get_or, All-set}
 use Rattle.std.proofs.lemmas.List.{get_or-set_same, get_or-set_other, length-set}
 use Rattle.std.proofs.lemmas.Nat.{or_lt, and_le_l, pow_below}
 use Rattle.std.proofs.lemmas.Nat.Bits.{bit_at-lt, bit_at_and, bit_at_or, bit_at_not, bit_at-pow_same, bit_at-pow_other, shr_and_one}
-use Rattle.edi_word.specs.Sets.{IsIncreasingFrom, IsOrdinalSet, set_has, set_has_int, members_where, with_member, set_union, set_minus, set_meet, word_has}
-use Rattle.edi_word.specs.Sets.{members_of, words_of_members, each_word, words_with, words_union, words_minus, words_meet, AreSetWords, words_have}
-use Rattle.edi_word.specs.Sets.{ViewsAreOne, ViewsAgree, ViewsAgreeOnWith, ViewsAgreeOnHas}
+use Rattle.edi_word.specs.Sets.{set_has, set_has_int, members_where, with_member, set_union, set_minus, set_meet, word_has}
+use Rattle.edi_word.specs.SetWords.{IsIncreasingFrom, IsOrdinalSet}
+use Rattle.edi_word.specs.Sets.{each_word, words_with, words_union, words_minus, words_meet}
+use Rattle.edi_word.specs.SetWords.{members_of, words_of_members, AreSetWords, words_have}
+use Rattle.edi_word.specs.SetWords.{ViewsAreOne, ViewsAgree, ViewsAgreeOnWith, ViewsAgreeOnHas}
 use Rattle.edi_word.specs.SetViews.{AreSetWords-words_where, set_has-members_where, word_has-words_where, words_of_members-members_of}
 
 -- ---- lists of members

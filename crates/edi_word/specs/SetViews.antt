@@ -11,7 +11,8 @@ use Rattle.std.proofs.lemmas.List.FromFn.{get_or-map-range_with_len, length-map-
 use Rattle.std.proofs.lemmas.Nat.{div-mul-add, mod-mul-add, div-add-mod'}
 use Rattle.std.proofs.lemmas.Nat.Bits.{bit_at-lt, bit_at_cat_low, bit_at_cat_high, same_from_bits_below}
 use Rattle.std.proofs.Math.Nat.{pow-suc}
-use Rattle.edi_word.specs.Sets.{set_has, members_where, word_has, members_of, bits_where, words_where, words_of_members, AreSetWords}
+use Rattle.edi_word.specs.Sets.{set_has, members_where, word_has}
+use Rattle.edi_word.specs.SetWords.{members_of, bits_where, words_where, words_of_members, AreSetWords}
 
 -- ---- the members of which a test holds
 

@@ -1,23 +1,8 @@
 //! Sets of ordinals 0 to 127.
 
 ghost use Rattle.std.specs.Prelude.{◌≡◌, ◌≤◌, []};
-ghost use Rattle.edi_word.specs.Sets.{
-  IsOrdinalSet,
-  members_of,
-  words_of_members,
-  set_has_int,
-  with_member,
-  set_union,
-  set_minus,
-  set_meet,
-  words_union,
-  words_minus,
-  words_meet,
-  ViewsAreOne,
-  ViewsAgree,
-  ViewsAgreeOnWith,
-  ViewsAgreeOnHas,
-};
+ghost use Rattle.edi_word.specs.Sets.{set_has_int, with_member, set_union, set_minus, set_meet, words_union, words_minus, words_meet};
+ghost use Rattle.edi_word.specs.SetWords.{IsOrdinalSet, members_of, words_of_members, ViewsAreOne, ViewsAgree, ViewsAgreeOnWith, ViewsAgreeOnHas};
 
 use std::array;
 use std::marker::Model;
@@ -29,7 +14,7 @@ pub struct Members([u16; 8]);
 
 impl Model for Members {
     ghost use Rattle.std.specs.Prelude.{ℕ, List};
-    ghost use Rattle.edi_word.specs.Sets.{members_of, words_of_members, AreSetWords};
+    ghost use Rattle.edi_word.specs.SetWords.{members_of, words_of_members, AreSetWords};
     ghost use Rattle.edi_word.specs.SetViews.{words_of_members-members_of};
 
     ghost Value = { List ℕ };

@@ -3,7 +3,7 @@ use Rattle.std.proofs.Common.{◌≡◌, ◌≤◌, ◌*◌, ℕ, Bool, true, fa
 use Rattle.std.proofs.Common.{IsSome, option_map, refl, sym, subst, inl, inr}
 use Rattle.std.specs.Prelude.{⊤, ◌||◌, not, is_none}
 use Rattle.edi_told.specs.Told.{WhereTold}
-use Rattle.edi_host.specs.Files.{Contents}
+use Rattle.edi_host.specs.Contents.{Contents}
 use Rattle.edi_calls.specs.Choice.{Choices}
 use Rattle.edi_image.specs.declared.faults.MountFault.{MountFault}
 use Rattle.edi_session.specs.declared.end.SessionEnd.{SessionEnd}
@@ -21,7 +21,8 @@ use Rattle.edi_statuses.specs.Steps.{goes, stops, Mounts, ReadsChoices, ChoicesA
 use Rattle.edi_statuses.specs.Executions.{record_of, StandsAt}
 use Rattle.edi_statuses.specs.Commands.{IsNothing}
 use Rattle.edi_statuses.specs.EachObject.{MayBeImage, is_in_file}
-use Rattle.edi_statuses.specs.Means.{Came, MeansOf}
+use Rattle.edi_statuses.specs.Means.{MeansOf}
+use Rattle.edi_statuses.specs.Decided.{Came}
 use Rattle.edi_statuses.specs.Sessions.{BootSteps, BrokeSession, HasEnded, EndedWhole, HoldsSession, SessionEnded, session_status, shell_on}
 use Rattle.edi_commands.specs.steps.OnFiles.{ChoicesStep, RecordEnd, RecordStep, files_only}
 use Rattle.edi_commands.specs.steps.NotMounted.{mount_status}

@@ -8,7 +8,8 @@ use Rattle.edi_calls.specs.Calls.{is_protected, open_slot, slot_for}
 use Rattle.edi_image.specs.Image.{slots_of}
 use Rattle.edi_catalog.specs.declared.ends.CatEnd.{CatEnd}
 use Rattle.edi_catalog.specs.declared.ends.CatEnd.TheVariants as cat
-use Rattle.edi_catalog.specs.InSlots.{free_in, no_room}
+use Rattle.edi_catalog.specs.InSlots.{free_in}
+use Rattle.edi_catalog.specs.Refusing.{no_room}
 use Rattle.edi_statuses.specs.Commands.{is_full}
 use Rattle.edi_commands.proofs.disk.Slots.{release, release_has_slot, release_opens, released_taken}
 

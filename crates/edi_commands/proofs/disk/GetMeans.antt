@@ -4,7 +4,8 @@ use Rattle.std.specs.Option.{option_map}
 use Rattle.std.specs.FinMap as map
 use Rattle.edi_told.specs.Faults.{CountRose}
 use Rattle.edi_told.specs.Told.{WhereTold}
-use Rattle.edi_host.specs.Files.{Contents, KeepLeaves}
+use Rattle.edi_host.specs.Files.{KeepLeaves}
+use Rattle.edi_host.specs.Contents.{Contents}
 use Rattle.edi_host.specs.declared.files.KeepEnd.{KeepEnd}
 use Rattle.edi_host.specs.declared.files.KeepEnd.TheVariants as keep
 use Rattle.edi_calls.specs.State.{File, find_file}

@@ -2,7 +2,7 @@
 use Rattle.std.proofs.Common.{◌≡◌, ◌∙◌, inl, inr, ℕ, List, [], length, Option, Some, None, Err, refl}
 use Rattle.std.specs.Prelude.{IfSome}
 use Rattle.edi_told.specs.Told.{WhereTold}
-use Rattle.edi_host.specs.Files.{Contents}
+use Rattle.edi_host.specs.Contents.{Contents}
 use Rattle.edi_catalog.specs.Ends.{FormatCounts, FormatLeaves}
 use Rattle.edi_catalog.specs.declared.formatting.FormatEnd.{FormatEnd}
 use Rattle.edi_catalog.specs.declared.formatting.FormatEnd.TheVariants as format

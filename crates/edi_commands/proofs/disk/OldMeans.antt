@@ -5,8 +5,8 @@ use Rattle.std.specs.FinMap as map
 use Rattle.std.proofs.lemmas.Bool.{le-leb}
 use Rattle.std.proofs.lemmas.Bool.Decides.{leb_tells}
 use Rattle.edi_told.specs.Told.{WhereTold}
-use Rattle.edi_host.specs.Blocks.{blocks_of}
-use Rattle.edi_host.specs.Files.{Contents}
+use Rattle.edi_host.specs.BytesAsBlocks.{blocks_of}
+use Rattle.edi_host.specs.Contents.{Contents}
 use Rattle.edi_calls.specs.State as calls
 use Rattle.edi_image.specs.declared.faults.MountFault.{MountFault}
 use Rattle.edi_image.specs.declared.faults.MountFault.TheVariants as mount

@@ -9,8 +9,9 @@ use Rattle.edi_image.specs.Image.{Holds, slots_of}
 use Rattle.edi_catalog.specs.declared.ends.CatEnd.{CatEnd}
 use Rattle.edi_catalog.specs.declared.ends.CatEnd.TheVariants as cat
 use Rattle.edi_catalog.specs.Changes.{Leaves}
-use Rattle.edi_catalog.specs.InSlots.{SlotsAnswer, free_in, no_room}
-use Rattle.edi_catalog.specs.Storing.{slots_stored}
+use Rattle.edi_catalog.specs.InSlots.{SlotsAnswer, free_in}
+use Rattle.edi_catalog.specs.Refusing.{no_room}
+use Rattle.edi_catalog.specs.SlotsStored.{slots_stored}
 use Rattle.edi_statuses.specs.Commands.{is_full, kind_of_bytes, put_in, released}
 use Rattle.edi_commands.specs.disk.OnDrive.{StoresOver, stands}
 use Rattle.edi_commands.proofs.disk.Slots.{released_same}

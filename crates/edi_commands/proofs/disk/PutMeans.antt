@@ -7,7 +7,7 @@ use Rattle.std.proofs.lemmas.Bool.{le-leb}
 use Rattle.std.proofs.lemmas.Bool.Decides.{leb_tells}
 use Rattle.std.specs.FinMap as map
 use Rattle.edi_told.specs.Told.{WhereTold}
-use Rattle.edi_host.specs.Files.{Contents}
+use Rattle.edi_host.specs.Contents.{Contents}
 use Rattle.edi_calls.specs.State.{most_bytes}
 use Rattle.edi_image.specs.Image.{mount_fault_of}
 use Rattle.edi_words.specs.Words.{put}

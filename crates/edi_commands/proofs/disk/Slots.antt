@@ -6,7 +6,7 @@ use Rattle.std.proofs.lemmas.List.{get_or-set_same, set-get_or}
 use Rattle.edi_calls.specs.State.{File, blocks_in, blocks_taken, find_file, find_slot, first_index, is_titled, slot_at}
 use Rattle.edi_calls.specs.Calls.{is_protected, slot_for}
 use Rattle.edi_calls.proofs.Indices.{first_index-found}
-use Rattle.edi_catalog.specs.Changes.{changed_at, file_protected, slots_changed}
+use Rattle.edi_catalog.specs.SlotsChanged.{changed_at, file_protected, slots_changed}
 
 -- ---- one slot is changed
 

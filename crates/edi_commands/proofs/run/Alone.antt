@@ -4,7 +4,7 @@ use Rattle.std.proofs.Common.{Option, Some, None, Err, map, refl, sym, ap, subst
 use Rattle.std.specs.Prelude.{⊤}
 use Rattle.edi_told.specs.Told.{WhereTold}
 use Rattle.edi_host.specs.Blocks.{block_of}
-use Rattle.edi_host.specs.Files.{Contents}
+use Rattle.edi_host.specs.Contents.{Contents}
 use Rattle.edi_calls.specs.Choice.{Choices}
 use Rattle.edi_target.specs.Check.{CodeParts}
 use Rattle.edi_texts.specs.Run.{IsCodeFor}

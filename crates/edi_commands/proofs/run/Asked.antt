@@ -4,8 +4,8 @@ use Rattle.edi_calls.specs.declared.ends.Outside as failing
 use Rattle.edi_calls.specs.declared.ends.Outside.TheVariants as object
 use Rattle.edi_calls.specs.Outcome as outcome
 use Rattle.edi_calls.specs.Outcome.{Ending}
-use Rattle.edi_catalog.specs.Taken.{IsOfCount}
-use Rattle.edi_host.specs.Files.{Contents}
+use Rattle.edi_catalog.specs.Counted.{IsOfCount}
+use Rattle.edi_host.specs.Contents.{Contents}
 use Rattle.edi_image.specs.declared.faults.MountFault.{MountFault}
 use Rattle.edi_trace.specs.Drawn.{Drawn}
 use Rattle.edi_statuses.specs.declared.status.Status.{Status}

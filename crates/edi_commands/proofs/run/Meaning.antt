@@ -15,7 +15,8 @@ use Rattle.edi_statuses.specs.Steps.{AfterStep, goes, stops, Mounts}
 use Rattle.edi_statuses.specs.Executions.{Runnable, status_of}
 use Rattle.edi_statuses.specs.Commands.{Comes, Does, Runs}
 use Rattle.edi_statuses.specs.Broken.{AtRecord}
-use Rattle.edi_statuses.specs.Means.{Came, Far, MeansOf, Wants}
+use Rattle.edi_statuses.specs.Means.{Far, MeansOf, Wants}
+use Rattle.edi_statuses.specs.Decided.{Came}
 use Rattle.edi_commands.specs.run.CodeRan.{CodeRan}
 use Rattle.edi_commands.specs.run.RunMeans.{RunMeans, replaying}
 

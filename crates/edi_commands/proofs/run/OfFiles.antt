@@ -2,7 +2,7 @@
 use Rattle.std.proofs.Common.{◌≡◌, ℕ, Bool, false, List, Option, Some, Ok, Err, refl, sym, subst}
 use Rattle.std.specs.Prelude.{⊤, take}
 use Rattle.edi_told.specs.Told.{WhereTold}
-use Rattle.edi_host.specs.Files.{Contents}
+use Rattle.edi_host.specs.Contents.{Contents}
 use Rattle.edi_calls.specs.Choice.{Choices}
 use Rattle.edi_words.specs.Words as words
 use Rattle.edi_words.specs.Words.{ChoicesFrom, Options}
@@ -23,7 +23,7 @@ use Rattle.edi_statuses.specs.Steps.{AfterStep, goes, stops, Fetches, ReadsChoic
 use Rattle.edi_statuses.specs.Executions.{Runnable, text, code}
 use Rattle.edi_statuses.specs.Commands.{RunSteps, ExecSteps}
 use Rattle.edi_statuses.specs.Broken.{ExecAsks, RunAsks}
-use Rattle.edi_statuses.specs.Means.{Came}
+use Rattle.edi_statuses.specs.Decided.{Came}
 use Rattle.edi_commands.specs.steps.OnFiles.{files_only}
 use Rattle.edi_commands.proofs.steps.LoadedFiles.{loads_all, stops_all}
 use Rattle.edi_commands.proofs.steps.Units.{unit_there}

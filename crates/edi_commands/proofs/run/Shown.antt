@@ -5,7 +5,8 @@ use Rattle.std.specs.Prelude.{slice_get, not}
 use Rattle.std.specs.Option.{option_map_or}
 use Rattle.std.proofs.lemmas.List.{take-append-drop}
 use Rattle.edi_told.specs.Told.{WhereTold}
-use Rattle.edi_system.specs.Parts.{due_after, Grows}
+use Rattle.edi_system.specs.Parts.{due_after}
+use Rattle.edi_system.specs.Growing.{Grows}
 use Rattle.edi_statuses.specs.Lines.{is_due, is_due_behind}
 use Rattle.edi_statuses.proofs.Due.{last_at, turned}
 

@@ -5,7 +5,7 @@ use Rattle.edi_calls.specs.declared.ends.Outside as failing
 use Rattle.edi_calls.specs.declared.ends.Outside.TheVariants as object
 use Rattle.edi_calls.specs.Choice.{Choices}
 use Rattle.edi_calls.specs.Outcome as outcome
-use Rattle.edi_host.specs.Files.{Contents}
+use Rattle.edi_host.specs.Contents.{Contents}
 use Rattle.edi_execute.specs.Objects as execute
 use Rattle.edi_execute.specs.Objects.{HasRun, StandsAtMoment}
 use Rattle.edi_image.specs.declared.faults.MountFault.{MountFault}

@@ -3,7 +3,7 @@ use Rattle.std.proofs.Common.{◌≡◌, ◌∙◌, ◌⊎◌, ℕ, Bool, false,
 use Rattle.std.specs.Prelude.{⊤}
 use Rattle.std.specs.FinMap as map
 use Rattle.edi_told.specs.Told.{WhereTold}
-use Rattle.edi_host.specs.Files.{Contents}
+use Rattle.edi_host.specs.Contents.{Contents}
 use Rattle.edi_calls.specs.Choice.{Choices}
 use Rattle.edi_lex.specs.declared.symbol.Mark.{Mark}
 use Rattle.edi_lex.specs.declared.fault.LexFault.{LexFault}
@@ -31,7 +31,8 @@ use Rattle.edi_statuses.specs.Counts.{Counts, HasCause}
 use Rattle.edi_statuses.specs.EachObject.{FitsCount}
 use Rattle.edi_statuses.specs.Steps.{AfterStep, goes, stops, ◌>>=◌, Ready, Fetches, ReadsChoices, FindsPoints, GivesPoints, Mounts}
 use Rattle.edi_statuses.specs.Commands.{PointSteps, WatchSteps}
-use Rattle.edi_statuses.specs.Means.{Came, MeansOf}
+use Rattle.edi_statuses.specs.Means.{MeansOf}
+use Rattle.edi_statuses.specs.Decided.{Came}
 use Rattle.edi_statuses.proofs.EachLeft.{each_same}
 use Rattle.edi_statuses.proofs.Told.{still, shows_nothing, just_told, still_same, till_the_last, in_turn}
 use Rattle.edi_commands.specs.steps.OnFiles.{FetchStep, ChoicesStep, files_only}

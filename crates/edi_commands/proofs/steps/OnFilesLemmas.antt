@@ -2,7 +2,7 @@
 use Rattle.std.proofs.Common.{◌≡◌, ◌∙◌, ℕ, List, take, Result, Ok, Err, IfErr, refl, sym, ap, subst, inl, inr}
 use Rattle.std.specs.Prelude.{◌⊎◌, IfSome, IsSome, Option, None, Some}
 use Rattle.std.specs.FinMap as map
-use Rattle.edi_host.specs.Files.{Contents}
+use Rattle.edi_host.specs.Contents.{Contents}
 use Rattle.edi_trace.specs.Drawn.{Drawn}
 use Rattle.edi_trace.specs.Limit.{most_fetched}
 use Rattle.edi_trace.specs.Lines.{Reading, values, bad_line, read_of}

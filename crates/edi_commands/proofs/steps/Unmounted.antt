@@ -1,7 +1,7 @@
 -- The status of a command whose drive was not mounted.
 use Rattle.std.proofs.Common.{◌≡◌, ℕ, false, refl}
 use Rattle.std.specs.Prelude.{⊤}
-use Rattle.edi_catalog.specs.Taken.{IsOfCount}
+use Rattle.edi_catalog.specs.Counted.{IsOfCount}
 use Rattle.edi_image.specs.declared.faults.MountFault.{MountFault}
 use Rattle.edi_image.specs.declared.faults.MountFault.TheVariants as mount
 use Rattle.edi_statuses.specs.declared.status.Status.{Status}

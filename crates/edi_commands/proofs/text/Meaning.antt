@@ -3,7 +3,8 @@ use Rattle.std.proofs.Common.{◌≡◌, inl, inr, ℕ, List, [], Option, Some, 
 use Rattle.std.specs.Prelude.{IfSome, IsSome}
 use Rattle.std.specs.FinMap as map
 use Rattle.edi_told.specs.Told.{WhereTold}
-use Rattle.edi_host.specs.Files.{Contents, KeepLeaves}
+use Rattle.edi_host.specs.Files.{KeepLeaves}
+use Rattle.edi_host.specs.Contents.{Contents}
 use Rattle.edi_host.specs.declared.files.KeepEnd.TheVariants as keep
 use Rattle.edi_target.specs.File.{code_bytes}
 use Rattle.edi_unit.specs.Tree.{ProgramUnit}

@@ -1,6 +1,6 @@
 -- Words of contracts. What the demonstration answers, whatever the drive and the input are.
 use Rattle.std.specs.Prelude.{◌≡◌, ℕ, Bool, true, false, List, [], Option, Some, Result, Ok, Err}
-use Rattle.edi_host.specs.Files.{Contents}
+use Rattle.edi_host.specs.Contents.{Contents}
 use Rattle.edi_calls.specs.Choice.{Choices}
 use Rattle.edi_lex.specs.Symbols.{symbols_of}
 use Rattle.edi_target.specs.Check.{CodeParts}
@@ -12,7 +12,7 @@ use Rattle.edi_statuses.specs.declared.status.Status.TheVariants as status
 use Rattle.edi_statuses.specs.Counts.{HasCause, counts_with}
 use Rattle.edi_statuses.specs.Outside.{Lent, outside_with}
 use Rattle.edi_statuses.specs.Commands.{count_in}
-use Rattle.edi_statuses.specs.Means.{Came}
+use Rattle.edi_statuses.specs.Decided.{Came}
 use Rattle.edi_commands.specs.run.CodeRan.{RanCode}
 use Rattle.edi_commands.specs.declared.run.demonstration.Demo.{Demo}
 

@@ -1,7 +1,7 @@
 -- Words of contracts. What is left where a program is watched on a drive that is mounted for it, and its log and the record of its choices are kept.
 use Rattle.std.specs.Prelude.{◌≡◌, ◌⊎◌, ℕ, Bool, List, [], ◌∷◌, Option, None, IsSome}
 use Rattle.edi_told.specs.Told.{WhereTold}
-use Rattle.edi_host.specs.Files.{Contents}
+use Rattle.edi_host.specs.Contents.{Contents}
 use Rattle.edi_calls.specs.Choice.{Choices}
 use Rattle.edi_trace.specs.Drawn.{Drawn}
 use Rattle.edi_debug.specs.stops.Stops.{Watched}

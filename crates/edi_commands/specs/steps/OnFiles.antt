@@ -2,7 +2,7 @@
 use Rattle.std.specs.Prelude.{◌≡◌, ◌≤◌, ◌⊎◌, ℕ, List, take, Option, None, Result, Ok, Err, IfErr, IsSome, ⊤}
 use Rattle.edi_told.specs.Faults.{CountRose}
 use Rattle.edi_told.specs.Told.{WhereTold}
-use Rattle.edi_host.specs.Files.{Contents}
+use Rattle.edi_host.specs.Contents.{Contents}
 use Rattle.edi_trace.specs.Drawn.{Drawn}
 use Rattle.edi_trace.specs.Lines.{read_of}
 use Rattle.edi_words.specs.Words.{ChoicesFrom}

@@ -1,13 +1,13 @@
 -- Words of contracts. What a command answers that touches the files and the terminal alone: it makes bytes of a file and shows them.
 use Rattle.std.specs.Prelude.{◌≡◌, ◌⊎◌, ℕ, Bool, List, Option, Some, Result, Ok, Err}
-use Rattle.edi_host.specs.Files.{Contents}
+use Rattle.edi_host.specs.Contents.{Contents}
 use Rattle.edi_words.specs.Words.{Command}
 use Rattle.edi_statuses.specs.declared.status.Status.{Status}
 use Rattle.edi_statuses.specs.declared.status.Status.TheVariants as status
 use Rattle.edi_statuses.specs.Counts.{HasCause, counts_with}
 use Rattle.edi_statuses.specs.Outside.{Outside, IsSomeFile, KernelLeft, idle, outside_with}
 use Rattle.edi_statuses.specs.Steps.{AfterStep, goes, stops}
-use Rattle.edi_statuses.specs.Means.{Came}
+use Rattle.edi_statuses.specs.Decided.{Came}
 
 -- ---- for callers
 

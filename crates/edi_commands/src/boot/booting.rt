@@ -7,7 +7,7 @@ ghost use Rattle.edi_words.specs.View.{options_of};
 ghost use Rattle.edi_statuses.specs.Outside.{lent, outside_of};
 ghost use Rattle.edi_statuses.specs.Counts.{counts_of, HasCause, NoneFalls};
 ghost use Rattle.edi_statuses.specs.EachObject.{DevicesStay, FitsCount, handed, is_before_drive, names_file};
-ghost use Rattle.edi_statuses.specs.Means.{Came};
+ghost use Rattle.edi_statuses.specs.Decided.{Came};
 ghost use Rattle.edi_commands.specs.run.OnMounted.{DriveAsked};
 ghost use Rattle.edi_statuses.specs.Sessions.{session_status};
 ghost use Rattle.edi_commands.specs.boot.SessionCame.{BootCame};

@@ -4,7 +4,7 @@ ghost use Rattle.std.specs.Prelude.{◌≡◌, ◌≤◌, ◌+◌, ◌*◌, IfEr
 ghost use Rattle.edi_told.specs.Faults.{CountRose};
 ghost use Rattle.edi_told.specs.Told.{WhereTold};
 ghost use Rattle.edi_calls.specs.State.{most_bytes};
-ghost use Rattle.edi_catalog.specs.Taken.{IsOfCount};
+ghost use Rattle.edi_catalog.specs.Counted.{IsOfCount};
 ghost use Rattle.edi_image.specs.Finds.{IsFirst};
 ghost use Rattle.edi_image.specs.Image.{mount_fault_of};
 ghost use Rattle.edi_shell_io.specs.calls.Standing.{failed_by};

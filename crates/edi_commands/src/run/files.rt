@@ -5,7 +5,7 @@ ghost use Rattle.edi_words.specs.View.{options_of};
 ghost use Rattle.edi_statuses.specs.EachObject.{DevicesStay, FitsCount, handed, is_before_drive};
 ghost use Rattle.edi_statuses.specs.Outside.{lent, outside_of};
 ghost use Rattle.edi_statuses.specs.Counts.{counts_of, HasCause, NoneFalls};
-ghost use Rattle.edi_statuses.specs.Means.{Came};
+ghost use Rattle.edi_statuses.specs.Decided.{Came};
 ghost use Rattle.edi_commands.specs.run.CodeRan.{refusal_status};
 ghost use Rattle.edi_commands.specs.run.FileSteps.{CodeStep, CompileStep, command_with, limit_of};
 

@@ -14,7 +14,7 @@ use Rattle.edi_unit.specs.declared.units.BlockKind.TheVariants as block_kind
 use Rattle.edi_unit.specs.Types.{Shape, greatest_size, int_type, bool_type}
 use Rattle.edi_unit.specs.Tree.{Act, Acts, no_act, act_then, Clause, Clauses, Block}
 use Rattle.edi_unit.specs.Need.{no_block, block_at, need}
-use Rattle.edi_unit.specs.Fits.{heading_formals}
+use Rattle.edi_unit.specs.Headings.{heading_formals}
 use Rattle.edi_static.specs.declared.faults.StaticKind.TheVariants as kind
 use Rattle.edi_static.specs.Environment.{Environment, look_up, here, begun_block}
 use Rattle.edi_static.specs.Types.{constant}

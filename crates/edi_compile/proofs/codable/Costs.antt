@@ -16,7 +16,7 @@ use Rattle.edi_tree.specs.Spelled.{Spelled, on, name_mark, chars_mark, expr_then
 use Rattle.edi_unit.specs.declared.expressions.Operator.{Operator}
 use Rattle.edi_unit.specs.Types.{Shape, shape_at, is_elementary, is_set_shape, int_type}
 use Rattle.edi_unit.specs.Tree as unit
-use Rattle.edi_unit.specs.Fits.{Heading, Formals, no_formal, value_then, variable_then, procedure_then}
+use Rattle.edi_unit.specs.Headings.{Heading, Formals, no_formal, value_then, variable_then, procedure_then}
 use Rattle.edi_static.specs.declared.faults.StaticKind.TheVariants as kind
 use Rattle.edi_static.specs.Judged.{Judged}
 use Rattle.edi_static.specs.Environment.{Environment, look_up, same_heading}

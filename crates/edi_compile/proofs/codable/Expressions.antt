@@ -16,7 +16,7 @@ use Rattle.edi_tree.specs.Spelled.{comparison_then, exprs_then, simple_then, add
 use Rattle.edi_tree.specs.Spelled.{factor_then, args_then, variable_then, selector_then, selectors_then}
 use Rattle.edi_unit.specs.Types.{shape_at, bool_type}
 use Rattle.edi_unit.specs.Tree as unit
-use Rattle.edi_unit.specs.Fits.{Formals, heading_formals}
+use Rattle.edi_unit.specs.Headings.{Formals, heading_formals}
 use Rattle.edi_static.specs.declared.faults.StaticKind.TheVariants as kind
 use Rattle.edi_static.specs.Environment.{Environment, look_up}
 use Rattle.edi_static.specs.Operators.{Typed, relation_operator, addition_operator, multiplication_operator, signed, operated}

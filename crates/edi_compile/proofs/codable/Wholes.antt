@@ -13,7 +13,7 @@ use Rattle.edi_unit.specs.declared.units.BlockKind.{BlockKind}
 use Rattle.edi_unit.specs.declared.units.BlockKind.TheVariants as block_kind
 use Rattle.edi_unit.specs.Types.{Shape}
 use Rattle.edi_unit.specs.Tree.{Block, ProgramUnit}
-use Rattle.edi_unit.specs.Fits.{heading_result, heading_formals}
+use Rattle.edi_unit.specs.Headings.{heading_result, heading_formals}
 use Rattle.edi_static.specs.Judged.{Judged, ◌>>=◌}
 use Rattle.edi_static.specs.Environment.{Environment, at_first, declare, enter, here, begun_block, parameters_of}
 use Rattle.edi_static.specs.Types.{const_list, type_decl, var_list}

@@ -8,7 +8,7 @@ use Rattle.edi_unit.specs.Tree.{ProgramUnit}
 use Rattle.edi_unit.specs.Fits.{Fits}
 use Rattle.edi_static.specs.Programs.{Resolved, Sound}
 use Rattle.edi_target.specs.Check.{IsSound}
-use Rattle.edi_target.specs.Decode.{AreWords}
+use Rattle.edi_target.specs.Reading.{AreWords}
 use Rattle.edi_scheme.specs.Lines.{UnitLines}
 use Rattle.edi_scheme.specs.Code.{code_of}
 use Rattle.edi_scheme.specs.Laws.{HaveParts, parts_of}

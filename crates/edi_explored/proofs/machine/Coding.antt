@@ -9,7 +9,8 @@ use Rattle.edi_calls.proofs.Names.{some_is}
 use Rattle.edi_unit.specs.Types.{Shape}
 use Rattle.edi_unit.specs.Tree.{Block, ProgramUnit}
 use Rattle.edi_meaning.specs.Select.{Select}
-use Rattle.edi_target.specs.Decode.{AreWords, decode}
+use Rattle.edi_target.specs.Decode.{decode}
+use Rattle.edi_target.specs.Reading.{AreWords}
 use Rattle.edi_target.specs.Fetch.{fetch}
 use Rattle.edi_target.specs.Mach.{Mach}
 use Rattle.edi_target.specs.Op.{Instruction, words_of}

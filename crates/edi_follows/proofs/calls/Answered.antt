@@ -7,7 +7,8 @@ use Rattle.edi_calls.specs.Outcome.{Ending}
 use Rattle.edi_calls.specs.State.{State, after_call}
 use Rattle.edi_store.specs.Memory.{written}
 use Rattle.edi_unit.specs.Values.{Value, ordinal, IsOf}
-use Rattle.edi_unit.specs.Fits.{Formals, IsCall}
+use Rattle.edi_unit.specs.Fits.{IsCall}
+use Rattle.edi_unit.specs.Headings.{Formals}
 use Rattle.edi_meaning.specs.Store.{Cell, Shape, put}
 use Rattle.edi_meaning.specs.Evaluation.{World, Evaluation, gives}
 use Rattle.edi_meaning.specs.Whole.{words_of_cells, answer_in, answered_by, system_call}

@@ -2,7 +2,8 @@
 use Rattle.std.proofs.Common.{◌≡◌, ℕ, ◌+◌, ◌≤◌, ◌⊎◌, inl, inr, List, length, sym, subst, ap, ◌∙◌, arith}
 use Rattle.edi_unit.specs.declared.expressions.Callee.TheVariants as callee
 use Rattle.edi_unit.specs.Tree.{Acts}
-use Rattle.edi_unit.specs.Fits.{Formals, heading_formals, CalleeFits, IsCall}
+use Rattle.edi_unit.specs.Fits.{CalleeFits, IsCall}
+use Rattle.edi_unit.specs.Headings.{Formals, heading_formals}
 use Rattle.edi_meaning.specs.Store.{system_procedure, block_procedure, Cell, procedure, Shape, shape, reached, now, cell}
 use Rattle.edi_meaning.specs.Evaluation.{World, Evaluation}
 use Rattle.edi_meaning.specs.Whole.{system_call, meant}

@@ -5,7 +5,7 @@ use Rattle.std.specs.Prelude.{nat_le}
 use Rattle.std.proofs.lemmas.Bool.{le-leb}
 use Rattle.edi_store.specs.Memory.{words_at}
 use Rattle.edi_calls.specs.Calls.{argument_words, answer_words}
-use Rattle.edi_unit.specs.Fits.{Formals}
+use Rattle.edi_unit.specs.Headings.{Formals}
 use Rattle.edi_meaning.specs.Store.{Cell, Shape}
 use Rattle.edi_meaning.specs.Whole.{words_of_cells}
 use Rattle.edi_target.specs.Memory.{word}

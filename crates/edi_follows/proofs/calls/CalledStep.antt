@@ -7,7 +7,8 @@ use Rattle.edi_calls.specs.Names.{Name}
 use Rattle.edi_calls.specs.Outcome as outcome
 use Rattle.edi_unit.specs.Tree.{Acts, Block}
 use Rattle.edi_unit.specs.Need.{callee_result}
-use Rattle.edi_unit.specs.Fits.{heading_formals, callee_heading, CalleeFits}
+use Rattle.edi_unit.specs.Fits.{callee_heading, CalleeFits}
+use Rattle.edi_unit.specs.Headings.{heading_formals}
 use Rattle.edi_unit.specs.declared.expressions.Callee.{Callee}
 use Rattle.edi_meaning.specs.Store.{Cell, Store, Shape, shape, room, now, used, grown}
 use Rattle.edi_meaning.specs.Evaluation.{World, Evaluation, gives, ends, ◌>>=◌, fails, turn, turn_from}

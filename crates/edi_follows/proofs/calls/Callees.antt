@@ -12,7 +12,8 @@ use Rattle.edi_unit.specs.declared.expressions.Callee.TheVariants as callee
 use Rattle.edi_unit.specs.declared.units.Parameter.{Parameter}
 use Rattle.edi_unit.specs.declared.units.Parameter.TheVariants as slot
 use Rattle.edi_unit.specs.Need.{outer, slots, slot_at, slot_result, callee_result}
-use Rattle.edi_unit.specs.Fits.{Heading, heading_result, heading_formals, callee_heading, CalleeFits, ResultAgrees, ResultsAgree, first_parameter, is_procedure}
+use Rattle.edi_unit.specs.Fits.{callee_heading, CalleeFits, ResultAgrees, ResultsAgree, first_parameter, is_procedure}
+use Rattle.edi_unit.specs.Headings.{Heading, heading_result, heading_formals}
 use Rattle.edi_meaning.specs.Store.{Spot, Closure, system_procedure, block_procedure, Cell, value, location, procedure, procedure_in, Shape, shape, frame_at}
 use Rattle.edi_meaning.specs.Store.{reached, now, cell, IsLive, Older}
 use Rattle.edi_meaning.specs.Evaluation.{World}

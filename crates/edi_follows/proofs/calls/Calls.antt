@@ -12,7 +12,7 @@ use Rattle.edi_unit.specs.Values.{IsOf}
 use Rattle.edi_unit.specs.Tree.{Acts}
 use Rattle.edi_unit.specs.Need as need
 use Rattle.edi_unit.specs.Need.{slots, callee_result}
-use Rattle.edi_unit.specs.Fits.{Heading}
+use Rattle.edi_unit.specs.Headings.{Heading}
 use Rattle.edi_meaning.specs.Store.{Spot, Cell, value, location, procedure, value_in, Shape, now, cell, IsLive}
 use Rattle.edi_meaning.specs.Evaluation.{World, Evaluation}
 use Rattle.edi_meaning.specs.Whole.{meant, result_of, function_call, procedure_call}

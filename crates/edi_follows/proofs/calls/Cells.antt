@@ -13,7 +13,8 @@ use Rattle.edi_unit.proofs.ZeroValues.{zero_is_of}
 use Rattle.edi_unit.specs.Tree.{Block}
 use Rattle.edi_unit.specs.Need.{slots}
 use Rattle.edi_unit.specs.Fits as fits
-use Rattle.edi_unit.specs.Fits.{BlockFits, SlotIsKnown, heading_formals, block_heading}
+use Rattle.edi_unit.specs.Fits.{BlockFits, SlotIsKnown, block_heading}
+use Rattle.edi_unit.specs.Headings.{heading_formals}
 use Rattle.edi_meaning.specs.Store.{Spot, system_procedure, block_procedure, Cell, value, location, procedure, no_cell, Shape}
 use Rattle.edi_meaning.specs.Whole.{result_cells}
 use Rattle.edi_scheme.specs.Pieces as pieces

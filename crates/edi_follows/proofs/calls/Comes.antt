@@ -8,7 +8,8 @@ use Rattle.edi_store.specs.Memory.{words_at, written}
 use Rattle.edi_store.proofs.MemoryLaws.{length-written, get_or-written_before, get_or-written_here, get_or-written_after, words_at-written}
 use Rattle.edi_store.proofs.MemoryLaws.{words_at-written_apart}
 use Rattle.edi_unit.specs.Need.{slots, slot_words, variable_words, acts_height}
-use Rattle.edi_unit.specs.Fits.{heading_formals, block_heading, is_called}
+use Rattle.edi_unit.specs.Fits.{block_heading, is_called}
+use Rattle.edi_unit.specs.Headings.{heading_formals}
 use Rattle.edi_meaning.specs.Store.{Spot, Cell, no_cell, Frame, Instance, Store, Shape, instances, frames, shape, frame_at, now, used, cells_in, cell, grown}
 use Rattle.edi_meaning.specs.Store.{Owns, IsLive, Older, within, above}
 use Rattle.edi_meaning.specs.Evaluation.{World}

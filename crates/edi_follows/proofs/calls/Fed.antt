@@ -5,7 +5,8 @@ use Rattle.std.proofs.lemmas.List.{append-nil, get_or_past}
 use Rattle.edi_calls.specs.Calls.{argument_words, answer_words}
 use Rattle.edi_unit.specs.Types.{Shape, int, array_of, int_type, char_type, bool_type}
 use Rattle.edi_unit.specs.Values.{ordinal}
-use Rattle.edi_unit.specs.Fits.{Formals, no_formal, value_then, variable_then, IsCall, accept, display, print, find, more, read, fresh, write, close, remove}
+use Rattle.edi_unit.specs.Fits.{IsCall, accept, display, print, find, more, read, fresh, write, close, remove}
+use Rattle.edi_unit.specs.Headings.{Formals, no_formal, value_then, variable_then}
 use Rattle.edi_unit.specs.Fits.{IsTitle}
 use Rattle.edi_meaning.specs.Store as meaning
 use Rattle.edi_meaning.specs.Store.{Spot, Location, Cell, value, location, procedure, Store, now, put, Older}

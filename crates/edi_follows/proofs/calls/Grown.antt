@@ -7,7 +7,7 @@ use Rattle.edi_calls.proofs.Tables.{same-or-other, same-symmetric}
 use Rattle.edi_unit.specs.declared.units.Parameter.{Parameter}
 use Rattle.edi_unit.specs.declared.units.Parameter.TheVariants as slot
 use Rattle.edi_unit.specs.Need.{slot_type}
-use Rattle.edi_unit.specs.Fits.{Heading}
+use Rattle.edi_unit.specs.Headings.{Heading}
 use Rattle.edi_meaning.specs.Store.{Spot, Location, system_procedure, block_procedure, Cell, value, location, procedure, Frame, Shape, frame_at, used, now}
 use Rattle.edi_meaning.specs.Store.{Owns, IsLive, Older, within, above}
 use Rattle.edi_target.specs.Op.{high_word, low_word}

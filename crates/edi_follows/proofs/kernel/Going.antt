@@ -10,7 +10,8 @@ use Rattle.edi_unit.specs.Tree.{Clauses}
 use Rattle.edi_meaning.specs.Store.{shape}
 use Rattle.edi_meaning.specs.Evaluation.{World, Evaluation, gives}
 use Rattle.edi_meaning.specs.Step as source
-use Rattle.edi_meaning.specs.Step.{Process, Processes, Position, Work, Asks, goes, arrives, again, is_running, ready, at_when, waiting, local_step}
+use Rattle.edi_meaning.specs.Step.{Process, Processes, Position, Work, Asks, goes, arrives, again, ready, at_when, waiting, local_step}
+use Rattle.edi_meaning.specs.Permitted.{is_running}
 use Rattle.edi_meaning.specs.Step.{work_step, kernel}
 use Rattle.edi_meaning.proofs.Kernel.{After}
 use Rattle.edi_meaning.proofs.Dangling.{Coherent}

@@ -4,7 +4,8 @@ use Rattle.edi_calls.specs.Names.{Name, find}
 use Rattle.edi_calls.specs.Ready.{has, stays, joins}
 use Rattle.edi_calls.proofs.Tables.{same-refl}
 use Rattle.edi_meaning.specs.Step as source
-use Rattle.edi_meaning.specs.Step.{Process, Processes, Stepped, went, ended, is_running_process}
+use Rattle.edi_meaning.specs.Step.{Process, Processes, Stepped, went, ended}
+use Rattle.edi_meaning.specs.Permitted.{is_running_process}
 use Rattle.edi_meaning.proofs.Dangling.{step_coherent}
 use Rattle.edi_meaning.proofs.Permitted.{StepSound, step_sound}
 use Rattle.edi_follows.specs.places.Lands.{StepsCohere, QueueAfter, StepsQueue}

@@ -6,7 +6,8 @@ use Rattle.edi_unit.specs.Types.{Shape}
 use Rattle.edi_unit.specs.Tree as tree
 use Rattle.edi_unit.specs.Tree.{Argument, Arguments, Acts, Block}
 use Rattle.edi_unit.specs.Need.{argument_words, arguments_height}
-use Rattle.edi_unit.specs.Fits.{Formals, no_formal, value_then, variable_then, procedure_then, ArgumentsFit}
+use Rattle.edi_unit.specs.Fits.{ArgumentsFit}
+use Rattle.edi_unit.specs.Headings.{Formals, no_formal, value_then, variable_then, procedure_then}
 use Rattle.edi_meaning.specs.Store as meaning
 use Rattle.edi_meaning.specs.Store.{Cell, now}
 use Rattle.edi_meaning.specs.Evaluation.{World, Evaluation, gives, ◌>>=◌}

@@ -4,7 +4,8 @@ use Rattle.std.proofs.Common.{subst, ap, ◌∙◌, arith}
 use Rattle.std.specs.Prelude.{ℤ, ◌-ℤ◌, IsTrue, IfSome, int_le, nat_abs}
 use Rattle.edi_calls.specs.declared.kinds.Cause.TheVariants as cause
 use Rattle.edi_word.specs.Words.{signed}
-use Rattle.edi_unit.specs.Types.{shape_at, is_elementary, element_count, part_types, size}
+use Rattle.edi_unit.specs.Types.{shape_at, is_elementary, element_count, size}
+use Rattle.edi_unit.specs.TypeTables.{part_types}
 use Rattle.edi_unit.specs.Values.{Value, IsOf, element_at}
 use Rattle.edi_unit.specs.Tree as tree
 use Rattle.edi_unit.specs.Tree.{Expression, Parts, Acts}

@@ -5,7 +5,8 @@ use Rattle.edi_unit.specs.declared.expressions.Callee.TheVariants as callee
 use Rattle.edi_unit.specs.declared.units.Parameter.{Parameter}
 use Rattle.edi_unit.specs.declared.units.Parameter.TheVariants as slot
 use Rattle.edi_unit.specs.Need.{slot_at, slot_result}
-use Rattle.edi_unit.specs.Fits.{Heading, callee_heading, CalleeFits, is_procedure}
+use Rattle.edi_unit.specs.Fits.{callee_heading, CalleeFits, is_procedure}
+use Rattle.edi_unit.specs.Headings.{Heading}
 use Rattle.edi_meaning.specs.Store.{Spot, Closure, system_procedure, block_procedure, procedure_in, Shape, shape, reached, now, cell, Older}
 use Rattle.edi_meaning.specs.Evaluation.{World}
 use Rattle.edi_meaning.specs.Whole.{meant}

@@ -7,7 +7,9 @@ use Rattle.edi_unit.specs.Tree as tree
 use Rattle.edi_unit.specs.Tree.{Expression, Place, Arguments, Acts}
 use Rattle.edi_unit.specs.Need.{expression_type, expression_height, place_type, place_height, arguments_height}
 use Rattle.edi_unit.specs.Fits as fits
-use Rattle.edi_unit.specs.Fits.{Heading, no_formal, value_then, variable_then, procedure_then, heading_result, callee_heading, CalleeFits}
+use Rattle.edi_unit.specs.Headings as headings
+use Rattle.edi_unit.specs.Fits.{callee_heading, CalleeFits}
+use Rattle.edi_unit.specs.Headings.{Heading, no_formal, value_then, variable_then, procedure_then, heading_result}
 use Rattle.edi_meaning.specs.Store.{Cell, value, location, Shape, now}
 use Rattle.edi_meaning.specs.Evaluation.{World, Evaluation, gives}
 use Rattle.edi_meaning.specs.Whole.{argument, expression, designated}
@@ -30,10 +32,10 @@ module _ (g : Coded) (s : Scene) where
 
   -- what a variable for values, for a location or for a procedure may hold
   abbrev IsValue : Shape → ℕ → Cell → Type 0
-  IsValue F t c = Holds g F (now F s.name) (fits.heading no_formal None) (Some (slot.Value t)) c
+  IsValue F t c = Holds g F (now F s.name) (headings.heading no_formal None) (Some (slot.Value t)) c
 
   abbrev IsLocation : Shape → ℕ → Cell → Type 0
-  IsLocation F t c = Holds g F (now F s.name) (fits.heading no_formal None) (Some (slot.Var t)) c
+  IsLocation F t c = Holds g F (now F s.name) (headings.heading no_formal None) (Some (slot.Var t)) c
 
   abbrev pub IsFormal : Shape → Heading → Cell → Type 0
   IsFormal F h c = Holds g F (now F s.name) h (Some (slot.Formal (heading_result h))) c

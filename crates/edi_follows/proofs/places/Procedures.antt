@@ -5,7 +5,8 @@ use Rattle.edi_unit.specs.declared.expressions.Callee.{Callee}
 use Rattle.edi_unit.specs.declared.expressions.Callee.TheVariants as callee
 use Rattle.edi_unit.specs.Tree as tree
 use Rattle.edi_unit.specs.Tree.{Arguments, Acts}
-use Rattle.edi_unit.specs.Fits.{Heading, no_formal, value_then, variable_then, procedure_then, callee_heading, CalleeFits}
+use Rattle.edi_unit.specs.Fits.{callee_heading, CalleeFits}
+use Rattle.edi_unit.specs.Headings.{Heading, no_formal, value_then, variable_then, procedure_then}
 use Rattle.edi_meaning.specs.Store.{Spot, Closure, system_procedure, block_procedure, Cell, procedure, Shape, shape, reached, now, cell}
 use Rattle.edi_meaning.specs.Evaluation.{World, Evaluation, gives}
 use Rattle.edi_meaning.specs.Whole.{meant}

@@ -7,7 +7,7 @@ use Rattle.edi_unit.specs.declared.units.Parameter.{Parameter}
 use Rattle.edi_unit.specs.declared.units.Parameter.TheVariants as slot
 use Rattle.edi_unit.specs.Need.{slots, slot_words}
 use Rattle.edi_unit.specs.Values.{Value, IsOf}
-use Rattle.edi_unit.specs.Fits.{Heading}
+use Rattle.edi_unit.specs.Headings.{Heading}
 use Rattle.edi_meaning.specs.Store.{Spot, Location, Closure, Cell, value, location, procedure, Shape}
 use Rattle.edi_follows.specs.places.Coded.{Coded, block, slot_in, slots_of, words_in, offset}
 use Rattle.edi_follows.specs.places.Spots.{Holds, Leads, IsMeantBy}

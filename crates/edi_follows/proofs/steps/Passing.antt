@@ -8,7 +8,8 @@ use Rattle.edi_unit.specs.Tree as tree
 use Rattle.edi_unit.specs.Tree.{Acts, Arguments}
 use Rattle.edi_unit.specs.Values.{Value}
 use Rattle.edi_unit.specs.Need.{arguments_height, callee_result, result_words}
-use Rattle.edi_unit.specs.Fits.{Formals, heading_formals, callee_heading}
+use Rattle.edi_unit.specs.Fits.{callee_heading}
+use Rattle.edi_unit.specs.Headings.{Formals, heading_formals}
 use Rattle.edi_meaning.specs.Store.{Closure, Cell, Shape}
 use Rattle.edi_meaning.specs.Evaluation.{World, Evaluation, ◌>>=◌}
 use Rattle.edi_meaning.specs.Whole.{meant, function_call, procedure_call, arguments}

@@ -6,14 +6,16 @@ use Rattle.edi_calls.specs.Names.{Name}
 use Rattle.edi_unit.specs.declared.expressions.Callee.{Callee}
 use Rattle.edi_unit.specs.Tree as tree
 use Rattle.edi_unit.specs.Tree.{Arguments, Acts, Clauses, no_clause, clause_then}
-use Rattle.edi_unit.specs.Fits.{Formals, heading_formals, callee_heading, ClausesFit}
+use Rattle.edi_unit.specs.Fits.{callee_heading, ClausesFit}
+use Rattle.edi_unit.specs.Headings.{Formals, heading_formals}
 use Rattle.edi_unit.specs.Need.{clauses_height}
 use Rattle.edi_meaning.specs.Store.{Cell, Shape, shape}
 use Rattle.edi_meaning.specs.Evaluation.{World, Evaluation, gives, ends, ◌>>=◌, turn_from}
 use Rattle.edi_meaning.specs.Whole.{meant, levels_of, whole_arguments, first}
 use Rattle.edi_meaning.specs.Step as source
 use Rattle.edi_meaning.specs.Step.{Process, Processes, Position, Work, doing, loop_end, procedure_end, branch_end, program_entry, program_end, Standing}
-use Rattle.edi_meaning.specs.Step.{called, work_step, is_running, local_step, inside, with_chosen, goes, chosen, again, at_when, is_quiet, attempt}
+use Rattle.edi_meaning.specs.Step.{called, work_step, local_step, inside, with_chosen, goes, chosen, again, at_when, is_quiet, attempt}
+use Rattle.edi_meaning.specs.Permitted.{is_running}
 use Rattle.edi_meaning.proofs.Pure.{none_true}
 use Rattle.edi_target.specs.Mach.{Machine, is_first, held_at, effect_at, settled}
 use Rattle.edi_target.specs.Effect as turn

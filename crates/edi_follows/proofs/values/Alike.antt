@@ -10,10 +10,11 @@ use Rattle.std.proofs.lemmas.List.Elements.{All-tail}
 use Rattle.std.proofs.lemmas.Slice.Eq.{bytes_eq-Decides}
 use Rattle.edi_word.specs.Integers.{is_int}
 use Rattle.edi_word.specs.Words.{signed, unsigned}
-use Rattle.edi_word.specs.Sets.{IsOrdinalSet, words_of_members}
+use Rattle.edi_word.specs.SetWords.{IsOrdinalSet, words_of_members}
 use Rattle.edi_word.proofs.IntLaws.{fits_from_is_int, signed-unsigned}
 use Rattle.edi_word.proofs.SetLaws.{same_set_from_words}
-use Rattle.edi_unit.specs.Types.{Shape, int, char, bool, enumeration, record_of, array_of, set_of, shape_at, part_types, has_parts, is_set_shape, is_ordinal_of}
+use Rattle.edi_unit.specs.Types.{Shape, int, char, bool, enumeration, record_of, array_of, set_of, shape_at, is_set_shape, is_ordinal_of}
+use Rattle.edi_unit.specs.TypeTables.{part_types, has_parts}
 use Rattle.edi_unit.specs.Values.{Value, ordinal, compound, members, Values, no_value, value_then, IsOf, AreOf, same_value, same_values, same_members}
 use Rattle.edi_follows.specs.values.Words.{value_words, values_words, IsTable, WordsTellValues}
 use Rattle.edi_follows.proofs.values.Lengths.{parts_known, value_length}

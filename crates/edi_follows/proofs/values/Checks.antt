@@ -7,7 +7,8 @@ use Rattle.std.proofs.lemmas.Bool.{false≢true, cases_lt, lt-ltb, le-ltb}
 use Rattle.std.proofs.lemmas.Bool.Decides.{Decides-ltb}
 use Rattle.std.proofs.lemmas.Int.{ints}
 use Rattle.edi_word.specs.Words.{signed}
-use Rattle.edi_word.specs.Sets.{IsOrdinalSet, words_of_members, words_with, with_member, set_has}
+use Rattle.edi_word.specs.Sets.{words_with, with_member, set_has}
+use Rattle.edi_word.specs.SetWords.{IsOrdinalSet, words_of_members}
 use Rattle.edi_word.specs.SetViews.{AreSetWords-words_where, words_of_members-members_of}
 use Rattle.edi_word.proofs.SetLaws.{members_of-words_of_members, IsOrdinalSet-members_where, with_agrees}
 use Rattle.edi_unit.specs.Types.{Shape, int, char, bool, enumeration, record_of, array_of, set_of, shape_at, is_elementary, is_elementary_shape}

@@ -9,10 +9,12 @@ use Rattle.edi_word.specs.Words.{unsigned}
 use Rattle.edi_calls.specs.State.{Found, State, title_of, most_bytes}
 use Rattle.edi_calls.specs.Calls as calls
 use Rattle.edi_calls.specs.Calls.{CallResult, answered, no_file, file_limit, word_of, call}
-use Rattle.edi_unit.specs.Types.{Shape, char, char_type, bool_type, part_types, has_parts, is_set_shape, is_elementary, is_elementary_shape, is_ordinal_of}
+use Rattle.edi_unit.specs.Types.{Shape, char, char_type, bool_type, is_set_shape, is_elementary, is_elementary_shape, is_ordinal_of}
+use Rattle.edi_unit.specs.TypeTables.{part_types, has_parts}
 use Rattle.edi_unit.specs.Types.{natural}
 use Rattle.edi_unit.specs.Values.{Value, ordinal, compound, members, Values, no_value, value_then, IsOf, AreOf, ordinal_of}
-use Rattle.edi_unit.specs.Fits.{Formals, value_then, IsCall, accept, display, print, find, more, read, fresh, write, close, remove, IsTitle}
+use Rattle.edi_unit.specs.Fits.{IsCall, accept, display, print, find, more, read, fresh, write, close, remove, IsTitle}
+use Rattle.edi_unit.specs.Headings.{Formals, value_then}
 use Rattle.edi_meaning.specs.Whole.{words_of_value, words_of_values}
 use Rattle.edi_follows.specs.values.Words.{value_words, values_words, IsTable}
 use Rattle.edi_follows.specs.values.Asked.{ArgumentsAreWords, asked_types, AreAnswers, AnswersAreValues}

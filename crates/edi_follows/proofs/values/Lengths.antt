@@ -4,11 +4,13 @@ use Rattle.std.proofs.lemmas.Bool.{false≢true}
 use Rattle.std.proofs.lemmas.List.Elements.{All-nil, All-replicate, All-tail, All-get_or}
 use Rattle.std.proofs.lemmas.List.Folds.{sum_by-replicate}
 use Rattle.std.proofs.lemmas.List.Sums.{sum_by-cons}
-use Rattle.edi_word.specs.Sets.{words_of_members}
+use Rattle.edi_word.specs.SetWords.{words_of_members}
 use Rattle.edi_word.specs.SetViews.{AreSetWords-words_where}
 use Rattle.edi_word.specs.Sets.{set_has}
-use Rattle.edi_unit.specs.Types.{Shape, int, char, bool, enumeration, record_of, array_of, set_of, shape_at, int_type, element_count, named_types}
-use Rattle.edi_unit.specs.Types.{part_types, has_parts, is_set_shape, is_ordinal_of, shape_size, size}
+use Rattle.edi_unit.specs.Types.{Shape, int, char, bool, enumeration, record_of, array_of, set_of, shape_at, int_type, element_count}
+use Rattle.edi_unit.specs.TypeTables.{named_types}
+use Rattle.edi_unit.specs.Types.{is_set_shape, is_ordinal_of, shape_size, size}
+use Rattle.edi_unit.specs.TypeTables.{part_types, has_parts}
 use Rattle.edi_unit.specs.Values.{Value, ordinal, compound, members, Values, no_value, value_then, IsOf, AreOf}
 use Rattle.edi_unit.proofs.Tables.{size-is}
 use Rattle.edi_scheme.proofs.Known.{names_known, size_positive}

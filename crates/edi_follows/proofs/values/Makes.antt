@@ -6,7 +6,8 @@ use Rattle.std.proofs.lemmas.Bool.{false≢true}
 use Rattle.std.proofs.lemmas.List.{length-replicate}
 use Rattle.edi_store.specs.Memory.{words_at}
 use Rattle.edi_unit.specs.Types as types
-use Rattle.edi_unit.specs.Types.{is_elementary, is_set_shape, has_parts, part_types, shape_at, size}
+use Rattle.edi_unit.specs.Types.{is_elementary, is_set_shape, shape_at, size}
+use Rattle.edi_unit.specs.TypeTables.{has_parts, part_types}
 use Rattle.edi_unit.specs.Tree as tree
 use Rattle.edi_unit.specs.Tree.{Expression, Expressions, Acts}
 use Rattle.edi_unit.specs.Values.{Value, compound, members, values}

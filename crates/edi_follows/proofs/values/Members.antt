@@ -4,7 +4,7 @@ use Rattle.std.specs.Prelude.{IfSome, IsTrue, nat_lt}
 use Rattle.std.specs.Option.{option_map}
 use Rattle.edi_calls.specs.declared.kinds.Cause.TheVariants as cause
 use Rattle.edi_store.specs.Memory.{words_at}
-use Rattle.edi_word.specs.Sets.{IsOrdinalSet, words_of_members}
+use Rattle.edi_word.specs.SetWords.{IsOrdinalSet, words_of_members}
 use Rattle.edi_unit.specs.Types as types
 use Rattle.edi_unit.specs.Types.{is_elementary, size}
 use Rattle.edi_unit.specs.Tree as tree

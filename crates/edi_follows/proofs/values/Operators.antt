@@ -7,7 +7,8 @@ use Rattle.std.proofs.lemmas.Bool.{false≢true}
 use Rattle.std.proofs.lemmas.Bool.Decides.{Decides-eqb}
 use Rattle.edi_word.specs.Integers.{is_int, int_sum, int_difference, int_product, int_quotient, int_remainder}
 use Rattle.edi_word.specs.Words.{signed, unsigned, word_add, word_sub, word_mul, word_div, word_modulo, WordsFollow}
-use Rattle.edi_word.specs.Sets.{IsOrdinalSet, ViewsAgree, words_of_members, set_has, set_union, set_minus, set_meet, words_union, words_minus, words_meet}
+use Rattle.edi_word.specs.Sets.{set_has, set_union, set_minus, set_meet, words_union, words_minus, words_meet}
+use Rattle.edi_word.specs.SetWords.{IsOrdinalSet, ViewsAgree, words_of_members}
 use Rattle.edi_word.specs.Sets.{word_has}
 use Rattle.edi_word.specs.SetViews.{AreSetWords-words_where, words_of_members-members_of}
 use Rattle.edi_word.proofs.IntLaws.{word_add_follows, word_sub_follows, word_mul_follows, word_div_follows, word_modulo_follows}
@@ -15,7 +16,7 @@ use Rattle.edi_word.proofs.SetLaws.{members_of-words_of_members, IsOrdinalSet-me
 use Rattle.edi_unit.specs.declared.expressions.Operator.{Operator}
 use Rattle.edi_unit.specs.declared.expressions.Operator.TheVariants as op
 use Rattle.edi_unit.specs.Types.{Shape, int, set_of, shape_at, int_type, bool_type, is_elementary, is_elementary_shape, is_ordinal_of, is_set_shape}
-use Rattle.edi_unit.specs.Types.{named_types, ordinal_types}
+use Rattle.edi_unit.specs.TypeTables.{named_types, ordinal_types}
 use Rattle.edi_unit.specs.Values.{Value, ordinal, members, IsOf, ordinal_of, is_true, truth, is_member, same_value, on_ints, on_ints_or_sets, apply, decides}
 use Rattle.edi_unit.specs.Need.{operator_type}
 use Rattle.edi_unit.specs.Fits.{OperatorFits}

@@ -4,7 +4,8 @@ use Rattle.std.specs.Prelude.{slice_index_or, slice_get, unwrap_or, IsSome}
 use Rattle.std.proofs.lemmas.Bool.{false≢true}
 use Rattle.std.proofs.lemmas.List.{length-replicate, get_or-replicate, take-replicate}
 use Rattle.std.proofs.lemmas.List.Folds.{sum_by-replicate}
-use Rattle.edi_unit.specs.Types.{Shape, record_of, array_of, shape_at, int_type, element_count, part_types, fields_of, field_type, size}
+use Rattle.edi_unit.specs.Types.{Shape, record_of, array_of, shape_at, int_type, element_count, fields_of, field_type, size}
+use Rattle.edi_unit.specs.TypeTables.{part_types}
 use Rattle.edi_scheme.specs.Pieces.{field_offset}
 use Rattle.edi_follows.specs.values.Words.{nth_type, nth_offset, path_type, path_offset, IsPath, IsTable, PathsGoOn}
 use Rattle.edi_follows.proofs.values.Lengths.{nth_known}

@@ -3,13 +3,14 @@ use Rattle.std.proofs.Common.{◌≡◌, ℕ, ◌^◌, ◌<◌, ℤ, pos, negsuc
 use Rattle.std.specs.List.{All}
 use Rattle.std.proofs.lemmas.Int.{ints}
 use Rattle.std.proofs.lemmas.List.Elements.{All-nil, All-cons, All-append, All-tail}
-use Rattle.edi_store.specs.Memory.{IsWord}
+use Rattle.edi_store.specs.Copied.{IsWord}
 use Rattle.edi_word.specs.Integers.{is_int}
 use Rattle.edi_word.specs.Words.{unsigned}
 use Rattle.edi_word.specs.Sets.{set_has}
 use Rattle.edi_word.specs.SetViews.{AreSetWords-words_where}
 use Rattle.edi_word.proofs.IntLaws.{fits_from_is_int, unsigned-lt}
-use Rattle.edi_unit.specs.Types.{Shape, shape_at, part_types, is_ordinal_of}
+use Rattle.edi_unit.specs.Types.{Shape, shape_at, is_ordinal_of}
+use Rattle.edi_unit.specs.TypeTables.{part_types}
 use Rattle.edi_unit.specs.Values.{Value, ordinal, compound, members, Values, no_value, value_then, IsOf, AreOf}
 use Rattle.edi_target.specs.Op.{is_integer}
 use Rattle.edi_scheme.proofs.Known.{ordinal_integer}

@@ -3,8 +3,9 @@ use Rattle.std.proofs.Common.{◌≡◌, ℕ, zero, suc, ◌+◌, ◌*◌, ◌<�
 use Rattle.std.proofs.lemmas.List.{replicate-append-replicate}
 use Rattle.std.proofs.lemmas.List.Elements.{All-tail}
 use Rattle.std.proofs.lemmas.List.Sums.{sum_by-cons}
-use Rattle.edi_word.specs.Sets.{words_where, words_of_members}
-use Rattle.edi_unit.specs.Types.{Shape, int, char, bool, enumeration, record_of, array_of, set_of, shape_at, element_count, named_types, shape_size, size}
+use Rattle.edi_word.specs.SetWords.{words_where, words_of_members}
+use Rattle.edi_unit.specs.Types.{Shape, int, char, bool, enumeration, record_of, array_of, set_of, shape_at, element_count, shape_size, size}
+use Rattle.edi_unit.specs.TypeTables.{named_types}
 use Rattle.edi_unit.specs.Values.{Value, values, shape_zero, zero_value}
 use Rattle.edi_unit.proofs.Tables.{size-is, length-before}
 use Rattle.edi_unit.proofs.ZeroValues.{zero-is}

@@ -2,7 +2,7 @@
 -- its evaluation what the meaning says.
 use Rattle.std.specs.Prelude.{◌≡◌, ℕ, ◌+◌, ◌<◌, ◌≤◌, Bool, true, false, List, [], ◌∷◌, length, sum_by, Some, None, IsTrue}
 use Rattle.edi_store.specs.Memory.{words_at}
-use Rattle.edi_word.specs.Sets.{IsOrdinalSet, words_of_members}
+use Rattle.edi_word.specs.SetWords.{IsOrdinalSet, words_of_members}
 use Rattle.edi_unit.specs.declared.expressions.Callee.{Callee}
 use Rattle.edi_unit.specs.declared.units.Parameter.TheVariants as slot
 use Rattle.edi_unit.specs.Types.{is_elementary, size}
@@ -10,8 +10,9 @@ use Rattle.edi_unit.specs.Values.{Value, values, IsOf, AreOf}
 use Rattle.edi_unit.specs.Tree.{Expression, Expressions, Links, Place, Parts, Arguments, Act, assign, Acts, Clauses}
 use Rattle.edi_unit.specs.Need.{place_type, expression_type, parts_type, links_type, expression_height, members_height, compound_height, links_height}
 use Rattle.edi_unit.specs.Need.{place_height, parts_height, arguments_height, act_height, acts_height, clauses_height, callee_result, result_words}
-use Rattle.edi_unit.specs.Fits as fits
-use Rattle.edi_unit.specs.Fits.{Heading, Formals, no_formal, value_then, variable_then, procedure_then, heading_formals, heading_result, callee_heading}
+use Rattle.edi_unit.specs.Headings as fits
+use Rattle.edi_unit.specs.Fits.{callee_heading}
+use Rattle.edi_unit.specs.Headings.{Heading, Formals, no_formal, value_then, variable_then, procedure_then, heading_formals, heading_result}
 use Rattle.edi_unit.specs.Fits.{ExpressionFits, ExpressionsFit, LinksFit, PlaceFits, PartsFit, ArgumentsFit, CalleeFits, ActFits, ActsFit, ClausesFit}
 use Rattle.edi_unit.specs.Fits.{HaveTypes, AllHaveType}
 use Rattle.edi_meaning.specs.Store.{Spot, system_procedure, Cell, Shape, now, Older}

@@ -4,7 +4,8 @@ use Rattle.edi_unit.specs.declared.units.Parameter.{Parameter}
 use Rattle.edi_unit.specs.Tree.{Block, ProgramUnit}
 use Rattle.edi_unit.specs.Need as need
 use Rattle.edi_unit.specs.Need.{slots, slot_words, slot_type, variable_words, link_words}
-use Rattle.edi_unit.specs.Fits.{Heading, Fits}
+use Rattle.edi_unit.specs.Fits.{Fits}
+use Rattle.edi_unit.specs.Headings.{Heading}
 use Rattle.edi_target.specs.Op.{Instruction, words_of}
 use Rattle.edi_target.proofs.segments.Keeping.{Allows}
 use Rattle.edi_scheme.specs.Pieces as pieces

@@ -5,7 +5,7 @@ use Rattle.edi_unit.specs.declared.expressions.Operator.{Operator}
 use Rattle.edi_unit.specs.Values.{Value}
 use Rattle.edi_unit.specs.Tree as tree
 use Rattle.edi_unit.specs.Tree.{Expression, Expressions, Links, Place, Parts, Argument, Arguments, Act, Acts, Clauses}
-use Rattle.edi_unit.specs.Fits.{Formals}
+use Rattle.edi_unit.specs.Headings.{Formals}
 use Rattle.edi_meaning.specs.Evaluation.{World, Evaluation}
 use Rattle.edi_meaning.specs.Whole.{Designated}
 use Rattle.edi_scheme.specs.Pieces.{ClauseKind}

@@ -9,7 +9,8 @@ use Rattle.edi_unit.specs.Tree.{Clauses, ProgramUnit}
 use Rattle.edi_meaning.specs.Store.{shape, Owns}
 use Rattle.edi_meaning.specs.Evaluation.{World, Evaluation, gives, ends}
 use Rattle.edi_meaning.specs.Step as source
-use Rattle.edi_meaning.specs.Step.{Process, Processes, Position, Work, Asks, goes, arrives, again, forks, leaves, is_running, local_step, kernel}
+use Rattle.edi_meaning.specs.Step.{Process, Processes, Position, Work, Asks, goes, arrives, again, forks, leaves, local_step, kernel}
+use Rattle.edi_meaning.specs.Permitted.{is_running}
 use Rattle.edi_meaning.specs.Select.{marked, is_standstill}
 use Rattle.edi_meaning.specs.Laws.{IsWaiting}
 use Rattle.edi_meaning.proofs.Kernel.{After}

@@ -2,8 +2,9 @@
 use Rattle.std.specs.Prelude.{◌≡◌, ◌⊎◌, ℕ, ◌+◌, ◌-◌, ◌^◌, true, List, [], length, Some, unwrap_or}
 use Rattle.edi_calls.specs.Names.{Name, Table, find, names}
 use Rattle.edi_meaning.specs.Store.{Store, Shape, shape, now}
-use Rattle.edi_meaning.specs.Step as source
-use Rattle.edi_meaning.specs.Step.{Process, Processes, Standing, ready, at_when, waiting, is_running}
+use Rattle.edi_meaning.specs.Permitted as source
+use Rattle.edi_meaning.specs.Step.{Process, Processes, Standing, ready, at_when, waiting}
+use Rattle.edi_meaning.specs.Permitted.{is_running}
 use Rattle.edi_meaning.specs.Laws.{IsWaiting}
 use Rattle.edi_meaning.proofs.Dangling.{Coherent}
 use Rattle.edi_meaning.proofs.Sound.{Each}

@@ -6,7 +6,8 @@ use Rattle.edi_unit.specs.declared.units.Parameter.{Parameter}
 use Rattle.edi_unit.specs.declared.units.Parameter.TheVariants as slot
 use Rattle.edi_unit.specs.Need.{slot_type}
 use Rattle.edi_unit.specs.Values.{IsOf}
-use Rattle.edi_unit.specs.Fits.{Heading, heading_formals, heading_result, block_heading, is_called, IsCall}
+use Rattle.edi_unit.specs.Fits.{block_heading, is_called, IsCall}
+use Rattle.edi_unit.specs.Headings.{Heading, heading_formals, heading_result}
 use Rattle.edi_meaning.specs.Store.{Spot, Location, Closure, system_procedure, block_procedure, Cell, value, location, procedure, Frame, Store, Shape}
 use Rattle.edi_meaning.specs.Store.{instances, frame_at, now, used, cells_in, cell, IsLive, Older}
 use Rattle.edi_target.specs.Memory.{word}

@@ -2,7 +2,8 @@
 use Rattle.std.specs.Prelude.{◌≡◌, ◌⊎◌, ℕ, ◌+◌, ◌-◌, ◌<◌, ◌≤◌, Bool, List, ◌∷◌, length, None}
 use Rattle.edi_unit.specs.declared.expressions.Callee.{Callee}
 use Rattle.edi_unit.specs.Need.{callee_result}
-use Rattle.edi_unit.specs.Fits.{heading_formals, callee_heading, CalleeFits}
+use Rattle.edi_unit.specs.Fits.{callee_heading, CalleeFits}
+use Rattle.edi_unit.specs.Headings.{heading_formals}
 use Rattle.edi_meaning.specs.Store.{Cell, Store, Shape, now}
 use Rattle.edi_meaning.specs.Evaluation.{World, gives}
 use Rattle.edi_meaning.specs.Whole.{meant, left}

@@ -4,7 +4,8 @@ use Rattle.edi_calls.specs.State.{State}
 use Rattle.edi_calls.specs.Calls.{answered, call}
 use Rattle.edi_unit.specs.Types.{Shape, char_type}
 use Rattle.edi_unit.specs.Values.{Value, ordinal, IsOf}
-use Rattle.edi_unit.specs.Fits.{Formals, no_formal, value_then, variable_then, procedure_then, IsCall, IsTitle}
+use Rattle.edi_unit.specs.Fits.{IsCall, IsTitle}
+use Rattle.edi_unit.specs.Headings.{Formals, no_formal, value_then, variable_then, procedure_then}
 use Rattle.edi_meaning.specs.Whole.{words_of_value}
 use Rattle.edi_follows.specs.values.Words.{value_words, IsTable}
 

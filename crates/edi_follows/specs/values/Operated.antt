@@ -4,7 +4,8 @@ use Rattle.std.specs.Prelude.{IfSome, List, [], ◌∷◌, length, slice_index, 
 use Rattle.std.specs.Option.{option_map}
 use Rattle.std.specs.Str.{bytes_eq}
 use Rattle.edi_word.specs.Words.{signed, word_add, word_sub, word_mul, word_div, word_modulo}
-use Rattle.edi_word.specs.Sets.{IsOrdinalSet, words_of_members, word_has, words_with, words_union, words_minus, words_meet}
+use Rattle.edi_word.specs.Sets.{word_has, words_with, words_union, words_minus, words_meet}
+use Rattle.edi_word.specs.SetWords.{IsOrdinalSet, words_of_members}
 use Rattle.edi_unit.specs.declared.expressions.Operator.{Operator}
 use Rattle.edi_unit.specs.declared.expressions.Operator.TheVariants as op
 use Rattle.edi_unit.specs.Types.{Shape, char, bool, enumeration, shape_at, int_type, bool_type, is_elementary, is_set_shape, element_count, size}

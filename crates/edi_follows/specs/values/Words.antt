@@ -1,10 +1,12 @@
--- Definition. The words of values, and where the parts of a value stand in them.
+-- Words of contracts. The words of values, and where the parts of a value stand in them.
 use Rattle.std.specs.Prelude.{◌≡◌, ℕ, ◌+◌, ◌<◌, ◌≤◌, List, [], ◌∷◌, ◌++◌, length, take, replicate, sum_by, slice_index_or}
 use Rattle.std.specs.List.{All}
 use Rattle.std.specs.Str.{bytes_eq}
-use Rattle.edi_store.specs.Memory.{IsWord, words_at, written}
-use Rattle.edi_word.specs.Sets.{words_of_members}
-use Rattle.edi_unit.specs.Types.{Shape, shape_at, part_types, int_type, size, IsTypeTable}
+use Rattle.edi_store.specs.Memory.{words_at, written}
+use Rattle.edi_store.specs.Copied.{IsWord}
+use Rattle.edi_word.specs.SetWords.{words_of_members}
+use Rattle.edi_unit.specs.Types.{Shape, shape_at, int_type, size}
+use Rattle.edi_unit.specs.TypeTables.{part_types, IsTypeTable}
 use Rattle.edi_unit.specs.Values.{Value, ordinal, compound, members, Values, no_value, value_then, IsOf, zero_value, same_value}
 use Rattle.edi_unit.specs.Fits.{ShapesFit}
 use Rattle.edi_target.specs.Op.{word_of_integer}

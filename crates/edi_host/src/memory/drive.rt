@@ -1,7 +1,8 @@
 //! A drive in memory of which chosen calls fail.
 
 ghost use Rattle.std.specs.Prelude.{◌≡◌, ◌<◌, ◌%◌, IfOk, length, map};
-ghost use Rattle.edi_host.specs.Blocks.{block_of, blocks_of, bytes_of, drive_fault, resize_fault, written, ReadLeaves, ResizeLeaves, ResizesOrNot, WriteLeaves};
+ghost use Rattle.edi_host.specs.Blocks.{block_of, bytes_of, drive_fault, resize_fault, written, ReadLeaves, ResizeLeaves, ResizesOrNot, WriteLeaves};
+ghost use Rattle.edi_host.specs.BytesAsBlocks.{blocks_of};
 ghost use Rattle.edi_host.specs.Plan.{planned, strikes, after_call};
 
 use crate::drive::{Drive, DriveEnd, ResizeEnd};

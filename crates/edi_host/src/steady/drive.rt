@@ -1,7 +1,8 @@
 //! A drive in memory that never fails.
 
 ghost use Rattle.std.specs.Prelude.{◌≡◌, ◌<◌, ◌%◌, false, IfOk, length, map, slice_set};
-ghost use Rattle.edi_host.specs.Blocks.{block_of, blocks_of, bytes_of, resize_fault, ReadLeaves, ResizeLeaves, ResizesOrNot, WriteLeaves};
+ghost use Rattle.edi_host.specs.Blocks.{block_of, bytes_of, resize_fault, ReadLeaves, ResizeLeaves, ResizesOrNot, WriteLeaves};
+ghost use Rattle.edi_host.specs.BytesAsBlocks.{blocks_of};
 
 use crate::drive::{Drive, DriveEnd, ResizeEnd};
 use std::alloc::{AllocError, Global};

@@ -15,7 +15,7 @@ pub struct SteadyFiles {
 }
 
 impl Model for SteadyFiles {
-    ghost use Rattle.edi_host.specs.Files.{Contents};
+    ghost use Rattle.edi_host.specs.Contents.{Contents};
     ghost use Rattle.edi_host.specs.Forms.{contents_code, contents_in};
 
     ghost Value = { Contents };

@@ -10,13 +10,14 @@ use Rattle.std.proofs.lemmas.Bool.{and_parts, ltb-true}
 use Rattle.std.proofs.lemmas.List.{take_at, drop_at, take-append-le, drop-append-le, take-take, drop-take, drop-drop, length-map, length-replicate}
 use Rattle.std.proofs.lemmas.List.{length-take-le}
 use Rattle.edi_calls.specs.State.{is_title, most_bytes, pages_of}
-use Rattle.edi_host.specs.Blocks.{blocks_of}
+use Rattle.edi_host.specs.BytesAsBlocks.{blocks_of}
 use Rattle.edi_image.specs.Build.{two, map_block}
 use Rattle.edi_image.specs.Records.{FileRecord}
 use Rattle.edi_image.specs.Entries.{block_at, is_data}
 use Rattle.edi_image.specs.Image.{header_block, entry_at, Holds}
 use Rattle.edi_image.specs.migrate.OldImage.{old_entries_from, old_entries_of, old_fault_of}
-use Rattle.edi_image.specs.migrate.OldFiles.{is_old_stored, migrated_slots, old_files_of}
+use Rattle.edi_image.specs.migrate.OldFiles.{is_old_stored, old_files_of}
+use Rattle.edi_image.specs.migrate.MigratedSlots.{migrated_slots}
 use Rattle.edi_image.specs.Stored.{StoredFile, stored_of, are_data, is_record}
 use Rattle.edi_image.specs.Bytes.{bytes_of_slot, bytes_of_record, field_bytes}
 use Rattle.edi_image.specs.Titles.{with_blanks}

@@ -13,7 +13,8 @@ use Rattle.edi_image.specs.Rules.{first_broken}
 use Rattle.edi_image.specs.Entries.{block_at, entry_says}
 use Rattle.edi_image.specs.Image.{header_block, header_rules, slot_in, slot_rules, entry_at, entries_from, entries_of, slots_of, numbers_of, numbers_in, Holds}
 use Rattle.edi_image.specs.migrate.OldImage.{old_entries_of, old_slots_of, old_fault_of}
-use Rattle.edi_image.specs.migrate.OldFiles.{is_old_stored, migrated_slots, old_files_of}
+use Rattle.edi_image.specs.migrate.OldFiles.{is_old_stored, old_files_of}
+use Rattle.edi_image.specs.migrate.MigratedSlots.{migrated_slots}
 use Rattle.edi_image.specs.Stored.{StoredFile, stored_of, are_data, is_record}
 use Rattle.edi_image.specs.Bytes.{bytes_of_slot}
 use Rattle.edi_image.specs.migrate.Migrated.{blocks_of_slots, moved, moved_from}

@@ -8,14 +8,16 @@ use Rattle.std.proofs.lemmas.List.{length-map, length-take-le}
 use Rattle.std.proofs.lemmas.List.Folds.{flat_map-map}
 use Rattle.edi_image.specs.Entries.{block_at}
 use Rattle.std.proofs.lemmas.Bool.{le-leb, and_parts, and_from}
-use Rattle.edi_host.specs.Blocks.{blocks_of, resized}
+use Rattle.edi_host.specs.Blocks.{resized}
+use Rattle.edi_host.specs.BytesAsBlocks.{blocks_of}
 use Rattle.edi_calls.specs.State.{most_bytes, pages_of}
 use Rattle.edi_calls.specs.State as calls
 use Rattle.edi_image.specs.declared.migrate.migrating.MigrateEnd.{MigrateEnd}
 use Rattle.edi_image.specs.declared.migrate.migrating.MigrateEnd.TheVariants as end
 use Rattle.edi_image.specs.Image.{Holds}
 use Rattle.edi_image.specs.migrate.OldImage.{old_fault_of, old_slots_of}
-use Rattle.edi_image.specs.migrate.OldFiles.{is_old_stored, migrated_slots, old_files_of}
+use Rattle.edi_image.specs.migrate.OldFiles.{is_old_stored, old_files_of}
+use Rattle.edi_image.specs.migrate.MigratedSlots.{migrated_slots}
 use Rattle.edi_image.specs.Stored.{StoredFile, blocks_in, blocks_taken, is_sized}
 use Rattle.edi_image.specs.migrate.Migrated.{blocks_of_slots, migrated_bytes, HasRoom, AreStored, IfFull, MigrateAnswers, MigrateLeaves, MigrateTouches}
 use Rattle.edi_image.specs.migrate.Migrated.{is_image_fault, refuses}

@@ -1,6 +1,6 @@
 -- Words of contracts. How many bytes of an image of version 1 have to be fetched.
 use Rattle.std.specs.Prelude.{◌≡◌, ℕ, List, take, None}
-use Rattle.edi_host.specs.Blocks.{blocks_of}
+use Rattle.edi_host.specs.BytesAsBlocks.{blocks_of}
 use Rattle.edi_image.specs.migrate.OldImage.{old_fault_of}
 
 -- a block more than an image may have

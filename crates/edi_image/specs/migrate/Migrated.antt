@@ -12,7 +12,8 @@ use Rattle.edi_image.specs.Entries.{block_at}
 use Rattle.edi_image.specs.Build.{map_block}
 use Rattle.edi_image.specs.Image.{header_block, Holds}
 use Rattle.edi_image.specs.migrate.OldImage.{old_fault_of}
-use Rattle.edi_image.specs.migrate.OldFiles.{is_old_stored, migrated_slots, old_files_of}
+use Rattle.edi_image.specs.migrate.OldFiles.{is_old_stored, old_files_of}
+use Rattle.edi_image.specs.migrate.MigratedSlots.{migrated_slots}
 use Rattle.edi_image.specs.Stored.{StoredFile}
 use Rattle.edi_image.specs.Bytes.{bytes_of_slot}
 use Rattle.edi_image.specs.declared.migrate.migrating.MigrateEnd.{MigrateEnd}

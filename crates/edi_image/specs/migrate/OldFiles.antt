@@ -6,7 +6,7 @@ use Rattle.edi_image.specs.Records.{FileRecord}
 use Rattle.edi_image.specs.Rules.{Rule, used_by}
 use Rattle.edi_image.specs.Entries.{is_data}
 use Rattle.edi_image.specs.migrate.OldEntries.{old_most_bytes, old_entry_says}
-use Rattle.edi_image.specs.migrate.OldImage.{old_entry_at, old_entries_of, old_slots_of}
+use Rattle.edi_image.specs.migrate.OldImage.{old_entry_at, old_entries_of}
 use Rattle.edi_image.specs.Stored.{StoredFile, stored_of}
 use Rattle.edi_image.specs.declared.entries.Said.{Said}
 use Rattle.edi_image.specs.declared.entries.Said.TheVariants as said
@@ -34,10 +34,6 @@ is_old_stored count (Some file) =
 -- what is kept of the 64 slots, and 192 free ones behind them
 abbrev pub old_files_of : List (List ℕ) → List (Option StoredFile)
 old_files_of blocks = map (stored_of blocks) (old_entries_of blocks) ++ replicate 192 None
-
--- the files of an image of version 1 in the 256 slots of one of version 2, under their numbers
-abbrev pub migrated_slots : List (List ℕ) → List (Option File)
-migrated_slots blocks = old_slots_of blocks ++ replicate 192 None
 
 -- what is read of a map block: its rules use their blocks, and these are its page numbers
 pub record TakesMap (used_before used_after : List ℕ) (rules : List Rule) (pages numbers : List ℕ) : Type 0 where

@@ -3,7 +3,7 @@
 ghost use Rattle.std.specs.Prelude.{◌≡◌, ◌≤◌, ◌<◌, ◌+◌, ◌++◌, ◌*◌, drop, length, MatchResult, true};
 ghost use Rattle.edi_told.specs.Faults.{CountRose};
 ghost use Rattle.edi_told.specs.Told.{WhereTold};
-ghost use Rattle.edi_host.specs.Blocks.{blocks_of};
+ghost use Rattle.edi_host.specs.BytesAsBlocks.{blocks_of};
 ghost use Rattle.edi_calls.specs.State as calls;
 ghost use Rattle.edi_image.specs.migrate.OldImage.{old_slots_of};
 ghost use Rattle.edi_image.specs.migrate.OldFiles.{old_files_of};

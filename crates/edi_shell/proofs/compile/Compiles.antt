@@ -7,8 +7,8 @@ use Rattle.std.proofs.lemmas.Grind.{div_ceil_times}
 use Rattle.edi_calls.specs.State.{File, State, free, most_bytes}
 use Rattle.edi_calls.specs.declared.kinds.FileKind.{FileKind}
 use Rattle.edi_calls.specs.declared.kinds.FileKind.TheVariants as file_kind
-use Rattle.edi_catalog.specs.InSlots.{no_room}
-use Rattle.edi_catalog.specs.Storing.{slots_stored}
+use Rattle.edi_catalog.specs.Refusing.{no_room}
+use Rattle.edi_catalog.specs.SlotsStored.{slots_stored}
 use Rattle.edi_codefile.proofs.Files.{count_words, few_words, size_holds}
 use Rattle.edi_compile.specs.Taken.{HasTaken}
 use Rattle.edi_compile.specs.declared.intake.Intake.{Intake}

@@ -5,12 +5,13 @@ use Rattle.std.specs.Prelude.{codes, Contains}
 use Rattle.edi_calls.specs.declared.ends.Outside.{Outside}
 use Rattle.edi_calls.specs.declared.kinds.FileKind.TheVariants as file_kind
 use Rattle.edi_calls.specs.State.{File, State, free}
-use Rattle.edi_catalog.specs.InSlots.{no_room}
-use Rattle.edi_catalog.specs.Storing.{slots_stored}
+use Rattle.edi_catalog.specs.Refusing.{no_room}
+use Rattle.edi_catalog.specs.SlotsStored.{slots_stored}
 use Rattle.edi_catalog.specs.declared.ends.CatEnd.{CatEnd}
 use Rattle.edi_catalog.specs.declared.ends.CatEnd.TheVariants as cat
-use Rattle.edi_edit.specs.Editing.{Editing, EndsBy, undone}
-use Rattle.edi_edit.specs.Editing as edit
+use Rattle.edi_edit.specs.Editing.{Editing, undone}
+use Rattle.edi_edit.specs.Undoing.{EndsBy}
+use Rattle.edi_edit.specs.Undoing as edit
 use Rattle.edi_edit.specs.declared.EditEnd.{EditEnd}
 use Rattle.edi_edit.specs.declared.EditEnd.TheVariants as edit_end
 use Rattle.edi_edit.specs.Lines.{bytes_of_lines, size_of_lines}

@@ -3,7 +3,8 @@ use Rattle.std.proofs.Common.{◌≡◌, ℕ, ◌+◌, Bool, true, false, inr, L
 use Rattle.std.specs.Prelude.{◌-◌, insert, slice_set, codes}
 use Rattle.edi_calls.specs.Choice.{Choices}
 use Rattle.edi_calls.specs.State.{State}
-use Rattle.edi_edit.specs.Editing.{Editing, EndsBy, changed, is_index, refusal}
+use Rattle.edi_edit.specs.Editing.{Editing, changed, is_index, refusal}
+use Rattle.edi_edit.specs.Undoing.{EndsBy}
 use Rattle.edi_edit.specs.declared.EditEnd.{EditEnd}
 use Rattle.edi_session.proofs.Later.{says_on}
 use Rattle.edi_session.proofs.Total as total

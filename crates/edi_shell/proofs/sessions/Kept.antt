@@ -4,9 +4,9 @@ use Rattle.std.specs.Prelude.{if◌then◌else◌, codes}
 use Rattle.edi_calls.specs.Calls.{is_text}
 use Rattle.edi_calls.specs.State.{File, free}
 use Rattle.edi_catalog.specs.declared.ends.CatEnd.{CatEnd}
-use Rattle.edi_catalog.specs.Changes.{deleted, file_protected, file_renamed, slots_changed}
-use Rattle.edi_catalog.specs.InSlots.{no_deletion, no_renaming, no_room, no_such}
-use Rattle.edi_catalog.specs.Storing.{slots_stored}
+use Rattle.edi_catalog.specs.SlotsChanged.{deleted, file_protected, file_renamed, slots_changed}
+use Rattle.edi_catalog.specs.Refusing.{no_deletion, no_renaming, no_room, no_such}
+use Rattle.edi_catalog.specs.SlotsStored.{slots_stored}
 use Rattle.edi_session.specs.declared.line.Line.{Line}
 use Rattle.edi_session.specs.declared.line.Line.TheVariants as line
 use Rattle.edi_session.specs.Files.{answered, copies_to, file_in, with_file, with_text}

@@ -2,7 +2,7 @@
 
 ghost use Rattle.std.specs.Prelude.{◌≡◌, ◌≤◌, ◌++◌, ◌∷◌, [], ℕ, List, Option, false, length, vec_capacity};
 ghost use Rattle.edi_shell.specs.edit.Prelude.{Editing, EditsBy, Shell, IsLeftSo, At, IsLeft, Edits, puts};
-ghost use Rattle.edi_edit.specs.Editing.{EndsBy};
+ghost use Rattle.edi_edit.specs.Undoing.{EndsBy};
 ghost use Rattle.edi_edit.specs.Lines.{has_feed};
 ghost use Rattle.edi_edit.specs.declared.EditEnd.{EditEnd};
 ghost use Rattle.edi_session.specs.Session.{ChangesLine, edit_refusal};

@@ -13,8 +13,9 @@ use Rattle.edi_image.specs.Stored.{StoredFile, stored_of}
 use Rattle.edi_catalog.specs.declared.ends.CatEnd.{CatEnd}
 use Rattle.edi_catalog.specs.declared.ends.CatEnd.TheVariants as cat
 use Rattle.edi_catalog.specs.declared.entry.Entry.{Entry}
-use Rattle.edi_catalog.specs.Changes.{file_protected, slots_changed}
-use Rattle.edi_catalog.specs.InSlots.{entry_told, no_such}
+use Rattle.edi_catalog.specs.SlotsChanged.{file_protected, slots_changed}
+use Rattle.edi_catalog.specs.InSlots.{entry_told}
+use Rattle.edi_catalog.specs.Refusing.{no_such}
 use Rattle.edi_catalog.specs.Mounted.{files_of}
 use Rattle.edi_system.specs.AsCalls.{IsDueFrom, IsDueSince, KeepsDue}
 use Rattle.edi_system.specs.InState as InState

@@ -4,9 +4,10 @@ ghost use Rattle.std.specs.Prelude.{◌≡◌, ◌≤◌, ◌<◌, ◌+◌, ◌^
 ghost use Rattle.std.specs.Option.{option_map};
 ghost use Rattle.edi_calls.specs.declared.ends.Outside.{Outside};
 ghost use Rattle.edi_calls.specs.State.{State, find_file, free, most_bytes, slot_at};
-ghost use Rattle.edi_catalog.specs.Changes.{deleted, file_protected, file_renamed, slots_changed};
-ghost use Rattle.edi_catalog.specs.InSlots.{entry_told, no_deletion, no_renaming, no_room, no_such};
-ghost use Rattle.edi_catalog.specs.Storing.{slots_stored};
+ghost use Rattle.edi_catalog.specs.SlotsChanged.{deleted, file_protected, file_renamed, slots_changed};
+ghost use Rattle.edi_catalog.specs.InSlots.{entry_told};
+ghost use Rattle.edi_catalog.specs.Refusing.{no_deletion, no_renaming, no_room, no_such};
+ghost use Rattle.edi_catalog.specs.SlotsStored.{slots_stored};
 ghost use Rattle.edi_session.specs.Files.{file_in};
 ghost use Rattle.edi_session.specs.Shell.{Shell, on_fresh_line, printed_by, shown_by, state_in};
 ghost use Rattle.edi_shell_io.specs.calls.Standing.{Answers, At, IsLeft, IsLeftBy, Leads, Runs, ReadsFile, ReadsPage, Takes};

@@ -10,7 +10,8 @@ use Rattle.edi_tree.specs.Tree as text
 use Rattle.edi_tree.specs.Depth.{list_depth, procedure_depth, item_depth, module_depth, member_depth, members_depth, declaration_depth, declarations_depth}
 use Rattle.edi_unit.specs.Tree.{Block}
 use Rattle.edi_unit.specs.Need.{block_at}
-use Rattle.edi_unit.specs.Fits.{ActsFit, greatest_levels, is_called, heading_result}
+use Rattle.edi_unit.specs.Fits.{ActsFit, greatest_levels, is_called}
+use Rattle.edi_unit.specs.Headings.{heading_result}
 use Rattle.edi_static.specs.Judged.{Judged, gives, faults, ◌>>=◌}
 use Rattle.edi_static.specs.Environment.{Begun, Environment, here}
 use Rattle.edi_static.specs.Types.{const_list, type_decl, var_list}

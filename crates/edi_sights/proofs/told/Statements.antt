@@ -8,7 +8,8 @@ use Rattle.edi_unit.specs.Types.{bool_type, int_type, greatest_size}
 use Rattle.edi_unit.specs.Tree as unit
 use Rattle.edi_unit.specs.Tree.{Acts, Block}
 use Rattle.edi_unit.specs.Need.{block_at, need}
-use Rattle.edi_unit.specs.Fits.{ActsFit, greatest_levels, heading_formals}
+use Rattle.edi_unit.specs.Fits.{ActsFit, greatest_levels}
+use Rattle.edi_unit.specs.Headings.{heading_formals}
 use Rattle.edi_static.specs.declared.faults.StaticKind.TheVariants as kind
 use Rattle.edi_static.specs.Judged.{Judged, gives, faults, ◌>>=◌}
 use Rattle.edi_static.specs.Environment.{Environment, here, look_up, no_heading}

@@ -7,7 +7,7 @@ use Rattle.edi_tree.specs.declared.names.Name.{Name}
 use Rattle.edi_tree.specs.declared.constants.ConstDecl.{ConstDecl}
 use Rattle.edi_tree.specs.Tree as text
 use Rattle.edi_unit.specs.Types.{Shape, record_of, array_of, set_of, is_elementary}
-use Rattle.edi_unit.specs.Fits.{Formals}
+use Rattle.edi_unit.specs.Headings.{Formals}
 use Rattle.edi_static.specs.declared.faults.StaticKind.TheVariants as kind
 use Rattle.edi_static.specs.Judged.{gives, must}
 use Rattle.edi_static.specs.Environment.{Environment, declare}

@@ -5,7 +5,7 @@ use Rattle.edi_tree.specs.Tree as text
 use Rattle.edi_unit.specs.Types.{greatest_size}
 use Rattle.edi_unit.specs.Tree.{Acts}
 use Rattle.edi_unit.specs.Need.{need}
-use Rattle.edi_unit.specs.Fits.{heading_formals}
+use Rattle.edi_unit.specs.Headings.{heading_formals}
 use Rattle.edi_static.specs.declared.faults.StaticKind.TheVariants as kind
 use Rattle.edi_static.specs.Judged.{Judged, gives, faults, ◌>>=◌}
 use Rattle.edi_static.specs.Environment.{Environment}

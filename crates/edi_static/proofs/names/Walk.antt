@@ -7,7 +7,7 @@ use Rattle.edi_scope.specs.Scope.{Scope, meaning, declared, outside, entered, st
 use Rattle.edi_tree.specs.Tree as text
 use Rattle.edi_unit.specs.declared.units.BlockKind.TheVariants as block_kind
 use Rattle.edi_unit.specs.Tree.{Acts, ProgramUnit}
-use Rattle.edi_unit.specs.Fits.{heading_result}
+use Rattle.edi_unit.specs.Headings.{heading_result}
 use Rattle.edi_static.specs.Judged.{Judged, gives, ◌>>=◌}
 use Rattle.edi_static.specs.Environment.{Environment, Begun, at_first, enter, declare, give_outside}
 use Rattle.edi_static.specs.Headings.{leave, round, own_name, heading_parts}

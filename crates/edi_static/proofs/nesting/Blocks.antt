@@ -5,7 +5,7 @@ use Rattle.edi_tree.specs.Tree as text
 use Rattle.edi_tree.specs.Depth.{expr_depth, args_depth, optional_args_depth, variable_depth, depth}
 use Rattle.edi_unit.specs.Tree.{Act, Acts, no_act, act_then, Block}
 use Rattle.edi_unit.specs.Need.{block_at}
-use Rattle.edi_unit.specs.Fits.{heading_formals}
+use Rattle.edi_unit.specs.Headings.{heading_formals}
 use Rattle.edi_static.specs.declared.faults.StaticKind.TheVariants as kind
 use Rattle.edi_static.specs.Environment.{Environment}
 use Rattle.edi_static.specs.Fitting.{Use, constructs, calls, halts, neither}

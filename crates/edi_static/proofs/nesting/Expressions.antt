@@ -7,7 +7,7 @@ use Rattle.edi_tree.specs.Depth.{expr_depth, comparison_depth, exprs_depth, simp
 use Rattle.edi_tree.specs.Depth.{multipliers_depth, factor_depth, args_depth, variable_depth, selector_depth, selectors_depth}
 use Rattle.edi_unit.specs.Types.{shape_at, bool_type}
 use Rattle.edi_unit.specs.Tree as unit
-use Rattle.edi_unit.specs.Fits.{Formals, heading_formals}
+use Rattle.edi_unit.specs.Headings.{Formals, heading_formals}
 use Rattle.edi_static.specs.declared.faults.StaticKind.TheVariants as kind
 use Rattle.edi_static.specs.Environment.{Environment, look_up}
 use Rattle.edi_static.specs.Operators.{Typed, relation_operator, addition_operator, multiplication_operator, signed, operated}

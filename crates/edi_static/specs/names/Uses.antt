@@ -1,4 +1,4 @@
--- Definition. Each name that is used in an expression or a statement is one of these names. The name of a field belongs to its record,
+-- Words of contracts. Each name that is used in an expression or a statement is one of these names. The name of a field belongs to its record,
 -- and does not count here.
 use Rattle.std.specs.Prelude.{ℕ, Bool, false, ◌||◌, IsTrue, List, [], ◌∷◌}
 use Rattle.std.specs.Str.{bytes_eq}

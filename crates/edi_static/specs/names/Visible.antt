@@ -1,4 +1,4 @@
--- Definition. Each name of a program is visible where it is used: there it is a standard name, or one that is declared before, in the
+-- Words of contracts. Each name of a program is visible where it is used: there it is a standard name, or one that is declared before, in the
 -- same scope or in one round it. What is declared in a procedure or a module is not seen behind its `end`, but for what a
 -- module exports.
 use Rattle.std.specs.Prelude.{ℕ, List, [], ◌∷◌, ◌++◌, Option, Some, None, codes}

@@ -11,7 +11,8 @@ use Rattle.edi_calls.specs.Ready.{Next, stays, joins}
 use Rattle.edi_calls.specs.State.{State}
 use Rattle.edi_target.specs.Op as op
 use Rattle.edi_target.specs.Op.{Instruction, is_allowed, is_flag, words_of}
-use Rattle.edi_target.specs.Decode.{Reads, AreWords, decode}
+use Rattle.edi_target.specs.Decode.{decode}
+use Rattle.edi_target.specs.Reading.{Reads, AreWords}
 use Rattle.edi_target.specs.Fetch.{fetch}
 use Rattle.edi_target.specs.Mach.{ready, waiting, Activity, Machine, Stepped, went, ended, step, first_activity, entered}
 use Rattle.edi_target.proofs.Reading.{decode_reads}

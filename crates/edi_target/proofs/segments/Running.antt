@@ -7,7 +7,7 @@ use Rattle.edi_calls.specs.Names.{Name, same, find}
 use Rattle.edi_calls.specs.Outcome.{Ending}
 use Rattle.edi_calls.specs.Ready.{has, stays, joins, Taking, nobody, taking, name_at, without_index, take_next}
 use Rattle.edi_calls.proofs.Tables.{same-refl, same-equal}
-use Rattle.edi_target.specs.Decode.{AreWords}
+use Rattle.edi_target.specs.Reading.{AreWords}
 use Rattle.edi_target.specs.Fetch.{fetch}
 use Rattle.edi_target.specs.Mach.{Activity, Machine, Stepped, went, ended, step, finished, go_on, after_step, run, entered}
 use Rattle.edi_target.specs.segments.Nested.{MayGoOn, machine_after, Stays, unchanged, awaited, EveryEndIsNested}

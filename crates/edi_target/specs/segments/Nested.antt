@@ -6,7 +6,7 @@ use Rattle.edi_calls.specs.Outcome.{Ending}
 use Rattle.edi_calls.specs.Ready.{Next, parent_of}
 use Rattle.edi_calls.specs.State.{State}
 use Rattle.edi_target.specs.Op.{Instruction}
-use Rattle.edi_target.specs.Decode.{AreWords}
+use Rattle.edi_target.specs.Reading.{AreWords}
 use Rattle.edi_target.specs.Fetch.{fetch}
 use Rattle.edi_target.specs.Mach.{waiting, Activity, Machine, Stepped, went, ended, step, awaits, entered, Ends, IsAncestor}
 

@@ -16,7 +16,7 @@ use Rattle.edi_unit.specs.Types.{Shape, standard_types, size, greatest_size}
 use Rattle.edi_unit.specs.Tree as unit
 use Rattle.edi_unit.specs.Tree.{Act, Acts, Block}
 use Rattle.edi_unit.specs.Need.{no_block, block_at, slots, slot_at, need, link_words, variable_words, acts_height}
-use Rattle.edi_unit.specs.Fits.{Heading}
+use Rattle.edi_unit.specs.Headings.{Heading}
 use Rattle.edi_static.specs.declared.faults.StaticKind.TheVariants as kind
 use Rattle.edi_static.specs.Judged.{gives, ◌>>=◌, must}
 use Rattle.edi_static.specs.Environment.{Environment, no_heading, steps_to, begun_block}

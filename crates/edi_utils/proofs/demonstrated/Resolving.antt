@@ -12,7 +12,7 @@ use Rattle.edi_unit.specs.Types.{standard_types}
 use Rattle.edi_unit.specs.Tree as unit
 use Rattle.edi_unit.specs.Tree.{Act, Acts, Block, ProgramUnit}
 use Rattle.edi_unit.specs.Need.{block_at}
-use Rattle.edi_unit.specs.Fits.{Heading}
+use Rattle.edi_unit.specs.Headings.{Heading}
 use Rattle.edi_static.specs.Judged.{Judged, gives, ◌>>=◌}
 use Rattle.edi_static.specs.Environment.{Environment, no_heading, heading_at, steps_to, begun_block}
 use Rattle.edi_static.specs.Statements.{After, statement, statements, statement_list, branch, branches, leave_branch, close_block}

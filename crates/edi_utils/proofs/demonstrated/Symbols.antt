@@ -9,7 +9,7 @@ use Rattle.std.proofs.Math.Nat.{mul-suc}
 use native.Mathlib.Numerals.{unary_clauses}
 use Rattle.edi_lex.specs.Bytes.{is_digit, is_name_byte, line_feeds}
 use Rattle.edi_lex.specs.Words.{word_of}
-use Rattle.edi_lex.specs.Spelling.{is_name, is_numeral}
+use Rattle.edi_lex.specs.Spelled.{is_name, is_numeral}
 use Rattle.edi_lex.specs.Symbols.{piece_of, symbols_from, symbols_of, is_too_long, with_front}
 use Rattle.edi_lex.specs.declared.symbol.Symbol.TheVariants as is
 use Rattle.edi_lex.specs.declared.symbol.Mark.{Mark}

@@ -4,7 +4,7 @@ use Rattle.edi_image.specs.Entries.{block_at}
 use Rattle.edi_catalog.proofs.Sequence.{checks_none, checks_map, checks_with, checks_as}
 use Rattle.edi_image.proofs.MapRules.{map_again, map_wrong, map_found, numbers_behind, length-numbers_in, length_behind, on_ok}
 use Rattle.std.specs.Prelude.{IfErr, nat_le}
-use Rattle.edi_catalog.specs.Taken.{IsInRange}
+use Rattle.edi_catalog.specs.Counted.{IsInRange}
 use Rattle.edi_catalog.proofs.Taken.{drive_in_range, map_takes, pages_in_range}
 use Rattle.edi_catalog.proofs.StillCached.{entries_stay}
 use Rattle.std.proofs.lemmas.Bool.{and_parts, leb-true}

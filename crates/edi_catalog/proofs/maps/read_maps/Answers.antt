@@ -1,5 +1,5 @@
 use Rattle.std.proofs.Common.{◌∙◌, ap, subst, sym}
-use Rattle.edi_catalog.specs.Taken.{IsInRange}
+use Rattle.edi_catalog.specs.Counted.{IsInRange}
 use Rattle.edi_catalog.proofs.Taken.{one_taken, two_taken}
 use Rattle.edi_calls.specs.State.{pages_of}
 use Rattle.edi_image.specs.Records.{FileRecord}

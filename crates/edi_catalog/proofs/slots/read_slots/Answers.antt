@@ -4,7 +4,7 @@ use Rattle.edi_disk.specs.Shown.{drive_of}
 use Rattle.edi_image.specs.Stored.{is_fit, is_stored}
 use Rattle.edi_image.proofs.SlotRules.{entry_fits, progress_from, progress_on, progress_fails, progress_ends}
 use Rattle.edi_catalog.specs.Mounted.{entry_kept}
-use Rattle.edi_catalog.specs.Taken.{IsInRange}
+use Rattle.edi_catalog.specs.Counted.{IsInRange}
 use Rattle.edi_catalog.proofs.KeptEntries.{said_is, says_more}
 use Rattle.edi_catalog.proofs.Sequence.{checks_none, checks_then, checks_map, checks_with}
 use Rattle.edi_catalog.proofs.StillCached.{entries_then}

@@ -1,5 +1,6 @@
 use Rattle.std.proofs.Common.{◌≡◌, ◌++◌}
-use Rattle.edi_store.specs.Memory.{IsMemory, words_at}
+use Rattle.edi_store.specs.Memory.{words_at}
+use Rattle.edi_store.specs.Copied.{IsMemory}
 use Rattle.edi_kernel.proofs.kept.keep_frame.Given as goal
 
 -- the words so far are those from `from` on

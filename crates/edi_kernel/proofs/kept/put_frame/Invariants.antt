@@ -1,5 +1,6 @@
 use Rattle.std.proofs.Common.{◌≡◌, take}
-use Rattle.edi_store.specs.Memory.{IsMemory, written}
+use Rattle.edi_store.specs.Memory.{written}
+use Rattle.edi_store.specs.Copied.{IsMemory}
 use Rattle.edi_kernel.proofs.kept.put_frame.Given as goal
 
 -- the words so far are written

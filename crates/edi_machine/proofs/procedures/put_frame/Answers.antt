@@ -1,5 +1,5 @@
 use Rattle.std.proofs.Common.{◌+◌, ◌-◌, ◌∷◌, [], refl, ap, ◌∙◌, arith}
-use Rattle.edi_store.specs.Memory.{cleared, copied}
+use Rattle.edi_store.specs.Copied.{cleared, copied}
 use Rattle.edi_target.specs.Op.{high_word, low_word}
 use Rattle.edi_machine.proofs.NewFrames.{frame_written}
 use Rattle.edi_machine.proofs.procedures.put_frame.Goals as goal

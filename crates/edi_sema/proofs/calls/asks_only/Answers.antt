@@ -1,6 +1,6 @@
 use Rattle.std.proofs.Common.{◌∷◌, [], sym, ◌∙◌}
 use Rattle.std.specs.Prelude.{None}
-use Rattle.edi_unit.specs.Fits.{heading}
+use Rattle.edi_unit.specs.Headings.{heading}
 use Rattle.edi_static.specs.Views.{asked_of, formal_of, formals, same_one}
 use Rattle.edi_sema.proofs.Shapes.{one_stated, not_one, with_result, with_no_result}
 use Rattle.edi_sema.proofs.calls.asks_only.Goals as goal

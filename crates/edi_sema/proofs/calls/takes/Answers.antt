@@ -1,6 +1,6 @@
 use Rattle.std.proofs.Common.{◌∙◌, ap}
 use Rattle.std.specs.Prelude.{None}
-use Rattle.edi_unit.specs.Fits.{heading}
+use Rattle.edi_unit.specs.Headings.{heading}
 use Rattle.edi_static.specs.Environment.{same_heading}
 use Rattle.edi_static.specs.Views.{asked_of}
 use Rattle.edi_sema.proofs.calls.takes.Goals as goal

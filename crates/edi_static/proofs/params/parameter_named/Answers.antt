@@ -1,5 +1,5 @@
 use Rattle.std.proofs.Common.{map, ap, ◌∙◌}
-use Rattle.edi_unit.specs.Fits.{Formals}
+use Rattle.edi_unit.specs.Headings.{Formals}
 use Rattle.edi_unit.specs.Lists.{list_items}
 use Rattle.edi_static.specs.Environment.{formals_append}
 use Rattle.edi_static.specs.Headings.{formal_one}

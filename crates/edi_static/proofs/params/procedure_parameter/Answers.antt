@@ -1,7 +1,7 @@
 use Rattle.std.proofs.Common.{◌≡◌, length, map, ap, ◌∙◌, arith}
 use Rattle.std.specs.Prelude.{[], ◌∷◌}
 use Rattle.std.proofs.lemmas.List.{length-map}
-use Rattle.edi_unit.specs.Fits.{Formals}
+use Rattle.edi_unit.specs.Headings.{Formals}
 use Rattle.edi_unit.specs.Lists.{list_items}
 use Rattle.edi_static.specs.Judged.{gives}
 use Rattle.edi_static.specs.Environment.{formals_append}

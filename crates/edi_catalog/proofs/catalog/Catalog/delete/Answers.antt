@@ -1,5 +1,5 @@
 use Rattle.edi_calls.specs.State.{find_file}
-use Rattle.edi_catalog.specs.InSlots.{no_deletion}
+use Rattle.edi_catalog.specs.Refusing.{no_deletion}
 use Rattle.edi_catalog.specs.Mounted.{files_of}
 use Rattle.edi_catalog.proofs.InSlots.{changes_in_slots, deletion_told}
 use Rattle.edi_catalog.proofs.catalog.Catalog.delete.Goals as goal

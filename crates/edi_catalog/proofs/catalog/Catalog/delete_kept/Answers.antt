@@ -1,6 +1,6 @@
 use Rattle.std.proofs.Common.{sym, refl, None}
 use Rattle.edi_catalog.specs.Mounted.{files_of}
-use Rattle.edi_catalog.specs.Changes.{deleted}
+use Rattle.edi_catalog.specs.SlotsChanged.{deleted}
 use Rattle.edi_catalog.proofs.Changing.{changes_as, delete_refusal, has_file, has_unprotected}
 use Rattle.edi_catalog.proofs.catalog.Catalog.delete_kept.Goals as goal
 

@@ -1,6 +1,7 @@
 use Rattle.std.proofs.Common.{ap, sym, refl, inl, Some}
 use Rattle.edi_catalog.specs.Mounted.{files_of}
-use Rattle.edi_catalog.specs.Changes.{file_protected, kept_protected, not_found}
+use Rattle.edi_catalog.specs.Changes.{kept_protected, not_found}
+use Rattle.edi_catalog.specs.SlotsChanged.{file_protected}
 use Rattle.edi_catalog.specs.Writing.{file_as, kept_as, record_protected}
 use Rattle.edi_image.proofs.KeptFiles.{file_of}
 use Rattle.edi_catalog.proofs.Changing.{changes_as, entry_is, has_file, kept_title, record_at}

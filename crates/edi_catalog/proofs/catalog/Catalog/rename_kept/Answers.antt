@@ -1,6 +1,7 @@
 use Rattle.std.proofs.Common.{◌≡◌, ◌∙◌, ap, sym, refl, inr, Some, Err}
 use Rattle.edi_catalog.specs.Mounted.{files_of}
-use Rattle.edi_catalog.specs.Changes.{file_renamed, kept_renamed}
+use Rattle.edi_catalog.specs.Changes.{kept_renamed}
+use Rattle.edi_catalog.specs.SlotsChanged.{file_renamed}
 use Rattle.edi_catalog.specs.Writing.{file_as, kept_as, record_renamed}
 use Rattle.std.specs.Prelude.{is_some}
 use Rattle.edi_catalog.specs.declared.ends.CatEnd.TheVariants as cat

@@ -1,6 +1,6 @@
 -- The number of blocks of a drive from which a file is got.
 use Rattle.std.proofs.Common.{◌≡◌, rules, subst, sym}
-use Rattle.edi_catalog.specs.Taken.{IsOfCount}
+use Rattle.edi_catalog.specs.Counted.{IsOfCount}
 use Rattle.edi_disk.specs.Shown.{drive_of}
 use Rattle.edi_statuses.specs.EachObject.{FitsGet}
 use Rattle.edi_commands.proofs.steps.Unmounted.{unread_fits}

@@ -5,8 +5,9 @@ use Rattle.edi_disk.specs.Shown.{drive_of}
 use Rattle.edi_image.specs.Image.{slots_of}
 use Rattle.edi_catalog.specs.Mounted.{disk_of}
 use Rattle.edi_catalog.specs.Changes.{Untouched}
-use Rattle.edi_catalog.specs.InSlots.{SlotsAnswer, free_in, no_room}
-use Rattle.edi_catalog.specs.Storing.{slots_stored}
+use Rattle.edi_catalog.specs.InSlots.{SlotsAnswer, free_in}
+use Rattle.edi_catalog.specs.Refusing.{no_room}
+use Rattle.edi_catalog.specs.SlotsStored.{slots_stored}
 use Rattle.edi_catalog.specs.declared.ends.CatEnd.TheVariants as cat
 use Rattle.edi_commands.specs.disk.OnDrive.{StoresOver}
 use Rattle.edi_statuses.proofs.Told.{told_so}

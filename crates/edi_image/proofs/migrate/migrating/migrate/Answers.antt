@@ -1,6 +1,6 @@
 use Rattle.std.proofs.Common.{◌≤◌, sym, subst, arith}
 use Rattle.std.specs.Prelude.{length}
-use Rattle.edi_host.specs.Blocks.{blocks_of}
+use Rattle.edi_host.specs.BytesAsBlocks.{blocks_of}
 use Rattle.edi_image.specs.migrate.Migrated.{MigrateLeaves}
 use Rattle.edi_image.proofs.Told.{told_then, told_same}
 use Rattle.edi_image.proofs.migrate.Migrations.{refuses_leaves, refuses_touches, refusal_told, room_told, image_fits, migration_leaves}

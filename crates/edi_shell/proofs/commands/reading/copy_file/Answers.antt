@@ -2,8 +2,8 @@
 use Rattle.std.proofs.Common.{length}
 use Rattle.std.proofs.lemmas.Result.{err_from_is_err_and}
 use Rattle.edi_calls.specs.State.{free}
-use Rattle.edi_catalog.specs.InSlots.{no_room}
-use Rattle.edi_catalog.specs.Storing.{slots_stored}
+use Rattle.edi_catalog.specs.Refusing.{no_room}
+use Rattle.edi_catalog.specs.SlotsStored.{slots_stored}
 use Rattle.edi_session.specs.Files.{copies_to, file_in}
 use Rattle.edi_session.specs.Shell.{state_in}
 use Rattle.edi_session.proofs.Later.{answered_on}

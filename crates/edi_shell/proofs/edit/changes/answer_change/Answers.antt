@@ -1,5 +1,5 @@
 use Rattle.std.proofs.Common.{subst, ◌∙◌}
-use Rattle.edi_edit.specs.Editing.{EndsBy}
+use Rattle.edi_edit.specs.Undoing.{EndsBy}
 use Rattle.edi_shell.proofs.edit.Rows.{change_made, change_said}
 use Rattle.edi_shell.proofs.edit.changes.answer_change.Goals as goal
 

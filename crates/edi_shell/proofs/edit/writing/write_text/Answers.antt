@@ -1,8 +1,8 @@
 use Rattle.std.proofs.Common.{refl, inr, ◌∙◌, subst}
 use Rattle.std.specs.Prelude.{Err, codes, length}
 use Rattle.edi_calls.specs.State.{free}
-use Rattle.edi_catalog.specs.InSlots.{no_room}
-use Rattle.edi_catalog.specs.Storing.{slots_stored}
+use Rattle.edi_catalog.specs.Refusing.{no_room}
+use Rattle.edi_catalog.specs.SlotsStored.{slots_stored}
 use Rattle.edi_calls.specs.declared.kinds.FileKind.TheVariants as file_kind
 use Rattle.edi_catalog.specs.declared.ends.CatEnd.{CatEnd}
 use Rattle.edi_session.specs.Files.{why_line}

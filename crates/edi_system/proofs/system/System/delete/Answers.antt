@@ -1,7 +1,7 @@
 use Rattle.std.proofs.Common.{◌∙◌, sym}
 use Rattle.edi_calls.specs.State.{find_file}
-use Rattle.edi_catalog.specs.InSlots.{no_deletion}
-use Rattle.edi_catalog.specs.Changes.{deleted, slots_changed}
+use Rattle.edi_catalog.specs.Refusing.{no_deletion}
+use Rattle.edi_catalog.specs.SlotsChanged.{deleted, slots_changed}
 use Rattle.edi_system.proofs.InState.{closed_files, refused_files}
 use Rattle.edi_system.proofs.Lasting.{told_changes}
 use Rattle.edi_system.proofs.system.System.delete.Goals as goal

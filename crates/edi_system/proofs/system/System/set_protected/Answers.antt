@@ -3,8 +3,8 @@ use Rattle.std.specs.Option.{option_map}
 use Rattle.edi_system.specs.State.{found_of}
 use Rattle.edi_system.proofs.Protecting.{index_stays, protects_ready}
 use Rattle.edi_calls.specs.State.{find_file}
-use Rattle.edi_catalog.specs.InSlots.{no_such}
-use Rattle.edi_catalog.specs.Changes.{file_protected, slots_changed}
+use Rattle.edi_catalog.specs.Refusing.{no_such}
+use Rattle.edi_catalog.specs.SlotsChanged.{file_protected, slots_changed}
 use Rattle.edi_system.proofs.InState.{keeps_files}
 use Rattle.edi_system.proofs.Lasting.{told_changes}
 use Rattle.edi_system.proofs.system.System.set_protected.Goals as goal

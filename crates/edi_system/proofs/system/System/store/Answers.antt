@@ -1,6 +1,6 @@
 use Rattle.std.proofs.Common.{◌∙◌, sym, length}
-use Rattle.edi_catalog.specs.InSlots.{no_room}
-use Rattle.edi_catalog.specs.Storing.{slots_stored}
+use Rattle.edi_catalog.specs.Refusing.{no_room}
+use Rattle.edi_catalog.specs.SlotsStored.{slots_stored}
 use Rattle.edi_system.proofs.InState.{closed_files, refused_files}
 use Rattle.edi_system.proofs.Lasting.{told_stores}
 use Rattle.edi_system.proofs.system.System.store.Goals as goal

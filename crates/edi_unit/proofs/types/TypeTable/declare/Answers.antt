@@ -2,7 +2,7 @@ use Rattle.std.proofs.Common.{◌≡◌, ◌∷◌, ◌++◌, [], ap, sym, ◌�
 use Rattle.std.specs.Prelude.{map}
 use Rattle.std.proofs.lemmas.List.{map-append}
 use Rattle.edi_unit.specs.ShapeView.{shape_of}
-use Rattle.edi_unit.specs.Types.{IsDeclarable}
+use Rattle.edi_unit.specs.TypeTables.{IsDeclarable}
 use Rattle.edi_unit.proofs.Tables.{named_known, small_kept, table_kept}
 use Rattle.edi_unit.proofs.types.TypeTable.declare.Goals as goal
 

@@ -1,7 +1,8 @@
 use Rattle.std.proofs.Common.{◌≡◌, ◌<◌, sym, subst, arith, length}
 use Rattle.std.specs.Prelude.{IfSome}
 use Rattle.std.proofs.lemmas.Grind.{common_steps}
-use Rattle.edi_unit.specs.Types.{field_type, IsTypeTable}
+use Rattle.edi_unit.specs.Types.{field_type}
+use Rattle.edi_unit.specs.TypeTables.{IsTypeTable}
 use Rattle.edi_unit.proofs.Tables.{field_known}
 use Rattle.edi_unit.proofs.types.TypeTable.field.Goals as goal
 

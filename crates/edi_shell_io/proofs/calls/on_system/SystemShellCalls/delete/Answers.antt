@@ -1,7 +1,7 @@
 use Rattle.std.proofs.Common.{refl}
 use Rattle.edi_calls.specs.State.{State, find_file, fresh}
-use Rattle.edi_catalog.specs.Changes.{deleted, slots_changed}
-use Rattle.edi_catalog.specs.InSlots.{no_deletion}
+use Rattle.edi_catalog.specs.SlotsChanged.{deleted, slots_changed}
+use Rattle.edi_catalog.specs.Refusing.{no_deletion}
 use Rattle.edi_shell_io.proofs.calls.Told.{answers}
 use Rattle.edi_shell_io.proofs.calls.on_system.SystemShellCalls.delete.Goals as goal
 

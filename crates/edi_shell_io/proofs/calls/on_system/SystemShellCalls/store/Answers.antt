@@ -1,7 +1,7 @@
 use Rattle.std.proofs.Common.{refl, length}
 use Rattle.edi_calls.specs.State.{State, free, fresh}
-use Rattle.edi_catalog.specs.InSlots.{no_room}
-use Rattle.edi_catalog.specs.Storing.{slots_stored}
+use Rattle.edi_catalog.specs.Refusing.{no_room}
+use Rattle.edi_catalog.specs.SlotsStored.{slots_stored}
 use Rattle.edi_shell_io.proofs.calls.Told.{answers}
 use Rattle.edi_shell_io.proofs.calls.on_system.SystemShellCalls.store.Goals as goal
 

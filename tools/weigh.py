@@ -1,9 +1,9 @@
 #!/usr/bin/env python3
 """Measures what the gate costs, crate by crate, and prints the table of docs/GATE.md.
 
-usage: docs/weigh.py                runs `rt ci --anew` once, from nothing
-       docs/weigh.py NAME..         runs `rt ci NAME..`, which proves what it has not kept, and adds to what was measured
-       docs/weigh.py --table FILE   the table of what earlier runs wrote to FILE
+usage: tools/weigh.py                runs `rt ci --anew` once, from nothing
+       tools/weigh.py NAME..         runs `rt ci NAME..`, which proves what it has not kept, and adds to what was measured
+       tools/weigh.py --table FILE   the table of what earlier runs wrote to FILE
 
 While the gate runs, the processor time (user and system) of each process of the prover is read off /proc four times a
 second. A crate's processes are told apart by what they check: the crate itself, its tests, or a copy of it under a

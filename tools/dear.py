@@ -1,7 +1,7 @@
 #!/usr/bin/env python3
 """Says which functions of a crate are dear to prove: the processor seconds of each, in a check from nothing by one process.
 
-usage: docs/dear.py CRATE [WORD]    with a WORD only the functions whose names end so or lie below it, and those that they call
+usage: tools/dear.py CRATE [WORD]    with a WORD only the functions whose names end so or lie below it, and those that they call
 
 The libraries below the crate are those in their out/ folders (`rt lib` makes them); nothing kept of the crate is used, and
 nothing is written. A line stands for what was checked since the line before: a function, with all that it is the first
