@@ -5,7 +5,7 @@ ghost use Rattle.std.specs.List.{prefix_len};
 ghost use Rattle.edi_lex.specs.Bytes as spec;
 ghost use Rattle.edi_explain.specs.places.Cuts as cuts;
 
-use edi_lex::{is_digit, is_letter};
+use edi_lex::{is_digit, is_letter, is_separator};
 
 #[derive(Clone, Copy)]
 pub enum Class {

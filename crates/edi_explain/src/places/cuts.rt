@@ -8,6 +8,7 @@ ghost use Rattle.edi_explain.specs.places.Cuts.{Cuts, Within, is_there};
 ghost use Rattle.edi_lex.specs.Specials.{special_of, special_pair};
 
 use crate::places::classes::{Class, length_of};
+use edi_lex::{is_digit, is_letter, is_separator};
 
 /// A piece of a text, with how many bytes it has after its first.
 #[derive(Clone, Copy)]
