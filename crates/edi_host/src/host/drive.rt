@@ -123,6 +123,20 @@ impl<'a, R: rt::Files> HostDrive<'a, R> {
         }
     }
 
+    /// The drive while another call of the program holds its file: 64 blocks of which every call fails.
+    pub fn busy(rt: &'a R) -> Self
+        ensures no_faults { result.faults ≡ 0 }
+        ensures broken { result.broken ≡ true }
+        ensures count { result.count ≡ 64 }
+    {
+        HostDrive {
+            rt,
+            image: Image::Broken,
+            blocks: BROKEN_BLOCKS,
+            faults: 0,
+        }
+    }
+
     // Sets the length of the file, which is made where there is none.
     fn set_length(&mut self, n: u32) -> io::Result<()>
         ensures same { self.new ≡ self.old }
