@@ -211,9 +211,9 @@ def wrong(closure):
         yield f"{path} says that it is a definition, and docs/CLAIMS.md does not list it"
     for path in sorted(apart & reached):
         yield f"docs/CLAIMS.md says that no clause of `edison` speaks of {path}, which is reached"
-    read = sum(1 for path in reached for line in open(path, encoding="utf-8") if line.strip() and not line.startswith("use "))
-    if read >= MOST_LINES:
-        yield f"the files that are reached have {read} lines without imports and empty ones; the most are {MOST_LINES}"
+    used = sum(used for path, lines, used in closure.files())
+    if used >= MOST_LINES:
+        yield f"the definitions that are reached have {used} lines; the most are {MOST_LINES}"
     told = {path: set(re.findall(r"`([^`]+)`", names)) for path, names in TYPES.findall(claims)}
     for path in sorted(set(told) | set(closure.types)):
         if told.get(path, set()) != closure.types.get(path, set()):

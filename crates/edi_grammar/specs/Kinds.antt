@@ -1,4 +1,4 @@
--- Words of contracts. The kinds of symbols, numbered. A string of one character is a kind of its own, and so is the end of the text.
+-- Definition. The kinds of symbols, numbered. A string of one character is a kind of its own, and so is the end of the text.
 use Rattle.std.specs.Prelude.{ℕ}
 
 abbrev pub End_of_text : ℕ
