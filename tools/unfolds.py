@@ -22,7 +22,7 @@ WORD = re.compile(r"[^\s(){}\[\];,:|\"]+")
 HEAD = re.compile(r"^(\s*)(?:(?:abbrev|unfoldable|pub|record|data)\s+)*([^\s(:]+)(?:\s+[({].*)?\s*:\s")
 ROW = re.compile(r"^\| \[`(crates/[^`]+)`\]\([^)]*\) \| (\d+) \|", re.M)
 # Definitions of laws and of commands to come.
-APART = re.compile(r"\(no clause of `edison` speaks of it yet\):\n.*?\n\n.*?\n(?=\n)", re.S)
+APART = re.compile(r"\(no clause of `edison` speaks of it yet\):\n\n(?:\|.*\n)+")
 MOST_LINES = 8000
 TYPES = re.compile(r"^\| \[`(crates/[^`]+\.rt)`\]\([^)]*\) \| ([^|]*) \|", re.M)
 
