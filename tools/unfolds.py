@@ -1,7 +1,7 @@
 #!/usr/bin/env python3
 """What has to be read to know what the contract of a function says.
 
-    tools/unfolds.py                       of the program's one call, `edison` of crates/edi_top/src/top.rt
+    tools/unfolds.py                       of the program's one call, `edison` of crates/edi_main/src/top.rt
     tools/unfolds.py FILE FUNCTION         of another public function
     tools/unfolds.py --check               and says where docs/CLAIMS.md or the first lines of the files say otherwise
     tools/unfolds.py --why NAME            the way from `edison` to a definition
@@ -222,7 +222,7 @@ def wrong(closure):
 
 def main(words):
     if words[:1] == ["--why"]:
-        closure = Closure().of("crates/edi_top/src/top.rt", "edison")
+        closure = Closure().of("crates/edi_main/src/top.rt", "edison")
         for item in [k for k in closure.parent if k[1] == words[1]]:
             way = []
             while item:
@@ -230,7 +230,7 @@ def main(words):
                 item = closure.parent[item]
             print("\n  from ".join(way))
         return 0
-    path, function = words[:2] if len(words) == 2 else ("crates/edi_top/src/top.rt", "edison")
+    path, function = words[:2] if len(words) == 2 else ("crates/edi_main/src/top.rt", "edison")
     closure = Closure().of(path, function)
     if words == ["--check"]:
         found = list(wrong(closure))

@@ -2,7 +2,7 @@
 
 use edi_host::{MemoryDrive, MemoryFiles, MemorySink, MemorySource};
 use edi_kernel::Kernel;
-use edi_top::edison;
+use edi_main::edison;
 use std::alloc::Global;
 use std::process::Abort;
 

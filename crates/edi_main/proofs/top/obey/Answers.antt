@@ -1,7 +1,7 @@
 use Rattle.edi_statuses.proofs.EachLeft.{none_touched}
 use Rattle.edi_statuses.proofs.Silent.{refused, wants}
-use Rattle.edi_top.proofs.Obeyed.{counts_of_none, counts_unread, no_words}
-use Rattle.edi_top.proofs.top.obey.Goals as goal
+use Rattle.edi_main.proofs.Obeyed.{counts_of_none, counts_unread, no_words}
+use Rattle.edi_main.proofs.top.obey.Goals as goal
 
 pub returns-in-Ok-None-clause-came : goal.returns-in-Ok-None-clause-came
 returns-in-Ok-None-clause-came g c =

@@ -1,13 +1,13 @@
 use Rattle.std.proofs.Common.{◌≡◌, ◌∙◌, ap, inl, inr, map, sym}
 use Rattle.std.specs.String.{string_bytes}
 use Rattle.edi_words.specs.Words.{command_of}
-use Rattle.edi_top.specs.Built.{built}
+use Rattle.edi_main.specs.Built.{built}
 use Rattle.edi_statuses.specs.Lines.{text_of}
 use Rattle.edi_statuses.specs.declared.status.Status.TheVariants as status
 use Rattle.edi_statuses.proofs.Causes.{cause_later, rose_before}
 use Rattle.edi_statuses.proofs.Closing.{lines_end}
-use Rattle.edi_top.proofs.Obeyed.{counts_closed, drive_rose, untouched_closed}
-use Rattle.edi_top.proofs.top.edison.Goals as goal
+use Rattle.edi_main.proofs.Obeyed.{counts_closed, drive_rose, untouched_closed}
+use Rattle.edi_main.proofs.top.edison.Goals as goal
 
 pub returns-clause-ends : goal.returns-clause-ends
 returns-clause-ends g c =

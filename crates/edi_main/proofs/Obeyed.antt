@@ -19,7 +19,7 @@ use Rattle.edi_statuses.proofs.Silent.{idle, nothing_shown}
 use Rattle.edi_commands.specs.disk.OnDisk.{MeansOnDisk, RestStays}
 use Rattle.edi_commands.specs.run.RunMeans.{replaying}
 use Rattle.edi_commands.proofs.run.Meaning.{replayed}
-use Rattle.edi_top.specs.Built.{built}
+use Rattle.edi_main.specs.Built.{built}
 use Rattle.edi_statuses.specs.Lines.{text_of}
 use Rattle.edi_statuses.specs.Facts.{DriveUse, leaves_drive, mounts_last, mounts_first, formats_to, facts_of}
 use Rattle.edi_statuses.specs.EachObject.{CountsBlocks, CountsNew, CountsUsed, FitsCount, FitsGet, Handed, KeepsImage, LeavesEach, UnusedStay}

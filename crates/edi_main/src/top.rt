@@ -7,7 +7,7 @@ ghost use Rattle.edi_words.specs.Words.{command_of, newdisk};
 ghost use Rattle.edi_words.specs.View.{options_of, view, IsInRange};
 ghost use Rattle.edi_commands.specs.run.RunMeans.{replaying};
 ghost use Rattle.edi_commands.specs.disk.OnDisk.{HasCauseOnDisk, MeansOnDisk};
-ghost use Rattle.edi_top.specs.Built.{built};
+ghost use Rattle.edi_main.specs.Built.{built};
 ghost use Rattle.edi_statuses.specs.Outside.{lent, outside_of, Shows};
 ghost use Rattle.edi_statuses.specs.Counts.{counts_of, HasCause, NoneFalls};
 ghost use Rattle.edi_statuses.specs.EachObject.{command_does, handed, is_before_format, is_silent, uses_files};

@@ -1,11 +1,11 @@
 //! The program `edison`: the top call over the host's files and drive, its standard input and output, and a kernel.
 #![tactic(auto)]
 
-use edi_host::{HostDrive, HostFiles, HostSink, HostSource};
+use edi_host::{DRIVE_FILE, HostDrive, HostFiles, HostSink, HostSource};
 use edi_kernel::Kernel;
-use edi_top::{Status, edison};
+use edi_main::{Status, edison};
 use std::env;
-use std::fs::File;
+use std::fs::{File, OpenOptions, TryLockError};
 use std::io::{self, ErrorKind, Input};
 use std::process::ExitCode;
 
@@ -15,6 +15,24 @@ fn words_of(rt: &HostRuntime) -> io::Result<Vec<String>> {
         Ok(args) => Ok(args.skip(1).collect(rt.alloc())?),
         Err(error) if error.kind() == ErrorKind::OutOfMemory => Err(error),
         Err(_) => Ok(Vec::new(rt.alloc())),
+    }
+}
+
+/// The drive, with what holds its file until the call ends. Two calls at once would write over each other's blocks, so who comes
+/// second has a drive of which every call fails.
+fn held_drive(rt: &HostRuntime) -> (io::Result<File>, HostDrive<'_, HostRuntime>) {
+    let file = OpenOptions::new()
+        .read(true)
+        .write(true)
+        .open(rt, DRIVE_FILE);
+    let busy = match &file {
+        Ok(file) => matches!(file.try_lock(), Err(TryLockError::WouldBlock)),
+        Err(_) => false,
+    };
+    if busy {
+        (file, HostDrive::busy(rt))
+    } else {
+        (file, HostDrive::new(rt))
     }
 }
 
@@ -34,7 +52,7 @@ fn main(rt: HostRuntime) -> ExitCode {
         return ExitCode::from(Status::NoMemory.number());
     };
     let mut files = HostFiles::new(&rt);
-    let mut drive = HostDrive::new(&rt);
+    let (_held, mut drive) = held_drive(&rt);
     let mut input = HostSource::new(rt.reader());
     let mut terminal = HostSink::new(io::writer(&rt));
     let status = edison(

@@ -6,8 +6,8 @@ use Rattle.edi_statuses.specs.Outside.{kernel_of}
 use Rattle.edi_statuses.proofs.EachLeft.{none_touched, same_valid, untouched, untouched_alone, untouched_drive}
 use Rattle.edi_statuses.proofs.Silent.{on_files, refused}
 use Rattle.edi_statuses.proofs.Told.{told_so}
-use Rattle.edi_top.proofs.Obeyed.{counts_of_none, counts_so, not_built, obeyed, obeyed_demo, obeyed_replay, obeyed_so, on_disk, untouched_so}
-use Rattle.edi_top.proofs.top.perform.Goals as goal
+use Rattle.edi_main.proofs.Obeyed.{counts_of_none, counts_so, not_built, obeyed, obeyed_demo, obeyed_replay, obeyed_so, on_disk, untouched_so}
+use Rattle.edi_main.proofs.top.perform.Goals as goal
 
 pub returns-in-Compile-clause-came : goal.returns-in-Compile-clause-came
 returns-in-Compile-clause-came g c =
