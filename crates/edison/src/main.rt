@@ -18,21 +18,20 @@ fn words_of(rt: &HostRuntime) -> io::Result<Vec<String>> {
     }
 }
 
+// The commands that never ask the drive.
+const WITHOUT_DRIVE: [&str; 4] = ["compile", "list", "check", "demo"];
+
 /// The drive, with what holds its file until the call ends. Two calls at once would write over each other's blocks, so who comes
-/// second has a drive of which every call fails.
-fn held_drive(rt: &HostRuntime) -> (io::Result<File>, HostDrive<'_, HostRuntime>) {
-    let file = OpenOptions::new()
-        .read(true)
-        .write(true)
-        .open(rt, DRIVE_FILE);
-    let busy = match &file {
-        Ok(file) => matches!(file.try_lock(), Err(TryLockError::WouldBlock)),
-        Err(_) => false,
-    };
-    if busy {
-        (file, HostDrive::busy(rt))
-    } else {
-        (file, HostDrive::new(rt))
+/// second has a drive of which every call fails. A command that never asks the drive holds nothing.
+fn held_drive<'a>(rt: &'a HostRuntime, words: &[String]) -> (Option<File>, HostDrive<'a, HostRuntime>) {
+    match words.first() {
+        Some(first) if WITHOUT_DRIVE.contains(&first.as_str()) => return (None, HostDrive::new(rt)),
+        _ => {}
+    }
+    match OpenOptions::new().read(true).write(true).open(rt, DRIVE_FILE) {
+        Ok(file) if matches!(file.try_lock(), Err(TryLockError::WouldBlock)) => (None, HostDrive::busy(rt)),
+        Ok(file) => (Some(file), HostDrive::new(rt)),
+        Err(_) => (None, HostDrive::new(rt)),
     }
 }
 
@@ -52,7 +51,7 @@ fn main(rt: HostRuntime) -> ExitCode {
         return ExitCode::from(Status::NoMemory.number());
     };
     let mut files = HostFiles::new(&rt);
-    let (_held, mut drive) = held_drive(&rt);
+    let (_held, mut drive) = held_drive(&rt, &words);
     let mut input = HostSource::new(rt.reader());
     let mut terminal = HostSink::new(io::writer(&rt));
     let status = edison(
