@@ -1,6 +1,6 @@
 //! Codes that no compiler made, run by the kernel.
 
-use edi_kernel::{Ending, Kernel, StintEnd};
+use edi_kernel::{Ending, Kernel, Standing, StintEnd};
 use edi_machine::Cause;
 use edi_memory::MemoryCalls;
 use edi_target::Code;
@@ -240,6 +240,24 @@ fn are_stints(
     kernel.stint(code, calls, 98) == StintEnd::Arrived { used: 1 }
 }
 
+// Whether the last of two ready processes is the first child, at its `when`. Of its one frame, which leads to none below it, the five
+// words before its variables count.
+fn is_kept(alloc: Global, kernel: &Kernel) -> Result<bool, AllocError> {
+    let Some(slot) = kernel.ready_slot(1) else {
+        return Ok(false);
+    };
+    if !kernel.lives(slot) {
+        return Ok(false);
+    }
+    let kept = kernel.keep(alloc, slot)?;
+    let places = [
+        kept.first, kept.last, kept.base, kept.end, kept.top, kept.pc,
+    ];
+    let stands = kept.slot == slot && kept.parent == 0 && kept.standing == Standing::AtWhen;
+    let is_whole = kept.ready && kept.held == 0 && kept.words.as_slice() == [0; 5].as_slice();
+    Ok(stands && is_whole && places == [8, 32_772, 8, 14, 13, 20])
+}
+
 // Whether there are two such stints, with one choice drawn, and three turns used. At 8 is then the parent's base, and four words
 // of zeros.
 fn two_stints(alloc: Global, code: &Code, choices: &mut Choices) -> Result<bool, AllocError> {
@@ -247,7 +265,8 @@ fn two_stints(alloc: Global, code: &Code, choices: &mut Choices) -> Result<bool,
     let mut kernel = Kernel::new(alloc)?;
     let holds = are_stints(&mut kernel, code, &mut calls, choices);
     let told = (choices.drawn(), kernel.turns_used(), kernel.word(8));
-    Ok(holds && told == (1, 3, 0) && kernel.standing().is_some())
+    let kept = is_kept(alloc, &kernel)?;
+    Ok(holds && kept && told == (1, 3, 0) && kernel.standing().is_some())
 }
 
 #[test]
