@@ -186,9 +186,7 @@ fn there_are_64_points(rt: HostRuntime) {
         .push_str("call 0 watch race many log\nshows ab\nholds log ")
         .expect(&rt, "memory");
     for _point in 0..64 {
-        script
-            .push_str("turn 3 line 3 x 0/")
-            .expect(&rt, "memory");
+        script.push_str("turn 3 line 3 x 0/").expect(&rt, "memory");
     }
     play(&rt, alloc, &script, 0);
     let mut script = many_points(&rt, alloc, 65);
