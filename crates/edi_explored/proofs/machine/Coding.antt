@@ -71,7 +71,7 @@ coded unit c =
 
 -- ---- what a run reaches
 
-meant : (unit : ProgramUnit) → CanBeCoded unit → (system : State) (bound : ℕ) (choices : List ℕ) (o : Outcome) →
+pub meant : (unit : ProgramUnit) → CanBeCoded unit → (system : State) (bound : ℕ) (choices : List ℕ) (o : Outcome) →
     Mach (fetch (code_of unit)) 0 unit.calls system bound (listed choices) o → Select unit system bound (listed choices) o
 meant unit c system bound choices o m = (same_outcomes unit c system bound (listed choices) o).1 m
 
@@ -110,7 +110,7 @@ run_shown unit c system bound choices o m uncut = shown unit system bound choice
 
 -- ---- what a run of the kernel reaches
 
-as_ending : (a : outcome.Ending) (e : Ending) → EndsAs a e → ending_of e ≡ Some a
+pub as_ending : (a : outcome.Ending) (e : Ending) → EndsAs a e → ending_of e ≡ Some a
 as_ending outcome.done ending.Done x = refl
 as_ending outcome.done e x = absurd x
 as_ending (outcome.halted l) (ending.Halted at) x = ap (λ n. Some (outcome.halted n)) x
@@ -126,7 +126,7 @@ as_ending (outcome.bad l) e x = absurd x
 
 module _ (unit : ProgramUnit) (c : CanBeCoded unit) (code : CodeParts) (is : IsUnitCode unit code) (system : State) (bound : ℕ) (choices : List ℕ)
     (old new : Drawn) (none : old.drawn ≡ 0) (source : old.source ≡ listed choices) where
-  machine : (o : Outcome) → Mach (fetch code.words) code.entry code.calls system bound old.source o →
+  pub machine : (o : Outcome) → Mach (fetch code.words) code.entry code.calls system bound old.source o →
       Mach (fetch (code_of unit)) 0 unit.calls system bound (listed choices) o
   machine o m = subst (λ x. x) (λ i. Mach (fetch (is.words i)) (is.entry i) (is.calls i) system bound (source i) o) m
 

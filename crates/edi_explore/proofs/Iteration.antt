@@ -1,0 +1,231 @@
+-- One stint of a search: what was found of it, and what was found before of others.
+use Rattle.std.proofs.Common.{◌≡◌, ◌⊎◌, inl, inr, ℕ, ◌<◌, ◌≤◌, ◌^◌, arith, false, List, length, None, refl, sym, ap, subst, ◌∙◌}
+use Rattle.edi_calls.specs.State.{State}
+use Rattle.edi_target.specs.Check.{CodeParts}
+use Rattle.edi_kernel.specs.declared.ends.Ending.{Ending}
+use Rattle.edi_kernel.specs.declared.ends.Ending.TheVariants as ending
+use Rattle.edi_kernel.specs.declared.ends.StintEnd.{StintEnd}
+use Rattle.edi_kernel.specs.declared.ends.StintEnd.TheVariants as stint_end
+use Rattle.edi_kernel.specs.declared.state.KernelState.{KernelState}
+use Rattle.edi_kernel.specs.Kernel.{IsKernel, is_over}
+use Rattle.edi_kernel.specs.Runs.{IsAt}
+use Rattle.edi_kernel.specs.Table.{ready_slots}
+use Rattle.edi_explored.specs.Covered.{Report, Tells, tells_shown}
+use Rattle.edi_explored.specs.Covered as covered
+use Rattle.edi_explored.specs.machine.Kernels as law
+use Rattle.edi_explored.specs.machine.Kernels.{IsBack, IsFailed, IsFound, LeadsOn, StintOf}
+use Rattle.edi_explored.specs.machine.Levels.{StateTable, AreKept, Below, Nothing, StintBelow}
+use Rattle.edi_explored.proofs.machine.Levels.{IsLater, expanded_later, goes_later, stint_later}
+use Rattle.edi_explore.specs.declared.ends.Found.{Found}
+use Rattle.edi_explore.specs.declared.finding.Search.{Search}
+use Rattle.edi_explore.specs.declared.offline.Offline.{Offline}
+use Rattle.edi_explore.specs.declared.states.States.{States}
+use Rattle.edi_explore.specs.Expand.{HasExpanded, HasOneThatGoes, HasStint}
+use Rattle.edi_explore.specs.Found.{HasEnding, IsTold, endings_of}
+use Rattle.edi_explore.specs.Offline.{offline, system_of}
+use Rattle.edi_explore.specs.States.{AreStates, Follows, IsAdded, slots_of}
+use Rattle.edi_explore.specs.Steps.{GoesOn, IsProper}
+use Rattle.edi_explore.specs.Tables.{Grows, table_of}
+use Rattle.edi_explore.proofs.Findings.{tells, tells_more}
+use Rattle.edi_explore.proofs.Table.{is_back, is_order, is_system, later_of, leads_there, alike_there, number_within, processes_still, system_still, longer, grows_added}
+
+-- ---- what was found of a stint, by how it has ended
+
+pub is_told : (e : Ending) → IsProper e → IsTold e
+is_told ending.Done h = tt
+is_told (ending.Halted line) h = tt
+is_told (ending.Failed cause line) h = tt
+is_told ending.Turns h = absurd h
+is_told ending.Standstill h = absurd h
+is_told (ending.Bad at) h = tt
+is_told ending.Fault h = absurd h
+
+pub fails_marked : (end : StintEnd) (k : KernelState) → is_over end ≡ false → 0 < k.table.marks → IsFailed end k
+fails_marked (stint_end.Arrived used) k over marks = marks
+fails_marked (stint_end.Forked used) k over marks = marks
+fails_marked (stint_end.Exited used) k over marks = marks
+fails_marked (stint_end.Over used e) k over marks = absurd (cc)
+
+pub goes_on : (end : StintEnd) (k : KernelState) → is_over end ≡ false → k.table.marks ≡ 0 → IsFailed end k → ⊥
+goes_on (stint_end.Arrived used) k over none f = omega (arith, none, f)
+goes_on (stint_end.Forked used) k over none f = omega (arith, none, f)
+goes_on (stint_end.Exited used) k over none f = omega (arith, none, f)
+goes_on (stint_end.Over used e) k over none f = cc
+
+pub goes_ended : (used : ℕ) (e : Ending) (k : KernelState) → IsProper e → IsFailed (stint_end.Over used e) k → ⊥
+goes_ended used ending.Done k p f = f
+goes_ended used (ending.Halted line) k p f = f
+goes_ended used (ending.Failed cause line) k p f = f
+goes_ended used ending.Turns k p f = f
+goes_ended used ending.Standstill k p f = p
+goes_ended used (ending.Bad at) k p f = f
+goes_ended used ending.Fault k p f = f
+
+module _ (code : CodeParts) (start : State) (turns : ℕ) (found : List Found) (table : StateTable) (next : ℕ) where
+  abbrev report : Report
+  report = covered.endings (endings_of found)
+
+  abbrev pub FoundSo : StintEnd → KernelState → State → Type 0
+  FoundSo end k now = IsFound code start turns report ℕ table.processes table.slots table.system (Nothing code start turns report table)
+      (Below code start turns report table next) 0 end k now
+
+  abbrev pub Leads : KernelState → State → Type 0
+  Leads k now = LeadsOn code start turns report ℕ table.processes table.slots table.system (Nothing code start turns report table)
+      (Below code start turns report table next) 0 k now
+
+  -- it was only an attempt that failed
+  pub found_failed : (end : StintEnd) (k : KernelState) (now : State) → IsFailed end k → FoundSo end k now
+  found_failed (stint_end.Arrived used) k now f = λ none. absurd (omega (arith, none, f))
+  found_failed (stint_end.Forked used) k now f = λ none. absurd (omega (arith, none, f))
+  found_failed (stint_end.Exited used) k now f = λ none. absurd (omega (arith, none, f))
+  found_failed (stint_end.Over used ending.Done) k now f = absurd f
+  found_failed (stint_end.Over used (ending.Halted line)) k now f = absurd f
+  found_failed (stint_end.Over used (ending.Failed cause line)) k now f = absurd f
+  found_failed (stint_end.Over used ending.Turns) k now f = absurd f
+  found_failed (stint_end.Over used ending.Standstill) k now f = tt
+  found_failed (stint_end.Over used (ending.Bad at)) k now f = absurd f
+  found_failed (stint_end.Over used ending.Fault) k now f = absurd f
+
+  -- it leads to a state
+  pub found_led : (end : StintEnd) (k : KernelState) (now : State) → is_over end ≡ false → Leads k now → FoundSo end k now
+  found_led (stint_end.Arrived used) k now over l = l
+  found_led (stint_end.Forked used) k now over l = l
+  found_led (stint_end.Exited used) k now over l = l
+  found_led (stint_end.Over used e) k now over l = absurd (cc)
+
+  -- it has ended the run, in a way that is told
+  pub found_ended : (used : ℕ) (e : Ending) (k : KernelState) (now : State) → IsProper e → HasEnding found e → FoundSo (stint_end.Over used e) k now
+  found_ended used ending.Done k now p h = λ end same. tells found ending.Done end h same
+  found_ended used (ending.Halted line) k now p h = λ end same. tells found (ending.Halted line) end h same
+  found_ended used (ending.Failed cause line) k now p h = λ end same. tells found (ending.Failed cause line) end h same
+  found_ended used ending.Turns k now p h = absurd p
+  found_ended used ending.Standstill k now p h = absurd p
+  found_ended used (ending.Bad at) k now p h = λ end same. tells found (ending.Bad at) end h same
+  found_ended used ending.Fault k now p h = absurd p
+
+-- ---- a stint that was followed
+
+module _ (code : CodeParts) (input : List ℕ) (turns : ℕ) (old new : States) (found : List Found) (v index : ℕ) (end : StintEnd) (k : KernelState) (o : Offline)
+    (before : AreStates old) (inside : v < length old.keys.keys) (grows : Grows old new) (same : o.input.items ≡ input) (h : GoesOn old code turns v index end k o)
+  where
+    abbrev N : StateTable
+    N = table_of new input
+
+    abbrev Stint : Type 0
+    Stint = StintBelow code (offline input) turns (covered.endings (endings_of found)) N (length new.keys.keys) v index
+
+    -- with this end, and the kernel after it
+    pub stint_there : FoundSo code (offline input) turns found N (length new.keys.keys) end k (system_of o) → law.AreApart (N.processes v) →
+        (one : Stint) × (one.end ≡ end) × (one.after ≡ k)
+    stint_there f apart =
+        let ps = processes_still old new input before grows v inside in
+        let placed : h.placed.input.items ≡ input = ap (λ x. x.items) (sym h.input) ∙ same in
+        let system = system_still old new input before grows v inside ∙ sym (is_system old input v h.back h.placed before h.puts h.shown h.printed placed) in
+        let one : Stint = record {
+          back = h.back;
+          is_back = subst (λ x. IsBack x h.back) (sym ps) (is_back old input v h.back h.placed before h.puts (subst law.AreApart ps apart));
+          order = is_order old input v h.back h.placed before h.puts ∙ sym (grows.slots v inside);
+          taken = h.taken;
+          takes = h.takes;
+          entering = h.entering;
+          end = end;
+          after = k;
+          now = system_of o;
+          goes = λ m p others at. h.goes m p others (subst (λ y. IsAt code h.taken y turns m p others) system at);
+          kernel = h.kernel;
+          long = h.long;
+          free = h.free;
+          found = f;
+        } in
+        (one, refl, refl)
+
+-- ---- states that are added
+
+-- a state that is added leads where it is kept
+pub leads_on : (code : CodeParts) (input : List ℕ) (turns : ℕ) (old new : States) (found : List Found) (k : KernelState) (o : Offline) → IsAdded old new k o →
+    o.input.items ≡ input → Leads code (offline input) turns found (table_of new input) (length new.keys.keys) k (system_of o)
+leads_on code input turns old new found k o h same none =
+    (h.number, number_within old new input k o h, leads_there old new input k o h, alike_there old new input k o h same)
+
+abbrev pub AreKeptIn : States → (input : List ℕ) → Type 0
+AreKeptIn s input = (v : ℕ) → v < length s.keys.keys → (k : KernelState) × IsBack ((table_of s input).processes v) k × (ready_slots k.table ≡ (table_of s input).slots v)
+
+pub kept_still : (old new : States) (input : List ℕ) (v : ℕ) → AreStates old → Grows old new → AreKeptIn old input → v < length old.keys.keys →
+    (k : KernelState) × IsBack ((table_of new input).processes v) k × (ready_slots k.table ≡ (table_of new input).slots v)
+kept_still old new input v before grows kept l =
+    let r = kept v l in
+    (r.0, subst (λ x. IsBack x r.0) (sym (processes_still old new input before grows v l)) r.1, r.2 ∙ sym (grows.slots v l))
+
+-- each state is that of some kernel
+pub kept_added : (old new : States) (input : List ℕ) (k : KernelState) (o : Offline) → AreStates old → IsKernel k → k.taken ≡ None → k.table.marks ≡ 0 →
+    length k.store ≡ 2 ^ 16 → IsAdded old new k o → AreKeptIn old input → AreKeptIn new input
+kept_added old new input k o before kernel free marks long h kept v l = go (h.fresh v l)
+  where
+    go : (v < length old.keys.keys) ⊎ ((v ≡ h.number) × (slots_of new v ≡ ready_slots k.table)) →
+        (q : KernelState) × IsBack ((table_of new input).processes v) q × (ready_slots q.table ≡ (table_of new input).slots v)
+    go (inl less) = kept_still old new input v before (grows_added old new k o h) kept less
+    go (inr e) = (
+      k,
+      record {
+        kernel = kernel;
+        free = free;
+        unmarked = kernel.table.clear marks;
+        long = long;
+        has = subst (λ n. law.AreKeptOf ((table_of new input).processes n) k) (sym e.0) (leads_there old new input k o h);
+      },
+      sym e.1,
+    )
+
+-- ---- what was found before
+
+module _ (code : CodeParts) (input : List ℕ) (turns : ℕ) (a b : Search) (before : AreStates a.states) (grows : Grows a.states b.states)
+    (more : Follows a.found.items b.found.items) where
+  abbrev Was : Report
+  Was = covered.endings (endings_of a.found.items)
+
+  abbrev Is : Report
+  Is = covered.endings (endings_of b.found.items)
+
+  abbrev TA : StateTable
+  TA = table_of a.states input
+
+  abbrev TB : StateTable
+  TB = table_of b.states input
+
+  pub is_later : (next next' : ℕ) → next ≤ length a.states.keys.keys → next ≤ next' → IsLater Was Is TA TB (λ w. w < next) (λ w. w < next')
+  is_later next next' within low =
+      later_of a.states b.states input before grows Was Is (λ e shown t. tells_more a.found.items b.found.items e more t) refl next next' within low
+
+  abbrev from : ℕ
+  from = length a.states.keys.keys
+
+  abbrev to : ℕ
+  to = length b.states.keys.keys
+
+  high : from ≤ to
+  high = longer a.states b.states input before grows
+
+  pub stint_still : (v index : ℕ) → v < from → HasStint code input turns a v index → HasStint code input turns b v index
+  stint_still v index l s =
+      stint_later code (offline input) turns Was Is TA TB (Nothing code (offline input) turns Was TA) (Nothing code (offline input) turns Is TB)
+      (Below code (offline input) turns Was TA from) (Below code (offline input) turns Is TB to) 0 0 (is_later from to (omega arith) high) v index
+      (processes_still a.states b.states input before grows v l) (grows.slots v l) (system_still a.states b.states input before grows v l) s
+
+  pub goes_still : (v : ℕ) → v < from → HasOneThatGoes code input turns a v → HasOneThatGoes code input turns b v
+  goes_still v l s =
+      goes_later code (offline input) turns Was Is TA TB (Nothing code (offline input) turns Was TA) (Nothing code (offline input) turns Is TB)
+      (Below code (offline input) turns Was TA from) (Below code (offline input) turns Is TB to) 0 0 (is_later from to (omega arith) high) v
+      (processes_still a.states b.states input before grows v l) (grows.slots v l) (system_still a.states b.states input before grows v l) s
+
+  pub expanded_still : (v : ℕ) → v < from → HasExpanded code input turns a v → HasExpanded code input turns b v
+  expanded_still v l x =
+      expanded_later code (offline input) turns Was Is TA TB from to v (is_later from to (omega arith) high)
+      (processes_still a.states b.states input before grows v l) (grows.slots v l) (system_still a.states b.states input before grows v l) x
+
+  -- of fewer states
+  pub expanded_below : (next v : ℕ) → next ≤ from → v < from →
+      Rattle.edi_explored.specs.machine.Levels.IsExpanded code (offline input) turns Was TA next v →
+      Rattle.edi_explored.specs.machine.Levels.IsExpanded code (offline input) turns Is TB next v
+  expanded_below next v within l x =
+      expanded_later code (offline input) turns Was Is TA TB next next v (is_later next next within (omega arith))
+      (processes_still a.states b.states input before grows v l) (grows.slots v l) (system_still a.states b.states input before grows v l) x

@@ -1,0 +1,16 @@
+pub mod Reached
+pub mod Backs
+pub mod StatesBack
+pub mod Growing
+pub mod Equal
+pub mod Keying
+pub mod Adding
+pub mod Tabled
+pub mod Table
+pub mod Findings
+pub mod Trails
+pub mod Endings
+pub mod Iteration
+pub mod Expanding
+pub mod Beginning
+pub mod Levelling

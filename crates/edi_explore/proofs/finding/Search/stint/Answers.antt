@@ -1,0 +1,58 @@
+-- How the stint was followed, and what came of it.
+use Rattle.std.proofs.Common.{false, sym, ap, subst, ◌∙◌}
+use Rattle.edi_explore.specs.declared.finding.Search.{Search}
+use Rattle.edi_explore.specs.declared.step.Followed.{Followed}
+use Rattle.edi_explore.specs.declared.states.States.{States}
+use Rattle.edi_explore.specs.Expand.{Apart, ComesTo, HasStintThat}
+use Rattle.edi_explore.specs.Steps.{FollowsStint}
+use Rattle.edi_explore.proofs.Expanding.{came_cut, came_ended, came_failed, came_led}
+use Rattle.edi_explore.proofs.finding.Search.stint.Goals as goal
+
+pub returns-in-Led-clause-follows : goal.returns-in-Led-clause-follows
+returns-in-Led-clause-follows c =
+    let a : Search = c.args.self.now in
+    let b : Search = record { states = c.follow.new.states; calls = c.follow.new.calls; found = c.args.self.now.found } in
+    let same = ap (λ x. x.items) c.in_ok-followed.ensures.input ∙ c.requires.search.input_is in
+    came_led c.args.code.now c.args.input.now c.args.limits.turns a b c.args.origin.state c.args.origin.index c.follow.new.kernel c.follow.new.calls
+    c.requires.search c.requires.state same same
+    (subst (λ (r : Followed). FollowsStint c.args.code.now c.args.limits.turns c.args.origin.state c.args.origin.index r a.states c.follow.new.states
+    c.follow.new.kernel c.follow.new.calls) c.in-Led.is c.in_ok-followed.ensures.follows)
+
+pub returns-in-Failed-clause-follows : goal.returns-in-Failed-clause-follows
+returns-in-Failed-clause-follows c =
+    let a : Search = c.args.self.now in
+    let b : Search = record { states = c.follow.new.states; calls = c.follow.new.calls; found = c.args.self.now.found } in
+    let same = ap (λ x. x.items) c.in_ok-followed.ensures.input ∙ c.requires.search.input_is in
+    came_failed c.args.code.now c.args.input.now c.args.limits.turns a b c.args.origin.state c.args.origin.index c.follow.new.kernel c.follow.new.calls
+    c.requires.search c.requires.state same same
+    (subst (λ (r : Followed). FollowsStint c.args.code.now c.args.limits.turns c.args.origin.state c.args.origin.index r a.states c.follow.new.states
+    c.follow.new.kernel c.follow.new.calls) c.in-Failed.is c.in_ok-followed.ensures.follows)
+
+pub returns-in-Cut-clause-follows : goal.returns-in-Cut-clause-follows
+returns-in-Cut-clause-follows c =
+    let a : Search = c.args.self.now in
+    let b : Search = record { states = c.follow.new.states; calls = c.follow.new.calls; found = c.args.self.now.found } in
+    let same = ap (λ x. x.items) c.in_ok-followed.ensures.input ∙ c.requires.search.input_is in
+    came_cut c.args.code.now c.args.input.now c.args.limits.turns a b c.args.origin.state c.args.origin.index c.follow.new.kernel c.follow.new.calls
+    c.requires.search c.requires.state same same
+    (subst (λ (r : Followed). FollowsStint c.args.code.now c.args.limits.turns c.args.origin.state c.args.origin.index r a.states c.follow.new.states
+    c.follow.new.kernel c.follow.new.calls) c.in-Cut.is c.in_ok-followed.ensures.follows)
+    (Apart c.args.code.now c.args.input.now c.args.limits.turns b c.args.origin.state →
+    HasStintThat c.args.code.now c.args.input.now c.args.limits.turns b false c.args.origin.state c.args.origin.index)
+
+pub returns-in_ok-told-in-Ended-clause-follows : goal.returns-in_ok-told-in-Ended-clause-follows
+returns-in_ok-told-in-Ended-clause-follows c =
+    let a : Search = c.args.self.now in
+    let b : Search = c.find.new.self in
+    let same = ap (λ x. x.items) c.in_ok-followed.ensures.input ∙ c.requires.search.input_is in
+    let rest = c.find.ensures.rest in
+    subst (λ e. ComesTo c.args.code.now c.args.input.now c.args.limits.turns a b e
+    (Apart c.args.code.now c.args.input.now c.args.limits.turns b c.args.origin.state →
+    HasStintThat c.args.code.now c.args.input.now c.args.limits.turns b false c.args.origin.state c.args.origin.index)) (sym c.by_record.ensures)
+    (came_ended c.args.code.now c.args.input.now c.args.limits.turns a b c.args.origin.state c.args.origin.index c.follow.new.kernel c.follow.new.calls
+    c.requires.search c.requires.state same (ap (λ (s : Search). s.calls.input.items) rest ∙ same) c.in-Ended.ending c.in_ok-told-in-Ended.told
+    (subst (λ (s : States). FollowsStint c.args.code.now c.args.limits.turns c.args.origin.state c.args.origin.index (Rattle.edi_explore.specs.declared.step.Followed.TheVariants.Ended c.in-Ended.ending) a.states s
+    c.follow.new.kernel c.follow.new.calls) (sym (ap (λ (s : Search). s.states) rest))
+    (subst (λ (r : Followed). FollowsStint c.args.code.now c.args.limits.turns c.args.origin.state c.args.origin.index r a.states c.follow.new.states
+    c.follow.new.kernel c.follow.new.calls) c.in-Ended.is c.in_ok-followed.ensures.follows))
+    c.in_ok-told-in-Ended.ensures.told)

@@ -1,0 +1,66 @@
+-- Words of contracts. The endings that a search has found, with choices that bring them about.
+use Rattle.std.specs.Prelude.{◌≡◌, ◌≤◌, ℕ, List, [], ◌∷◌, length, slice_get, Contains, Option, Some, None, ⊤}
+use Rattle.edi_calls.specs.Choice.{listed}
+use Rattle.edi_calls.specs.Outcome as outcome
+use Rattle.edi_calls.specs.Outcome.{Outcome}
+use Rattle.edi_unit.specs.Tree.{ProgramUnit}
+use Rattle.edi_meaning.specs.Select.{Select}
+use Rattle.edi_kernel.specs.declared.ends.Ending.{Ending}
+use Rattle.edi_kernel.specs.declared.ends.Ending.TheVariants as ending
+use Rattle.edi_explored.specs.machine.Kernels.{ending_of}
+use Rattle.edi_explore.specs.declared.ends.Found.{Found}
+use Rattle.edi_explore.specs.Offline.{offline}
+
+-- the turns that a record may have, and its choices
+abbrev pub most_turns : ℕ
+most_turns = 1000000000
+
+abbrev pub most_choices : ℕ
+most_choices = 65536
+
+-- the execution that these choices select, of at most `most_turns` turns, ends so, after so many turns
+pub record Selects (unit : ProgramUnit) (input : List ℕ) (found : Found) (end : outcome.Ending) : Type 0 where
+  pub outcome : Outcome
+  pub selects : Select unit (offline input) most_turns (listed found.choices.items) outcome
+  pub ends : outcome.ending ≡ end
+  pub turns : outcome.turns ≡ found.turns
+
+-- what is found is what the run with these choices came to, unless an object has failed in it
+pub record RunsWith (unit : ProgramUnit) (input choices : List ℕ) (found : Found) : Type 0 where
+  pub choices_are : found.choices.items ≡ choices
+  pub came : (end : outcome.Ending) → ending_of found.ending ≡ Some end → Selects unit input found end
+
+-- an ending that is told: its bound has not cut the run, and no object has failed in it
+abbrev pub IsTold : Ending → Type 0
+IsTold ending.Turns = ⊥
+IsTold ending.Fault = ⊥
+IsTold e = ⊤
+
+-- WHAT IS FOUND IS SO: its choices select an execution that ends so, after so many turns, and a record may have them
+pub record IsRecorded (unit : ProgramUnit) (input : List ℕ) (found : Found) : Type 0 where
+  pub end : outcome.Ending
+  pub is : ending_of found.ending ≡ Some end
+  pub uncut : end ≡ outcome.turns → ⊥
+  pub selects : Selects unit input found end
+  pub few : length found.choices.items ≤ most_choices
+
+-- all of them are
+abbrev pub AreRecorded : ProgramUnit → (input : List ℕ) → List Found → Type 0
+AreRecorded unit input found = (one : Found) → Contains found one → IsRecorded unit input one
+
+-- the ending is among those that were found
+abbrev pub HasEnding : List Found → Ending → Type 0
+HasEnding found e = (one : Found) × Contains found one × (one.ending ≡ e)
+
+-- no ending is found twice
+abbrev pub AreDistinct : List Found → Type 0
+AreDistinct found = (i j : ℕ) (a b : Found) → slice_get found i ≡ Some a → slice_get found j ≡ Some b → a.ending ≡ b.ending → i ≡ j
+
+abbrev pub with_ending : Option outcome.Ending → List outcome.Ending → List outcome.Ending
+with_ending None es = es
+with_ending (Some e) es = e ∷ es
+
+-- the endings that were found
+abbrev pub endings_of : List Found → List outcome.Ending
+endings_of [] = []
+endings_of (one ∷ found) = with_ending (ending_of one.ending) (endings_of found)

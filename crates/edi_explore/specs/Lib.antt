@@ -1,0 +1,10 @@
+pub mod Offline
+pub mod Found
+pub mod Back
+pub mod States
+pub mod Records
+pub mod Finding
+pub mod Steps
+pub mod Tables
+pub mod Expand
+pub mod Verdicts

@@ -1,0 +1,62 @@
+-- Words of contracts. What a search answers.
+use Rattle.std.specs.Prelude.{◌≡◌, ◌<◌, ◌≤◌, ℕ, List}
+use Rattle.edi_unit.specs.Tree.{ProgramUnit}
+use Rattle.edi_target.specs.Check.{CodeParts}
+use Rattle.edi_follows.specs.Theorem.{CanBeCoded}
+use Rattle.edi_explored.specs.Reached.{AreAll, AreAllBelow}
+use Rattle.edi_explored.specs.machine.Kernels.{IsUnitCode}
+use Rattle.edi_explore.specs.declared.ends.Found.{Found}
+use Rattle.edi_explore.specs.declared.ends.Verdict.{Verdict}
+use Rattle.edi_explore.specs.declared.ends.Verdict.TheVariants as verdict
+use Rattle.edi_explore.specs.declared.expand.Expanded.{Expanded}
+use Rattle.edi_explore.specs.declared.expand.Expanded.TheVariants as expanded
+use Rattle.edi_explore.specs.declared.finding.Search.{Search}
+use Rattle.edi_explore.specs.declared.step.GivenUp.{GivenUp}
+use Rattle.edi_explore.specs.declared.step.GivenUp.TheVariants as given_up
+use Rattle.edi_explore.specs.Expand.{HasBegun}
+use Rattle.edi_explore.specs.Found.{endings_of}
+use Rattle.edi_explore.specs.Offline.{offline}
+
+-- the verdict where all executions of fewer moves were followed, and these
+abbrev pub verdict_of : Expanded → (moves : ℕ) → Verdict
+verdict_of expanded.Whole moves = verdict.All
+verdict_of expanded.Cut moves = verdict.Cut moves
+verdict_of expanded.Unrecorded moves = verdict.Unrecorded moves
+
+-- the verdict where all executions of fewer moves were followed before the search was given up
+abbrev pub verdict_of_given_up : GivenUp → (moves : ℕ) → Verdict
+verdict_of_given_up given_up.Full moves = verdict.Full moves
+verdict_of_given_up given_up.NoMemory moves = verdict.NoMemory moves
+
+-- the one verdict, or the other where that one says that nothing is lacking
+abbrev pub or_else : Verdict → Verdict → Verdict
+or_else verdict.All other = other
+or_else one other = one
+
+-- the verdict speaks of the executions of fewer moves than that
+abbrev pub IsUpTo : Verdict → ℕ → Type 0
+IsUpTo verdict.All n = ⊥
+IsUpTo (verdict.Full moves) n = n ≡ moves
+IsUpTo (verdict.Cut moves) n = n ≡ moves
+IsUpTo (verdict.Unrecorded moves) n = n ≡ moves
+IsUpTo (verdict.NoMemory moves) n = n ≡ moves
+
+module _ (code : CodeParts) (input : List ℕ) where
+  -- these are all endings of each program with this code, or all below so many moves
+  abbrev pub AreAllOf : List Found → Type 0
+  AreAllOf found = (unit : ProgramUnit) → CanBeCoded unit → IsUnitCode unit code → AreAll unit (offline input) (endings_of found)
+
+  abbrev pub AreAllTo : ℕ → List Found → Type 0
+  AreAllTo moves found = (unit : ProgramUnit) → CanBeCoded unit → IsUnitCode unit code → AreAllBelow moves unit (offline input) (endings_of found)
+
+  abbrev pub IsAnswer : (most count : ℕ) → List Found → Verdict → Type 0
+  IsAnswer most count found verdict.All = AreAllOf found
+  IsAnswer most count found (verdict.Full moves) = AreAllTo moves found × (most ≤ count)
+  IsAnswer most count found (verdict.Cut moves) = AreAllTo moves found
+  IsAnswer most count found (verdict.Unrecorded moves) = AreAllTo moves found
+  IsAnswer most count found (verdict.NoMemory moves) = AreAllTo moves found
+
+  -- the first stint was followed, with turns left
+  pub record HasFirst (turns : ℕ) (s : Search) : Type 0 where
+    pub some : 0 < turns
+    pub first : HasBegun code input turns s

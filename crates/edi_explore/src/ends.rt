@@ -1,0 +1,46 @@
+//! What a search is told, and what it reports.
+
+use edi_kernel::Ending;
+
+/// How far a search goes.
+#[derive(Clone, Copy, Debug)]
+pub struct Limits {
+    /// How many states are kept at most.
+    pub states: u32,
+    /// How many turns a stint may have.
+    pub turns: u64,
+}
+
+/// An ending with choices that bring it about. After their end each choice is 0.
+#[derive(Drop)]
+pub struct Found {
+    /// Neither `Turns` nor `Fault`.
+    pub ending: Ending,
+    /// At most 65,536.
+    pub choices: Vec<u8>,
+    /// The turns of the run with these choices, at most 1,000,000,000.
+    pub turns: u64,
+}
+
+/// Whether the reported endings are all. A number says: all of the executions of fewer moves than that.
+#[derive(Clone, Copy, Debug, PartialEq, Eq)]
+pub enum Verdict {
+    /// They are all, whatever the choices and the bound on the turns.
+    All,
+    /// As many states were kept as may be.
+    Full(usize),
+    /// A stint has more turns than it may.
+    Cut(usize),
+    /// An ending has no record: the run with its choices has more of them, or more turns, than a record may have, or ends otherwise.
+    Unrecorded(usize),
+    /// Memory ran out.
+    NoMemory(usize),
+}
+
+/// The endings that were found, in the order in which they were, whether these are all, and how many states there are.
+#[derive(Drop)]
+pub struct Report {
+    pub found: Vec<Found>,
+    pub verdict: Verdict,
+    pub states: usize,
+}

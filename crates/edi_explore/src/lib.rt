@@ -1,0 +1,15 @@
+//! All that choices bring about: a search through every state between two stints.
+#![tactic(auto)]
+
+mod back;
+mod ends;
+mod expand;
+mod finding;
+mod offline;
+mod record;
+mod search;
+mod states;
+mod step;
+
+pub use ends::{Found, Limits, Report, Verdict};
+pub use search::explore;

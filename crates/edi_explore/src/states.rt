@@ -1,0 +1,235 @@
+//! The states that a search keeps.
+
+ghost use Rattle.std.specs.Prelude.{◌≡◌, ◌<◌, ◌≤◌, ◌+◌, ◌-◌, ◌++◌, [], None, Some, true, false, length, slice_get, IfOk, OnOk};
+ghost use Rattle.edi_kernel.specs.declared.kept.Kept.{Kept};
+ghost use Rattle.edi_kernel.specs.Kernel.{IsKernel};
+ghost use Rattle.edi_explore.specs.declared.offline.Place.{Place};
+ghost use Rattle.edi_kernel.specs.Table.{ready_slots};
+ghost use Rattle.edi_explore.specs.States.{
+  AddsParts,
+  AreNone,
+  AreStates,
+  IsAdded,
+  IsKeyOf,
+  IsSameKept,
+  IsSamePlace,
+  MayComeFrom,
+  PutsStateBack,
+  end_of,
+  slots_of,
+  start_of,
+};
+
+use crate::back::{line_all_up, put_all_back};
+use crate::offline::{Offline, Place};
+use edi_kernel::{Kept, Kernel};
+use indexmap::IndexSet;
+use std::alloc::{AllocError, Global};
+
+/// Where a state came from: the state before it, and the index of the process that was taken there.
+#[derive(Clone, Copy)]
+pub(crate) struct Origin {
+    pub(crate) state: u32,
+    pub(crate) index: u8,
+}
+
+/// What a state is: the numbers of its parts, of the place of the system, and of each live process in the order of their slots.
+#[derive(PartialEq, Eq, Hash, Drop)]
+pub(crate) struct Key {
+    place: u32,
+    parts: Vec<u32>,
+}
+
+/// States, numbered as they were found.
+#[derive(Drop)]
+pub(crate) struct States {
+    processes: IndexSet<Kept>,
+    places: IndexSet<Place>,
+    keys: IndexSet<Key>,
+    /// Of each state, where it came from first.
+    origins: Vec<Origin>,
+    /// The slots of those that are ready in each state, in their order, one state after another.
+    orders: Vec<u8>,
+    /// Where the slots of each state end.
+    ends: Vec<usize>,
+}
+
+/// An index as a number. That of a part beyond all that memory can have is told as want of memory.
+fn as_number(index: usize) -> Result<u32, AllocError>
+    ensures { IfOk result (λ number. number ≡ index) }
+{
+    if index > 4_294_967_295 {
+        return Err(AllocError);
+    }
+    Ok(index as u32)
+}
+
+impl States {
+    /// No states.
+    pub(crate) fn new(alloc: Global) -> States
+        ensures none { AreNone result }
+        ensures states { AreStates result }
+    {
+        States {
+            processes: IndexSet::new(alloc),
+            places: IndexSet::new(alloc),
+            keys: IndexSet::new(alloc),
+            origins: Vec::new(alloc),
+            orders: Vec::new(alloc),
+            ends: Vec::new(alloc),
+        }
+    }
+
+    /// The number of states.
+    pub(crate) fn len(&self) -> usize
+        ensures { result ≡ length self.now.keys.keys }
+    {
+        self.keys.len()
+    }
+
+    /// The number of states, with the start of the program as one.
+    pub(crate) fn total(&self) -> usize
+        ensures { result ≡ length self.now.keys.keys + 1 }
+    {
+        self.keys.len() + 1
+    }
+
+    /// Where a state but the first came from.
+    pub(crate) fn origin(&self, state: usize) -> Origin
+        requires states { AreStates self.now }
+        requires state { state < length self.now.keys.keys }
+        ensures is { slice_get self.now.origins.items state ≡ Some result }
+        ensures before { 0 < state → result.state < state }
+        ensures index { 0 < state → result.index < length (slots_of self.now result.state) }
+    {
+        self.origins[state]
+    }
+
+    /// Where the ready slots of a state begin, and where they end.
+    fn range(&self, state: usize) -> (usize, usize)
+        requires { state < length self.now.ends.items }
+        ensures from { result.0 ≡ start_of self.now state }
+        ensures to { result.1 ≡ end_of self.now state }
+    {
+        let to = self.ends[state];
+        if state == 0 {
+            return (0, to);
+        }
+        (self.ends[state - 1], to)
+    }
+
+    /// How many are ready in a state.
+    pub(crate) fn ready(&self, state: usize) -> usize
+        requires states { AreStates self.now }
+        requires state { state < length self.now.keys.keys }
+        ensures count { result ≡ end_of self.now state - start_of self.now state }
+        ensures slots { result ≡ length (slots_of self.now state) }
+    {
+        let (from, to) = self.range(state);
+        to - from
+    }
+
+    /// Puts a state back. The only error is want of memory.
+    pub(crate) fn put_back(
+        &self,
+        kernel: &mut Kernel,
+        calls: &mut Offline,
+        state: usize,
+    ) -> Result<(), AllocError>
+        requires states { AreStates self.now }
+        requires state { state < length self.now.keys.keys }
+        ensures back { OnOk result (PutsStateBack self.now state kernel.new calls.new) }
+        ensures shown { OnOk result (calls.new.shown.items ≡ []) }
+        ensures printed { OnOk result (calls.new.printed.items ≡ []) }
+        ensures working { OnOk result (calls.new.failed ≡ None) }
+        ensures input { OnOk result (calls.new.input ≡ calls.old.input) }
+    {
+        let key = &self.keys[state];
+        calls.put_back(&self.places[key.place as usize])?;
+        kernel.clear();
+        put_all_back(kernel, &self.processes, &key.parts);
+        let (from, to) = self.range(state);
+        line_all_up(kernel, &self.orders[from..to]);
+        Ok(())
+    }
+
+    /// The number of a part: its own, if it is kept, or the next one.
+    fn number_of(&mut self, kept: Kept) -> Result<u32, AllocError>
+        ensures adds { OnOk result (AddsParts self.old self.new) }
+        ensures there { IfOk result (λ number. (part : Kept) × (slice_get self.new.processes.keys number ≡ Some part) × IsSameKept kept part) }
+    {
+        let (number, _) = self.processes.insert_full(kept)?;
+        as_number(number)
+    }
+
+    /// The number of a place: its own, if it is kept, or the next one.
+    fn place_of(&mut self, place: Place) -> Result<u32, AllocError>
+        ensures adds { OnOk result (AddsParts self.old self.new) }
+        ensures there { IfOk result (λ number. (other : Place) × (slice_get self.new.places.keys number ≡ Some other) × IsSamePlace place other) }
+    {
+        let (number, _) = self.places.insert_full(place)?;
+        as_number(number)
+    }
+
+    /// The numbers of the parts of what kernel and system are now.
+    fn key_of(&mut self, alloc: Global, kernel: &Kernel, calls: &Offline) -> Result<Key, AllocError>
+        requires kernel { IsKernel kernel.now }
+        ensures key { IfOk result (λ key. IsKeyOf self.new key kernel.now calls.now) }
+        ensures adds { OnOk result (AddsParts self.old self.new) }
+    {
+        let place = self.place_of(calls.keep()?)?;
+        let mut parts = Vec::with_capacity(alloc, 4)?;
+        for slot in 0..32 {
+            if !kernel.lives(slot) {
+                continue;
+            }
+            let number = self.number_of(kernel.keep(alloc, slot)?)?;
+            parts.push(number)?;
+        }
+        Ok(Key { place, parts })
+    }
+
+    /// Appends the slots of those that are ready.
+    fn note_order(&mut self, kernel: &Kernel) -> Result<(), AllocError>
+        requires kernel { IsKernel kernel.now }
+        ensures exact { OnOk result (self.new.orders.items ≡ self.old.orders.items ++ ready_slots kernel.now.table) }
+        ensures rest { self.new ≡ record self.old { orders = self.new.orders } }
+    {
+        for index in 0..kernel.ready() {
+            let slot = kernel.ready_slot(index).unwrap();
+            self.orders.push(slot as u8)?;
+        }
+        Ok(())
+    }
+
+    /// Adds the state that kernel and system are now, if it is new. The answer is whether it is kept: not where it is new and as
+    /// many states are kept as may be.
+    pub(crate) fn add(
+        &mut self,
+        alloc: Global,
+        kernel: &Kernel,
+        calls: &Offline,
+        origin: Origin,
+        most: usize,
+    ) -> Result<bool, AllocError>
+        requires kernel { IsKernel kernel.now }
+        requires free { kernel.now.taken ≡ None }
+        requires states { AreStates self.old }
+        requires origin { MayComeFrom self.old origin }
+        ensures added { IfOk result (λ kept. kept ≡ true → IsAdded self.old self.new kernel.now calls.now) }
+        ensures full { IfOk result (λ kept. kept ≡ false → most ≤ length self.new.keys.keys) }
+    {
+        let key = self.key_of(alloc, kernel, calls)?;
+        if self.keys.len() >= most && !self.keys.contains(&key) {
+            return Ok(false);
+        }
+        let (_, added) = self.keys.insert_full(key)?;
+        if !added {
+            return Ok(true);
+        }
+        self.note_order(kernel)?;
+        self.origins.push(origin)?;
+        self.ends.push(self.orders.len())?;
+        Ok(true)
+    }
+}
