@@ -48,6 +48,10 @@ pub record IsRecorded (unit : ProgramUnit) (input : List ℕ) (found : Found) : 
 abbrev pub AreRecorded : ProgramUnit → (input : List ℕ) → List Found → Type 0
 AreRecorded unit input found = (one : Found) → Contains found one → IsRecorded unit input one
 
+-- none of them is an instruction without a meaning
+abbrev pub AreNeverBad : List Found → Type 0
+AreNeverBad found = (one : Found) (at : ℕ) → Contains found one → one.ending ≡ ending.Bad at → ⊥
+
 -- the ending is among those that were found
 abbrev pub HasEnding : List Found → Ending → Type 0
 HasEnding found e = (one : Found) × Contains found one × (one.ending ≡ e)

@@ -7,7 +7,7 @@ ghost use Rattle.edi_explored.specs.Reached.{AreAll, AreAllBelow};
 ghost use Rattle.edi_explored.specs.machine.Kernels.{IsUnitCode};
 ghost use Rattle.edi_explore.specs.Expand.{ComesTo, HasExpanded, IsSearch};
 ghost use Rattle.edi_explore.specs.Finding.{Finds, IsBegun};
-ghost use Rattle.edi_explore.specs.Found.{AreDistinct, AreRecorded, endings_of};
+ghost use Rattle.edi_explore.specs.Found.{AreDistinct, AreNeverBad, AreRecorded, endings_of};
 ghost use Rattle.edi_explore.specs.Offline.{offline};
 ghost use Rattle.edi_explore.specs.Verdicts.{HasFirst, IsAnswer, IsUpTo, or_else, verdict_of, verdict_of_given_up};
 
@@ -207,6 +207,7 @@ pub fn explore(
 ) -> Result<Report, AllocError>
     ensures recorded { (unit : ProgramUnit) → CanBeCoded unit → IsUnitCode unit code.now →
         IfOk result (λ report. AreRecorded unit input.now report.found.items) }
+    ensures good { (unit : ProgramUnit) → CanBeCoded unit → IsUnitCode unit code.now → IfOk result (λ report. AreNeverBad report.found.items) }
     ensures distinct { IfOk result (λ report. AreDistinct report.found.items) }
     ensures all { (unit : ProgramUnit) → CanBeCoded unit → IsUnitCode unit code.now →
         IfOk result (λ report. report.verdict ≡ Verdict.All → AreAll unit (offline input.now) (endings_of report.found.items)) }

@@ -7,6 +7,7 @@ use Rattle.edi_explore.specs.declared.ends.Verdict.{Verdict}
 use Rattle.edi_explore.specs.Found.{AreDistinct, AreRecorded, endings_of}
 use Rattle.edi_explore.specs.Offline.{offline}
 use Rattle.edi_explore.specs.Verdicts.{IsUpTo}
+use Rattle.edi_explore.proofs.Findings.{never_bad}
 use Rattle.edi_explore.proofs.Levelling.{answer_all, answer_full, answer_to}
 use Rattle.edi_explore.proofs.search.explore.Goals as goal
 
@@ -21,6 +22,13 @@ returns-clause-recorded c = λ unit coded is.
     subst (λ fs. AreRecorded unit c.args.input.now fs) (sym (ap (λ x. x.items) c.report.ensures.found))
     (c.follow_all-verdict.ensures.finds.recorded unit coded is
     (none_recorded unit c.args.input.now c.in_ok-search.search.found.items c.in_ok-search.ensures.begun.found))
+
+pub returns-clause-good : goal.returns-clause-good
+returns-clause-good c = λ unit coded is one at there bad.
+    never_bad unit c.args.input.now one
+    (subst (λ fs. AreRecorded unit c.args.input.now fs) (sym (ap (λ x. x.items) c.report.ensures.found))
+    (c.follow_all-verdict.ensures.finds.recorded unit coded is
+    (none_recorded unit c.args.input.now c.in_ok-search.search.found.items c.in_ok-search.ensures.begun.found)) one there) at bad
 
 pub returns-clause-distinct : goal.returns-clause-distinct
 returns-clause-distinct c =
