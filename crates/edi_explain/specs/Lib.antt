@@ -1,2 +1,3 @@
 pub mod expected
 pub mod places
+pub mod told

@@ -1,6 +1,7 @@
 //! The examples, a file for each subject.
 
 mod expected;
+mod explained;
 mod faults;
 mod lengths;
 mod lists;

@@ -2,7 +2,6 @@
 use Rattle.std.proofs.Common.{◌≡◌, ℕ, zero, suc, ◌+◌, ◌≤◌, List, [], ◌∷◌, ◌++◌, Option, Some, true, refl, sym, ap, ◌∙◌, subst, arith}
 use Rattle.std.proofs.Common.{append_assoc, None, ◌-◌, ◌⊎◌, inl, inr}
 use Rattle.edi_lex.specs.declared.symbol.Mark.{Mark}
-use Rattle.edi_tree.specs.Tree.{Program}
 use Rattle.edi_tree.specs.Spelled.{Spelled}
 use Rattle.edi_tree.specs.Spells.{StandsAsMark, StandAsMarks, ProgramBegins}
 use Rattle.edi_tree.specs.Levels.{Element, mark, level_end, marks_among, elements, opens, with_symbol, one_less, level_behind, Level}
@@ -12,44 +11,13 @@ use Rattle.edi_grammar.specs.Kind.{kind_of, kind_at}
 use Rattle.edi_grammar.specs.Rules as g
 use Rattle.edi_grammar.specs.Open.{open_behind}
 use Rattle.edi_grammar.specs.Edison.{edison, start}
-use Rattle.edi_grammar.proofs.EdisonIsFair.{fair}
-use Rattle.edi_grammar.proofs.Open.{open_is_ending}
 use Rattle.edi_grammar.specs.derivation.Fits.{Items, Fit}
 use Rattle.edi_grammar.specs.derivation.Faults.{somes, AreShallow}
-use Rattle.edi_grammar.proofs.derivation.Programs.{items_for, marks_of, spelled_elements, elements_spelled, program_derived, program_of_text, opens_in}
-use Rattle.edi_grammar.proofs.derivation.Programs.{counted, cut_at, level_with, open_with}
-use Rattle.edi_grammar.proofs.derivation.Firsts.{Placed}
+use Rattle.edi_grammar.proofs.derivation.Programs.{items_for, spelled_elements, program_derived, program_of_text, opens_in}
+use Rattle.edi_grammar.proofs.derivation.Programs.{counted}
+use Rattle.edi_grammar.proofs.derivation.Firsts.{begins_of, level_is_ending, placed}
 use Rattle.edi_explain.specs.expected.MayStand.{Begin}
 use Rattle.edi_explain.proofs.expected.Swaps.{no_item, some_same, swapped, split, plain_at}
-
--- These three stand in `Firsts` of the grammar too, where they are not `pub`.
-begins_of : (u more : List (Option Mark)) (n : ℕ) (items : Items) → plain items ≡ u ++ more → Derives edison n start items → ProgramBegins u
-begins_of u more n items e d =
-    let p = program_of_text n items d in
-    let marks = marks_of (elements p.0) items p.1 in
-    (p.0, marks.0, more, elements_spelled p.0 marks.0 marks.1, sym marks.2 ∙ e)
-
-level_is_ending : (tree : Program) (before after : List Element) (s : Spelled) (m : Mark) (n : ℕ) (first last : Items) → StandsAsMark s m
-    → ((k : ℕ) → level_behind k before ≡ open_behind edison k first) → Derives edison n start (first ++ item.mark (Some m) ∷ last)
-    → level_behind 0 (before ++ mark s ∷ []) ≡ ends_in edison last
-level_is_ending tree before after s m n first last st levels d =
-    level_with before 0 s ∙ counted (level_behind 0 before) s m st ∙ ap (λ k. k + opened edison (kind_at (Some m))) (levels 0) ∙ sym (open_with first 0 m)
-    ∙ open_is_ending edison fair n start (first ++ item.mark (Some m) ∷ last) (first ++ item.mark (Some m) ∷ []) last (omega arith, tt)
-    (sym (append_assoc first (item.mark (Some m) ∷ []) last)) d
-
-pub placed : (front : List Mark) (m : Mark) (level : ℕ) → Level front m level → Placed front m level
-placed front m level l =
-    let c = cut_at l.1 l.2 l.3 front m l.5 l.6 in
-    let d = program_derived l.0 (c.first ++ item.mark (Some m) ∷ c.last) (subst (λ es. Fit es (c.first ++ item.mark (Some m) ∷ c.last)) (sym l.4) c.fits) in
-    record {
-      n = d.0;
-      first = c.first;
-      last = c.last;
-      derived = d.1;
-      spelled = c.spelled;
-      ends = l.7 ∙ level_is_ending l.0 l.1 l.3 l.2 m d.0 c.first c.last
-          l.6 c.levels d.1;
-    }
 
 -- a begun program may go on with another symbol of the kind
 pub begins_with : (before : List Mark) (a b : Option Mark) → kind_at a ≡ kind_at b → ProgramBegins (somes before ++ a ∷ [])

@@ -15,6 +15,7 @@ use Rattle.edi_grammar.specs.Edison.{edison, start}
 use Rattle.edi_grammar.specs.Kind.{kind_of}
 use Rattle.edi_grammar.proofs.Start.{first_fault}
 use Rattle.edi_grammar.specs.derivation.Faults.{somes, AreShallow, IsTheTree}
+use Rattle.edi_grammar.proofs.derivation.Firsts.{placed}
 use Rattle.edi_grammar.proofs.derivation.Programs.{opens_in}
 use Rattle.edi_syntax.specs.Ends.{EndsWrong, EndsDeep}
 use Rattle.edi_syntax.specs.declared.fault.SyntaxFault.TheVariants as fault
@@ -22,7 +23,7 @@ use Rattle.edi_syntax.proofs.Places.{begins_front, level_of}
 use Rattle.edi_syntax.proofs.Once.{no_tree}
 use Rattle.edi_explain.specs.expected.Reaches.{Reaches, DoBegin, May}
 use Rattle.edi_explain.specs.declared.expected.walk.Reach.TheVariants as reach
-use Rattle.edi_explain.proofs.expected.OneKind.{placed, somes_both, kind_decides}
+use Rattle.edi_explain.proofs.expected.OneKind.{somes_both, kind_decides}
 
 pub to_end_somes : (marks : List Mark) → to_end marks ≡ somes marks ++ None ∷ []
 to_end_somes [] = refl

@@ -1,4 +1,4 @@
--- Words of contracts. What may stand after marks, in the words of syntax trees alone.
+-- Definition. What may stand after marks, in the words of syntax trees alone.
 use Rattle.std.specs.Prelude.{◌≡◌, ℕ, zero, suc, ◌≤◌, List, [], ◌∷◌, ◌++◌}
 use Rattle.edi_lex.specs.declared.symbol.Mark.{Mark}
 use Rattle.edi_tree.specs.Tree.{Program}

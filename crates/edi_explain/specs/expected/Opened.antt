@@ -1,4 +1,4 @@
--- Words of contracts. What is open after marks: the symbols that wait for another one that closes them, the innermost last.
+-- Definition. What is open after marks: the symbols that wait for another one that closes them, the innermost last.
 use Rattle.std.specs.Prelude.{ℕ, ◌-◌, Bool, true, false, List, [], ◌∷◌, ◌++◌, length, take, nat_lt, if◌then◌else◌}
 use Rattle.edi_lex.specs.declared.symbol.Symbol.{Symbol}
 use Rattle.edi_lex.specs.declared.symbol.Symbol.TheVariants as is

@@ -1,4 +1,4 @@
--- Words of contracts. How far marks go as a program.
+-- Definition. How far marks go as a program.
 use Rattle.std.specs.Prelude.{List, ℕ, Bool, true, false}
 use Rattle.edi_lex.specs.declared.symbol.Mark.{Mark}
 use Rattle.edi_explain.specs.expected.MayStand.{Begin, IsWhole, MayStand}

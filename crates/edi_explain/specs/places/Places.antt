@@ -1,4 +1,4 @@
--- Words of contracts. Where the symbols of a text stand in it. The text is cut into the pieces of `symbols_from`.
+-- Definition. Where the symbols of a text stand in it. The text is cut into the pieces of `symbols_from`.
 use Rattle.std.specs.Prelude.{◌≡◌, ℕ, zero, suc, ◌+◌, List, [], ◌∷◌, length, take, drop, ◌==◌, if◌then◌else◌, ⊤}
 use Rattle.edi_lex.specs.declared.symbol.Mark.{Mark}
 use Rattle.edi_lex.specs.Bytes.{line_feeds}

@@ -1,0 +1,10 @@
+use Rattle.std.proofs.Common.{Err, subst}
+use Rattle.edi_lex.specs.Symbols.{ScanGives, symbols_of}
+use Rattle.edi_explain.proofs.told.Whole.{stray_scanned}
+use Rattle.edi_explain.proofs.told.lexical.put_lexical.Goals as goal
+
+pub put_character-requires : goal.put_character-requires
+put_character-requires c = record {
+  has = stray_scanned c.args.text.now c.in-BadCharacter.line
+      (subst (λ f. ScanGives (Err f) (symbols_of c.args.text.now)) c.in-BadCharacter.is c.requires.told);
+}

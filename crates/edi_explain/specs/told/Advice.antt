@@ -1,0 +1,82 @@
+-- Definition. THE ADVICE: for each kind of fault what it is and what to do, in a few lines.
+use Rattle.std.specs.Prelude.{ℕ, List, [], ◌∷◌, ◌++◌, codes}
+use Rattle.edi_texts.specs.declared.kind.RefusalKind.{RefusalKind}
+use Rattle.edi_texts.specs.declared.kind.RefusalKind.TheVariants as kind
+
+abbrev pub advice_lines : RefusalKind → List (List ℕ)
+advice_lines kind.InvalidCharacter =
+    codes "Here begins nothing that the language knows. A text has bytes 32 to 126, tabs and line ends."
+    ∷ codes "A string stands between apostrophes on one line, a comment between quotation marks."
+    ∷ []
+advice_lines kind.InvalidNumeral =
+    codes "A number of this line is above 32767, which is the greatest one. A sign is no part of it."
+    ∷ []
+advice_lines kind.TextTooLong =
+    codes "The text has more than 262144 bytes or more than 65534 line ends. Shorten it."
+    ∷ []
+advice_lines kind.InvalidSyntax =
+    codes "All that stands before is the beginning of some program; with this symbol it is none."
+    ∷ codes "So the mistake is here or earlier: look at the line before, and at what is open."
+    ∷ []
+advice_lines kind.NestingTooDeep =
+    codes "At most 64 levels may be open: statements and procedures in one another, and parentheses."
+    ∷ codes "Put an inner part into a procedure of its own, or an inner value into a variable."
+    ∷ []
+advice_lines kind.NotInProfile =
+    codes "Edison has this, and this system leaves it out: 'lib', ':' behind a value to change its type,"
+    ∷ codes "and the standard names addr, obtain, place and sense."
+    ∷ []
+advice_lines kind.UndeclaredName =
+    codes "A name of this line means nothing here. A name means something from its declaration to the end of"
+    ∷ codes "the procedure, module or program round it. Look for another spelling, small and capital letters too;"
+    ∷ codes "for a declaration that stands further down: 'pre proc' announces a procedure; for a name of a module"
+    ∷ codes "that has no '*'; for a field that the record has not; for display or another call that the heading"
+    ∷ codes "of the program does not name."
+    ∷ []
+advice_lines kind.AmbiguousName =
+    codes "A name of this line is declared twice in one procedure, module, heading, record or enumeration; or it is"
+    ∷ codes "marked with '*' twice, or beside a name of the scope round it. Give one of the two another name."
+    ∷ []
+advice_lines kind.InvalidNameKind =
+    codes "A name of this line means something else than is asked for here: only a variable is assigned, only a"
+    ∷ codes "type stands after ':', only a constant in bounds, only a procedure is called; 'val f := ...' stands in"
+    ∷ codes "the function f alone."
+    ∷ []
+advice_lines kind.IncompatibleTypes =
+    codes "Two types of this line do not fit. Both sides of ':=' and of a comparison have one type, and only one"
+    ∷ codes "declaration is one type; a condition is of type bool; 'div' and 'mod' take numbers, '+', '-' and '*' numbers"
+    ∷ codes "or sets, 'and' and 'or' conditions. int(c) is the number of the character c, and char(n) the character of"
+    ∷ codes "the number n."
+    ∷ []
+advice_lines kind.InvalidRange =
+    codes "A value of this line is too great or too small: a character has a number from 0 to 127, a lower bound"
+    ∷ codes "is not above the upper one, and a type, a procedure and its variables take at most 65535 words."
+    ∷ []
+advice_lines kind.InvalidCall =
+    codes "A call of this line does not fit the heading of what is called: as many arguments, each of the type of"
+    ∷ codes "its parameter, for a 'var' parameter a variable alone. A function stands in an expression, and any other"
+    ∷ codes "procedure is a statement. Compare the call with the heading, letter by letter."
+    ∷ []
+advice_lines kind.InvalidConstructor =
+    codes "A value of this line is not made as its type asks: an array and a record have a value for each part, as"
+    ∷ codes "in t(1, 2, 3). A string of more than one character stands only as an argument of an array of char, for"
+    ∷ codes "which it gives its characters, as in t('abc'); display takes one character, as in display('a')."
+    ∷ []
+advice_lines kind.InvalidSplitProcedure =
+    codes "A procedure in two parts is 'pre proc' with its heading and, later in the same procedure or module,"
+    ∷ codes "'post proc' with the same heading and the body. One of the two is missing, or the headings differ."
+    ∷ []
+advice_lines kind.InvalidProgramHeading =
+    codes "The heading of the program names the calls of the system that it uses, each exactly as the manual has"
+    ∷ codes "it, as in proc main(proc display(value: char)). It has no result and no other parameter."
+    ∷ []
+
+abbrev pub line_text : List ℕ → List ℕ
+line_text line = line ++ codes "\n"
+
+abbrev pub lines_text : List (List ℕ) → List ℕ
+lines_text [] = []
+lines_text (line ∷ lines) = line_text line ++ lines_text lines
+
+abbrev pub advice_of : RefusalKind → List ℕ
+advice_of why = lines_text (advice_lines why)

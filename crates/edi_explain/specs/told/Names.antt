@@ -1,0 +1,126 @@
+-- Definition. THE UNDECLARED NAME of a line, where only one name of the line can be it: one that is no standard name, is not declared at its place, and
+-- is no call of the system that the heading of the program names before it. Each other name of a line means something there.
+use Rattle.std.specs.Prelude.{ℕ, zero, suc, ◌+◌, ◌-◌, ◌==◌, Bool, true, false, not, ◌&&◌, ◌||◌, List, [], ◌∷◌, length, take, Option, Some, None}
+use Rattle.std.specs.Prelude.{slice_get, if◌then◌else◌, codes}
+use Rattle.std.specs.List.{list_any}
+use Rattle.std.specs.Str.{bytes_eq}
+use Rattle.edi_lex.specs.declared.symbol.Symbol.{Symbol}
+use Rattle.edi_lex.specs.declared.symbol.Symbol.TheVariants as is
+use Rattle.edi_lex.specs.declared.symbol.Mark.{Mark}
+use Rattle.edi_grammar.specs.Kinds as kind
+use Rattle.edi_grammar.specs.Kind.{kind_of, kind_at}
+use Rattle.edi_explain.specs.told.Groups.{is_among}
+
+abbrev pub standard_names : List (List ℕ)
+standard_names = codes "int" ∷ codes "char" ∷ codes "bool" ∷ codes "false" ∷ codes "true" ∷ codes "halt" ∷ []
+
+abbrev pub is_text_of : List ℕ → List (List ℕ) → Bool
+is_text_of letters texts = list_any (bytes_eq letters) texts
+
+-- ---- names that are declared at their place
+
+-- the kinds of symbols after which a name is declared
+abbrev pub declarers : List ℕ
+declarers = kind.Array ∷ kind.Const ∷ kind.Enum ∷ kind.Proc ∷ kind.Record ∷ kind.Set ∷ kind.Var ∷ []
+
+-- by the kinds of the symbols before and after the name: a further constant, or a name before `:` that is no bound of an array
+abbrev pub is_declared : (last next : ℕ) → Bool
+is_declared last next =
+    is_among last declarers || (next == kind.Colon && not (last == kind.OpenBracket)) || (last == kind.Semicolon && next == kind.Equal)
+
+-- ---- names of the heading
+
+-- as many symbols as are looked at for the heading of the program
+abbrev pub most_heading : ℕ
+most_heading = 256
+
+abbrev pub name_in : Symbol → Option (List ℕ)
+name_in (is.Name letters) = Some letters
+name_in symbol = None
+
+abbrev pub is_name : List ℕ → Option (List ℕ) → Bool
+is_name letters None = false
+is_name letters (Some other) = bytes_eq letters other
+
+-- how many parentheses are open behind a symbol of this kind
+abbrev pub opened_by : (open_ k : ℕ) → ℕ
+opened_by open_ k = if k == kind.Open then open_ + 1 else if k == kind.Close then open_ - 1 else open_
+
+-- So many parentheses are open. A name after `proc` in one parenthesis is a parameter of the program; the heading ends where none is open.
+abbrev pub is_parameter : List ℕ → (open_ last : ℕ) → List Mark → Bool
+is_parameter letters open_ last [] = false
+is_parameter letters open_ last (m ∷ marks) =
+    if open_ == 0 then false
+    else if (open_ == 1) && (last == kind.Proc) && is_name letters (name_in m.symbol) then true
+    else is_parameter letters (opened_by open_ (kind_of m.symbol)) (kind_of m.symbol) marks
+
+-- the marks after the first `proc`, its name and `(`
+abbrev pub after_open : List Mark → List Mark
+after_open [] = []
+after_open (name ∷ []) = []
+after_open (name ∷ open_ ∷ marks) = if kind_of open_.symbol == kind.Open then marks else []
+
+abbrev pub heading_of : List Mark → List Mark
+heading_of [] = []
+heading_of (m ∷ marks) = if kind_of m.symbol == kind.Proc then after_open marks else heading_of marks
+
+abbrev pub is_in_heading : List ℕ → List Mark → Bool
+is_in_heading letters marks = is_parameter letters 1 0 (heading_of (take most_heading marks))
+
+-- ---- the names of a line that can be undeclared
+
+-- the symbol before that of this index
+abbrev pub before_of : List Mark → (index : ℕ) → Option Mark
+before_of marks index = if index == 0 then None else slice_get marks (index - 1)
+
+-- a name after a period is that of a field, whatever else it means; the heading counts where it stands before the name
+abbrev pub can_be_after : (last next : ℕ) → (before : List Mark) → List ℕ → Bool
+can_be_after last next before letters =
+    (last == kind.Period) || (not (is_declared last next) && not (is_text_of letters standard_names) && not (is_in_heading letters before))
+
+abbrev pub can_be : List Mark → (index : ℕ) → List ℕ → Bool
+can_be marks index letters =
+    can_be_after (kind_at (before_of marks index)) (kind_at (slice_get marks (index + 1))) (take index marks) letters
+
+abbrev pub if_can_be : List Mark → (index : ℕ) → Option (List ℕ) → Option (List ℕ)
+if_can_be marks index None = None
+if_can_be marks index (Some letters) = if can_be marks index letters then Some letters else None
+
+abbrev pub used_by : List Mark → (line index : ℕ) → Option Mark → Option (List ℕ)
+used_by marks line index None = None
+used_by marks line index (Some m) = if m.line == line then if_can_be marks index (name_in m.symbol) else None
+
+-- the letters of the symbol of this index, if it is such a name of the line
+abbrev pub used_at : List Mark → (line index : ℕ) → Option (List ℕ)
+used_at marks line index = used_by marks line index (slice_get marks index)
+
+-- a name that was found, with its index, or none
+abbrev pub Found : Type 0
+Found = Option (ℕ × List ℕ)
+
+-- with what the next symbol is: none where it is a second one
+abbrev pub joined : (index : ℕ) → Found → Option (List ℕ) → Option Found
+joined index found None = Some found
+joined index None (Some letters) = Some (Some (index, letters))
+joined index (Some one) (Some letters) = None
+
+abbrev pub if_one : Option Found → (Found → Found) → Found
+if_one None go = None
+if_one (Some found) go = go found
+
+-- from this index on, so many symbols
+abbrev pub only_from : List Mark → (line index many : ℕ) → Found → Found
+only_from marks line index zero found = found
+only_from marks line index (suc many) found =
+    if_one (joined index found (used_at marks line index)) (λ next. only_from marks line (suc index) many next)
+
+-- the name of the line that can be undeclared, where just one symbol is one, with its index
+abbrev pub only_name : List Mark → (line : ℕ) → Found
+only_name marks line = only_from marks line 0 (length marks) None
+
+-- ---- a procedure of that name further down
+
+abbrev pub declared_from : List ℕ → (last : ℕ) → List Mark → Option ℕ
+declared_from letters last [] = None
+declared_from letters last (m ∷ marks) =
+    if (last == kind.Proc) && is_name letters (name_in m.symbol) then Some m.line else declared_from letters (kind_of m.symbol) marks

@@ -1,0 +1,163 @@
+-- Definition. THE NOTES: what is often meant at a syntax fault. Each says how the language is, not what the writer meant. At most one is shown: that
+-- of a word, else the first row that fits.
+use Rattle.std.specs.Prelude.{ℕ, Bool, true, false, not, ◌&&◌, ◌||◌, List, [], ◌∷◌, ◌++◌, Option, Some, None, if◌then◌else◌, codes}
+use Rattle.std.specs.List.{list_all, list_any}
+use Rattle.std.specs.Str.{bytes_eq}
+use Rattle.edi_lex.specs.declared.symbol.Symbol.{Symbol}
+use Rattle.edi_lex.specs.declared.symbol.Symbol.TheVariants as is
+use Rattle.edi_lex.specs.declared.symbol.Mark.{Mark}
+use Rattle.edi_grammar.specs.Kinds as kind
+use Rattle.edi_explain.specs.told.Groups.{is_among, statement, declaration, comparison}
+
+-- ---- words that other languages have and this one has not
+
+-- beside each of these words, which are names here, its note
+abbrev pub word_notes : List (List ℕ × List ℕ)
+word_notes =
+    (codes "then", codes "'then' is no word of the language: after a condition comes 'do'.")
+    ∷ (codes "for", codes "'for' is no word of the language: a loop is 'while CONDITION do ... end', with a variable that counts.")
+    ∷ (codes "repeat", codes "'repeat' is no word of the language: a loop is 'while CONDITION do ... end'.")
+    ∷ (codes "until", codes "'until' is no word of the language: a loop is 'while CONDITION do ... end'.")
+    ∷ (codes "loop", codes "'loop' is no word of the language: a loop is 'while CONDITION do ... end'.")
+    ∷ (codes "return", codes "'return' is no word of the language: a function f gives its value by 'val f := ...'.")
+    ∷ (codes "elsif", codes "'elsif' is no word of the language: a further case is 'else CONDITION do'.")
+    ∷ (codes "elif", codes "'elif' is no word of the language: a further case is 'else CONDITION do'.")
+    ∷ (codes "case", codes "'case' is no word of the language: cases are 'if CONDITION do ... else CONDITION do ... end'.")
+    ∷ (codes "procedure", codes "'procedure' is no word of the language: a procedure begins with 'proc'.")
+    ∷ (codes "function", codes "'function' is no word of the language: a function begins with 'proc' and has a type, as in proc f: int.")
+    ∷ (codes "program", codes "'program' is no word of the language: a program is a procedure, as in proc main.")
+    ∷ (codes "type", codes "'type' is no word of the language: a type is declared by 'array', 'enum', 'record' or 'set' and its name.")
+    ∷ (codes "of", codes "'of' is no word of the language: an array is declared as array t [1:10] (int).")
+    ∷ (codes "let", codes "'let' is no word of the language: variables are declared as var x: int, before 'begin'.")
+    ∷ []
+
+abbrev pub note_beside : List (List ℕ × List ℕ) → List ℕ → Option (List ℕ)
+note_beside [] word = None
+note_beside (row ∷ rows) word = if bytes_eq word row.0 then Some row.1 else note_beside rows word
+
+-- the note of a symbol that is such a word
+abbrev pub symbol_note : Symbol → Option (List ℕ)
+symbol_note (is.Name letters) = note_beside word_notes letters
+symbol_note symbol = None
+
+abbrev pub mark_note : Option Mark → Option (List ℕ)
+mark_note None = None
+mark_note (Some m) = symbol_note m.symbol
+
+-- ---- rows
+
+-- what is seen at the fault: the kind of what stands there, that of the symbol before it and that of the innermost symbol that is open, of which
+-- each is 0 where there is none; what may stand there; and whether the line has a quotation mark
+pub record Seen : Type 0 where
+  pub found : ℕ
+  pub last : ℕ
+  pub inside : ℕ
+  pub may : ℕ → Bool
+  pub quoted : Bool
+
+-- A row fits where what stands there, what stands before it and what is open are of its kinds, where a list of none stands for all; where each
+-- of `may` may stand, and none of `not_these`; and where the line has a quotation mark, if it asks for one.
+pub record Row : Type 0 where
+  pub found : List ℕ
+  pub last : List ℕ
+  pub inside : List ℕ
+  pub may : List ℕ
+  pub not_these : List ℕ
+  pub quoted : Bool
+  pub note : List ℕ
+
+abbrev pub takes : List ℕ → ℕ → Bool
+takes [] k = true
+takes (a ∷ kinds) k = is_among k (a ∷ kinds)
+
+abbrev pub stands : Row → Seen → Bool
+stands row seen = takes row.found seen.found && takes row.last seen.last && takes row.inside seen.inside
+
+abbrev pub fits : Row → Seen → Bool
+fits row seen = stands row seen && list_all seen.may row.may && not (list_any seen.may row.not_these) && (seen.quoted || not row.quoted)
+
+abbrev pub first_fit : List Row → Seen → List ℕ
+first_fit [] seen = []
+first_fit (row ∷ rows) seen = if fits row seen then row.note else first_fit rows seen
+
+-- a row that asks for what stands there and what may stand there
+abbrev pub asking : (found may : List ℕ) → (note : List ℕ) → Row
+asking found may note = record { found = found; last = []; inside = []; may = may; not_these = []; quoted = false; note = note }
+
+-- what ends a list of statements
+abbrev pub ends : List ℕ
+ends = kind.End_of_text ∷ kind.Also ∷ kind.Else ∷ kind.End ∷ []
+
+-- what comes after groups of names
+abbrev pub enders : List ℕ
+enders = kind.Begin ∷ kind.Close ∷ declaration
+
+abbrev pub worded : List ℕ
+worded = kind.Begin ∷ kind.Cobegin ∷ kind.If ∷ kind.When ∷ kind.While ∷ []
+
+-- THE TABLE
+abbrev pub note_rows : List Row
+note_rows =
+    record (asking [] (kind.Numeral ∷ kind.Char ∷ []) (codes "a character or a string stands between apostrophes; quotation marks hold a comment."))
+    { quoted = true }
+    ∷ asking (kind.Becomes ∷ []) (kind.Do ∷ [])
+    (codes "a condition stands here, up to its 'do', and '=' compares two values; after 'else' comes a condition too: 'else true do'.")
+    ∷ record (asking (kind.Becomes ∷ []) (kind.Equal ∷ []) (codes "a ')' or a ']' is missing before this one, or '=' is meant."))
+    { inside = kind.Open ∷ kind.OpenBracket ∷ [] }
+    ∷ asking (kind.Becomes ∷ []) (kind.Equal ∷ []) (codes "':=' assigns a value to a variable; '=' compares two values, and gives a constant its value.")
+    ∷ asking (kind.Equal ∷ []) (kind.Becomes ∷ []) (codes "'=' compares two values; ':=' assigns one.")
+    ∷ record (asking (kind.Equal ∷ kind.Less ∷ kind.Greater ∷ []) [] (codes "the comparisons are '=', '<>', '<', '<=', '>' and '>='."))
+    { last = kind.Equal ∷ kind.Less ∷ kind.Greater ∷ [] }
+    ∷ record (asking (kind.Semicolon ∷ ends) (kind.Skip ∷ []) (codes "a list of statements is never empty; 'skip' does nothing."))
+    { last = kind.Begin ∷ kind.Do ∷ [] }
+    ∷ record (asking (kind.Semicolon ∷ ends) (kind.Skip ∷ [])
+    (codes "one semicolon stands between two statements; none stands before 'end', 'else' or 'also'.")) { last = kind.Semicolon ∷ [] }
+    ∷ record (asking enders (kind.Name ∷ []) (codes "a semicolon stands between two groups of names; none stands after the last one."))
+    { last = kind.Semicolon ∷ []; not_these = kind.Skip ∷ [] }
+    ∷ asking (kind.Semicolon ∷ []) (kind.Begin ∷ []) (codes "no semicolon stands after a heading, a declaration or a procedure.")
+    ∷ asking comparison (kind.Do ∷ []) (codes "a condition has one comparison outside parentheses, as in (x > 0) and (x < 9).")
+    ∷ asking (kind.Semicolon ∷ ends) (kind.Do ∷ [])
+    (codes "after a condition comes 'do'; after 'else' comes a condition too: 'else true do' takes all other cases.")
+    ∷ asking [] (kind.Do ∷ []) (codes "after a condition comes 'do'.")
+    ∷ asking (kind.Numeral ∷ kind.Char ∷ kind.Text ∷ []) (kind.Open ∷ kind.Becomes ∷ []) (codes "the arguments of a call stand in parentheses.")
+    ∷ asking (kind.Plus ∷ kind.Minus ∷ []) (kind.Becomes ∷ []) (codes "a variable is changed by ':=', as in x := x + 1.")
+    ∷ asking (kind.Colon ∷ []) (kind.Becomes ∷ []) (codes "':=' is one symbol; variables are declared before 'begin'.")
+    ∷ asking statement (kind.Semicolon ∷ kind.End ∷ []) (codes "a semicolon stands between two statements.")
+    ∷ record (asking (kind.Name ∷ []) (kind.Semicolon ∷ []) (codes "a semicolon stands between two groups of names; statements stand after 'begin'.")) { not_these = kind.End ∷ [] }
+    ∷ record (asking (kind.Comma ∷ []) (kind.Semicolon ∷ []) (codes "a semicolon stands between two groups of names, as in a: int; b: char."))
+    { not_these = kind.End ∷ [] }
+    ∷ record (asking (kind.Semicolon ∷ []) (kind.Comma ∷ []) (codes "a comma stands between two arguments, and ')' after the last one."))
+    { inside = kind.Open ∷ kind.OpenBracket ∷ [] }
+    ∷ record (asking (kind.Close ∷ []) [] (codes "a heading or a call without parameters has no parentheses.")) { last = kind.Open ∷ [] }
+    ∷ record (asking (kind.Else ∷ kind.Also ∷ []) [] (codes "one 'end' stands after the last branch, and none before 'else' or 'also'."))
+    { last = kind.End ∷ [] }
+    ∷ record (asking declaration [] (codes "declarations stand before the 'begin' of their procedure; or an 'end' is missing before this one."))
+    { inside = worded }
+    ∷ asking (kind.End_of_text ∷ []) (kind.End ∷ []) (codes "each 'begin', 'if', 'while', 'when' and 'cobegin' has an 'end' of its own.")
+    ∷ asking [] (kind.End_of_text ∷ [])
+    (codes "the program is one procedure, which has ended here; the other procedures stand in it, before its 'begin'.")
+    ∷ asking (kind.Colon ∷ []) (kind.Equal ∷ []) (codes "a constant has no type of its own, as in const c = 1.")
+    ∷ record (asking (kind.Array ∷ kind.Enum ∷ kind.Record ∷ kind.Set ∷ []) (kind.Name ∷ [])
+    (codes "here stands the name of a type that is declared before, as in array t [1:10] (int).")) { last = kind.Colon ∷ [] }
+    ∷ record (asking [] (kind.Colon ∷ []) (codes "the bounds of an array stand as in [1:10].")) { inside = kind.OpenBracket ∷ [] }
+    ∷ record (asking statement (kind.Begin ∷ kind.Var ∷ []) (codes "the variables of a procedure stand after 'var', and its statements after 'begin'."))
+    { inside = kind.End_of_text ∷ [] }
+    ∷ asking [] (kind.Becomes ∷ []) (codes "a statement that begins with a name is an assignment, as in x := 1, or a call, as in p(x).")
+    ∷ record (asking [] (kind.Proc ∷ []) (codes "a program begins with its constants and types and then with its procedure, as in proc main."))
+    { last = kind.End_of_text ∷ []; not_these = kind.Begin ∷ [] }
+    ∷ []
+
+-- ---- the note
+
+abbrev pub or_else : Option (List ℕ) → Option (List ℕ) → List ℕ → List ℕ
+or_else (Some note) second rest = note
+or_else None (Some note) rest = note
+or_else None None rest = rest
+
+-- THE NOTE at what stands there and what stands before it: none where it is empty
+abbrev pub note_of : (here before : Option Mark) → Seen → List ℕ
+note_of here before seen = or_else (mark_note here) (mark_note before) (first_fit note_rows seen)
+
+abbrev pub note_line : List ℕ → List ℕ
+note_line [] = []
+note_line (b ∷ note) = (b ∷ note) ++ codes "\n"

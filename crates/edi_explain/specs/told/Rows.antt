@@ -1,0 +1,162 @@
+-- Computed rows. What is shown at places of small texts.
+use Rattle.std.specs.Prelude.{◌≡◌, ℕ, ◌==◌, Bool, false, List, [], ◌∷◌, ◌++◌, codes, map, refl, replicate, pos, Some, None}
+use Rattle.std.specs.Fmt.{decimal}
+use Rattle.std.specs.List.{list_any}
+use Rattle.edi_grammar.specs.Kinds as kind
+use Rattle.edi_lex.specs.Symbols.{piece_of}
+use Rattle.edi_lex.specs.declared.symbol.Mark.{Mark}
+use Rattle.edi_lex.specs.declared.symbol.Symbol.{Symbol}
+use Rattle.edi_lex.specs.declared.symbol.Symbol.TheVariants as is
+use Rattle.edi_explain.specs.told.Groups.{group_line, may_lines}
+use Rattle.edi_explain.specs.told.Words.{here_text, name_text}
+use Rattle.edi_explain.specs.told.Source.{pointed_line, under_byte, whole_line}
+use Rattle.edi_explain.specs.told.Stray.{stray_from, stray_of}
+use Rattle.edi_explain.specs.told.Names.{only_name}
+use Rattle.edi_explain.specs.told.Notes.{Seen, note_of}
+
+abbrev mark : Symbol → Mark
+mark symbol = record { symbol = symbol; line = 1 }
+
+-- just these kinds may stand
+abbrev just : List ℕ → ℕ → Bool
+just kinds k = list_any (λ other. other == k) kinds
+
+-- ---- lines and carets
+
+-- the number of a line does not compute, and what stands below it is as long
+abbrev pointed : ℕ → (shown under : List ℕ) → List ℕ
+pointed line shown under = (decimal line ++ shown) ++ (map under_byte (decimal line) ++ under)
+
+pub row_caret : pointed_line (codes "proc main\n  x = 5;\nend") 2 14 ≡ pointed 2 (codes ":   x = 5;\n") (codes "      ^\n")
+row_caret = refl
+
+-- a tab stays a tab, below it too; a carriage return is a blank, and a byte of no character a period
+pub row_tab : pointed_line (9 ∷ 200 ∷ 98 ∷ 13 ∷ []) 1 2 ≡ pointed 1 (58 ∷ 32 ∷ 9 ∷ 46 ∷ 98 ∷ 32 ∷ 10 ∷ []) (32 ∷ 32 ∷ 9 ∷ 32 ∷ 94 ∷ 10 ∷ [])
+row_tab = refl
+
+-- at the end of a line, and on an empty one
+pub row_line_end : pointed_line (codes "ab\n\nc") 1 2 ≡ pointed 1 (codes ": ab\n") (codes "    ^\n")
+row_line_end = refl
+
+pub row_empty_line : whole_line (codes "ab\n\nc") 2 ≡ decimal 2 ++ codes ": \n"
+row_empty_line = refl
+
+pub row_past_the_end : whole_line (codes "ab") 9 ≡ decimal 9 ++ codes ": \n"
+row_past_the_end = refl
+
+-- 200 columns of 300, from 100 before the caret on
+pub row_long : pointed_line (replicate 300 97) 1 250
+    ≡ pointed 1 (codes ": " ++ (replicate 150 97 ++ codes "\n")) (codes "  " ++ (replicate 100 32 ++ codes "^\n"))
+row_long = refl
+
+-- ---- what stands there, and what may
+
+pub row_name : here_text (Some (mark (is.Name (codes "then")))) ≡ codes "the name 'then'"
+unfolding name_text
+row_name = refl
+
+pub row_character : here_text (Some (mark (is.Chars (codes "a")))) ≡ codes "a character"
+row_character = refl
+
+pub row_string : here_text (Some (mark (is.Chars (codes "ab")))) ≡ codes "a string"
+row_string = refl
+
+pub row_end_of_text : here_text None ≡ codes "the end of the text"
+row_end_of_text = refl
+
+-- proc main(proc display(value: char)) var x: int begin x
+pub row_after_a_name : may_lines (just (14 ∷ 43 ∷ 45 ∷ 46 ∷ 47 ∷ 49 ∷ [])) ≡ codes "  'end', ':=', ';', '.', '(', '['\n"
+unfolding group_line may_lines
+row_after_a_name = refl
+
+-- proc main begin display('a'); display('b');
+pub row_after_a_semicolon : may_lines (just (1 ∷ 9 ∷ 16 ∷ 28 ∷ 29 ∷ 31 ∷ 32 ∷ []))
+    ≡ codes "  a statement: a name, 'cobegin', 'if', 'skip', 'val', 'when', 'while'\n"
+unfolding group_line may_lines
+row_after_a_semicolon = refl
+
+-- proc main begin if x > 0 and x
+pub row_after_an_operand : may_lines (just (6 ∷ 11 ∷ 12 ∷ 19 ∷ 22 ∷ 39 ∷ 40 ∷ 41 ∷ 46 ∷ 47 ∷ 49 ∷ []))
+    ≡ codes "  an operator: '*', 'div', 'mod', 'and', '+', '-', 'or'\n  'do', '.', '(', '['\n"
+unfolding group_line may_lines
+row_after_an_operand = refl
+
+-- one of a group is missing, so its kinds are named alone
+pub row_part_of_a_group : may_lines (just (1 ∷ 25 ∷ 30 ∷ [])) ≡ codes "  a name, 'proc', 'var'\n"
+unfolding group_line may_lines
+row_part_of_a_group = refl
+
+pub row_nothing : may_lines (just []) ≡ []
+unfolding group_line may_lines
+row_nothing = refl
+
+-- ---- places at which no piece stands
+
+pub row_stray : stray_of (codes "x := 1 # 2") ≡ 7
+unfolding stray_from piece_of
+row_stray = refl
+
+pub row_open_string : stray_of (codes "x 'ab") ≡ 2
+unfolding stray_from piece_of
+row_open_string = refl
+
+pub row_open_comment : stray_of (97 ∷ 34 ∷ 98 ∷ []) ≡ 1
+unfolding stray_from piece_of
+row_open_comment = refl
+
+pub row_no_stray : stray_of (codes "x := 1") ≡ 6
+unfolding stray_from piece_of
+row_no_stray = refl
+
+-- ---- notes, by what stands there, what stands before it, what is open and what may stand there
+
+abbrev seen : (found last inside : ℕ) → (may : List ℕ) → Seen
+seen found last inside may = record { found = found; last = last; inside = inside; may = just may; quoted = false }
+
+-- x = 5
+pub row_assigned : note_of (Some (mark is.Equal)) None (seen kind.Equal kind.Name kind.Begin (14 ∷ 43 ∷ 45 ∷ 46 ∷ 47 ∷ 49 ∷ []))
+    ≡ codes "'=' compares two values; ':=' assigns one."
+row_assigned = refl
+
+-- if x = 0 then
+pub row_then : note_of (Some (mark (is.Name (codes "then")))) None (seen kind.Name kind.Numeral kind.If (6 ∷ 11 ∷ 12 ∷ 19 ∷ 22 ∷ 39 ∷ 40 ∷ 41 ∷ []))
+    ≡ codes "'then' is no word of the language: after a condition comes 'do'."
+row_then = refl
+
+-- a; end
+pub row_semicolon : note_of (Some (mark is.End)) (Some (mark is.Semicolon)) (seen kind.End kind.Semicolon kind.Begin (1 ∷ 9 ∷ 16 ∷ 28 ∷ 29 ∷ 31 ∷ 32 ∷ []))
+    ≡ codes "one semicolon stands between two statements; none stands before 'end', 'else' or 'also'."
+row_semicolon = refl
+
+-- ---- the undeclared name
+
+-- y := 1
+pub row_one_name : only_name (mark (is.Name (codes "y")) ∷ mark is.Becomes ∷ mark (is.Numeral (pos 1)) ∷ []) 1 ≡ Some (0, codes "y")
+row_one_name = refl
+
+-- y := y: the first can mean something, as in begin y := 1 end begin y := 2 end
+pub row_twice : only_name (mark (is.Name (codes "y")) ∷ mark is.Becomes ∷ mark (is.Name (codes "y")) ∷ []) 1 ≡ None
+row_twice = refl
+
+-- x := y: either can be it
+pub row_two_names : only_name (mark (is.Name (codes "x")) ∷ mark is.Becomes ∷ mark (is.Name (codes "y")) ∷ []) 1 ≡ None
+row_two_names = refl
+
+-- var x: integer
+pub row_type : only_name (mark is.Var ∷ mark (is.Name (codes "x")) ∷ mark is.Colon ∷ mark (is.Name (codes "integer")) ∷ []) 1 ≡ Some (3, codes "integer")
+row_type = refl
+
+-- proc p(proc d) d(y): the heading names d
+pub row_heading : only_name (mark is.Proc ∷ mark (is.Name (codes "p")) ∷ mark is.Open ∷ mark is.Proc ∷ mark (is.Name (codes "d")) ∷ mark is.Close
+    ∷ mark (is.Name (codes "d")) ∷ mark is.Open ∷ mark (is.Name (codes "y")) ∷ mark is.Close ∷ []) 1 ≡ Some (8, codes "y")
+row_heading = refl
+
+-- const a = d proc p(proc d) d: before the heading it can be d
+pub row_before_heading : only_name (mark is.Const ∷ mark (is.Name (codes "a")) ∷ mark is.Equal ∷ mark (is.Name (codes "d")) ∷ mark is.Proc
+    ∷ mark (is.Name (codes "p")) ∷ mark is.Open ∷ mark is.Proc ∷ mark (is.Name (codes "d")) ∷ mark is.Close ∷ mark (is.Name (codes "d")) ∷ []) 1
+    ≡ Some (3, codes "d")
+row_before_heading = refl
+
+-- x.d: the field can be it, whatever the heading names
+pub row_field : only_name (mark (is.Name (codes "x")) ∷ mark is.Period ∷ mark (is.Name (codes "int")) ∷ []) 1 ≡ None
+row_field = refl

@@ -1,0 +1,265 @@
+//! The undeclared name of a line, where only one name of the line can be it.
+
+ghost use Rattle.std.specs.Prelude.{◌≡◌, ◌≤◌, ◌<◌, option_copied, option_map, drop, length, slice_get, take, Some};
+ghost use Rattle.edi_explain.specs.told.Names as spec;
+ghost use Rattle.edi_explain.specs.told.Tables.{found_of, texts_of};
+
+use crate::told::groups::is_among;
+use crate::told::numbers::kind_at;
+use edi_lex::{Mark, Symbol};
+
+// The standard names.
+static STANDARD: [&str; 6] = ["int", "char", "bool", "false", "true", "halt"];
+
+// The kinds of symbols after which a name is declared.
+static DECLARERS: [u8; 7] = [7, 10, 15, 25, 26, 27, 30];
+
+// As many symbols as are looked at for the heading of the program.
+const MOST_HEADING: usize = 256;
+
+/// The symbol of this index.
+pub(crate) fn mark_at(marks: &[Mark], index: usize) -> Option<&Mark>
+    ensures exact { option_copied result ≡ slice_get marks.now index }
+{
+    marks.get(index)
+}
+
+/// The symbol before that of this index.
+pub(crate) fn before_of(marks: &[Mark], index: usize) -> Option<&Mark>
+    ensures exact { option_copied result ≡ spec.before_of marks.now index }
+{
+    if index == 0 {
+        return None;
+    }
+    marks.get(index - 1)
+}
+
+/// The first so many marks, or all.
+#[tactic(auto, using(crate::proofs::told::Cutting::front_all))]
+pub(crate) fn marks_to(marks: &[Mark], count: usize) -> &[Mark]
+    ensures exact { result.now ≡ take count marks.now }
+    ensures few { length result.now ≤ count }
+{
+    if count < marks.len() {
+        let (front, _) = marks.split_at(count);
+        return front;
+    }
+    marks
+}
+
+// The marks after so many, or none.
+#[tactic(auto, using(crate::proofs::told::Cutting::back_none))]
+fn marks_from(marks: &[Mark], count: usize) -> &[Mark]
+    ensures exact { result.now ≡ drop count marks.now }
+{
+    if count < marks.len() {
+        let (_, back) = marks.split_at(count);
+        return back;
+    }
+    &[]
+}
+
+// Whether a text is one of a table.
+fn is_text_of(letters: &[u8], texts: &[&'static str]) -> bool
+    ensures exact { result ≡ spec.is_text_of letters.now (texts_of texts.now) }
+{
+    for text in texts {
+        if letters == text.as_bytes() {
+            return true;
+        }
+    }
+    false
+}
+
+// Whether a name between symbols of these kinds is declared there.
+fn is_declared(last: u8, next: u8) -> bool
+    ensures exact { result ≡ spec.is_declared last next }
+{
+    is_among(last, &DECLARERS) || (next == 42 && last != 49) || (last == 45 && next == 33)
+}
+
+// Whether a symbol is this name.
+fn is_name(letters: &[u8], mark: &Mark) -> bool
+    ensures exact { result ≡ spec.is_name letters.now (spec.name_in mark.now.symbol) }
+{
+    match &mark.symbol {
+        Symbol::Name(other) => letters == other.as_slice(),
+        _ => false,
+    }
+}
+
+// How many parentheses are open behind a symbol of this kind.
+fn opened_by(depth: usize, kind: u8) -> usize
+    requires some { 1 ≤ depth }
+    requires few { depth ≤ 1000 }
+    ensures exact { result ≡ spec.opened_by depth kind }
+{
+    match kind {
+        47 => depth + 1,
+        48 => depth - 1,
+        _ => depth,
+    }
+}
+
+// Whether a name is a parameter in a heading, behind its first parenthesis.
+fn is_parameter(letters: &[u8], heading: &[Mark]) -> bool
+    requires few { length heading.now ≤ 256 }
+    ensures exact { result ≡ spec.is_parameter letters.now 1 0 heading.now }
+{
+    let mut depth: usize = 1;
+    let mut last: u8 = 0;
+    for mark in heading {
+        if depth == 0 {
+            return false;
+        }
+        if depth == 1 && last == 25 && is_name(letters, mark) {
+            return true;
+        }
+        last = kind_at(Some(mark));
+        depth = opened_by(depth, last);
+    }
+    false
+}
+
+// The marks after the first `proc`, its name and its parenthesis; none where it has none.
+fn heading_of(marks: &[Mark]) -> &[Mark]
+    ensures exact { result.now ≡ spec.heading_of marks.now }
+    ensures few { length result.now ≤ length marks.now }
+{
+    let mut rest = marks;
+    while let [mark, after @ ..] = rest {
+        if kind_at(Some(mark)) == 25 {
+            return after_open(after);
+        }
+        rest = after;
+    }
+    rest
+}
+
+// The marks behind a name and a parenthesis.
+fn after_open(marks: &[Mark]) -> &[Mark]
+    ensures exact { result.now ≡ spec.after_open marks.now }
+    ensures few { length result.now ≤ length marks.now }
+{
+    match marks {
+        [_name, second, rest @ ..] => {
+            if kind_at(Some(second)) == 47 {
+                rest
+            } else {
+                &[]
+            }
+        }
+        _ => &[],
+    }
+}
+
+// Whether a name is one of the calls of the system in the heading of the program.
+fn is_in_heading(letters: &[u8], marks: &[Mark]) -> bool
+    ensures exact { result ≡ spec.is_in_heading letters.now marks.now }
+{
+    is_parameter(letters, heading_of(marks_to(marks, MOST_HEADING)))
+}
+
+// Whether a name between symbols of these kinds, after these marks, can be undeclared. One after a period is that of a field.
+fn can_be_after(last: u8, next: u8, before: &[Mark], letters: &[u8]) -> bool
+    ensures exact { result ≡ spec.can_be_after last next before.now letters.now }
+{
+    last == 46
+        || (!is_declared(last, next)
+            && !is_text_of(letters, &STANDARD)
+            && !is_in_heading(letters, before))
+}
+
+// Whether the name of this index can be undeclared.
+fn can_be(marks: &[Mark], index: usize, letters: &[u8]) -> bool
+    requires within { index < length marks.now }
+    ensures exact { result ≡ spec.can_be marks.now index letters.now }
+{
+    let last = kind_at(before_of(marks, index));
+    let next = kind_at(marks.get(index + 1));
+    can_be_after(last, next, marks_to(marks, index), letters)
+}
+
+// The letters of the symbol of this index, if it is such a name of the line.
+fn used_at(marks: &[Mark], line: u16, index: usize) -> Option<&[u8]>
+    requires within { index < length marks.now }
+    ensures exact { option_map (λ text. text.now) result ≡ spec.used_at marks.now line index }
+{
+    match marks.get(index) {
+        Some(mark) => used_by(marks, line, index, mark),
+        None => None,
+    }
+}
+
+// The same of this symbol, which has this index.
+fn used_by<'a>(marks: &[Mark], line: u16, index: usize, mark: &'a Mark) -> Option<&'a [u8]>
+    requires within { index < length marks.now }
+    ensures exact { option_map (λ text. text.now) result ≡ spec.used_by marks.now line index (Some mark.now) }
+{
+    if mark.line != line {
+        return None;
+    }
+    match &mark.symbol {
+        Symbol::Name(letters) => if_can_be(marks, index, letters.as_slice()),
+        _ => None,
+    }
+}
+
+// The letters, if the name of this index can be undeclared.
+fn if_can_be<'a>(marks: &[Mark], index: usize, letters: &'a [u8]) -> Option<&'a [u8]>
+    requires within { index < length marks.now }
+    ensures exact { option_map (λ text. text.now) result ≡ spec.if_can_be marks.now index (Some letters.now) }
+{
+    if can_be(marks, index, letters) {
+        return Some(letters);
+    }
+    None
+}
+
+// A name that was found, or none, with what the next symbol is; None where that is a second one.
+fn joined<'a>(
+    number: u32,
+    found: Option<(u32, &'a [u8])>,
+    used: Option<&'a [u8]>,
+) -> Option<Option<(u32, &'a [u8])>>
+    ensures exact { option_map (λ f. found_of f) result ≡ spec.joined number (found_of found.entry) (option_map (λ text. text.now) used.entry) }
+{
+    let Some(letters) = used else {
+        return Some(found);
+    };
+    match found {
+        Some(_) => None,
+        None => Some(Some((number, letters))),
+    }
+}
+
+/// The name of the line that can be undeclared, if just one symbol is one, with the number of symbols before it.
+pub(crate) fn only_name(marks: &[Mark], line: u16) -> Option<(u32, &[u8])>
+    requires few { length marks.now ≤ 262144 }
+    ensures exact { found_of result ≡ spec.only_name marks.now line }
+{
+    let mut found: Option<(u32, &[u8])> = None;
+    let mut number: u32 = 0;
+    for index in 0..marks.len() {
+        let Some(next) = joined(number, found, used_at(marks, line, index)) else {
+            return None;
+        };
+        found = next;
+        number += 1;
+    }
+    found
+}
+
+/// The line on which a procedure of this name is declared behind so many symbols, if one is.
+pub(crate) fn declared_after(marks: &[Mark], index: usize, letters: &[u8]) -> Option<u16>
+    ensures exact { result ≡ spec.declared_from letters.now 0 (drop index marks.now) }
+{
+    let mut last: u8 = 0;
+    for mark in marks_from(marks, index) {
+        if last == 25 && is_name(letters, mark) {
+            return Some(mark.line);
+        }
+        last = kind_at(Some(mark));
+    }
+    None
+}

@@ -1,0 +1,132 @@
+//! What is often meant at a syntax fault.
+
+ghost use Rattle.std.specs.Prelude.{◌≡◌, ◌++◌, [], OnOk, option_copied, option_map};
+ghost use Rattle.edi_explain.specs.told.Notes as spec;
+ghost use Rattle.edi_explain.specs.told.Tables.{pairs_of, row_of, rows_of, seen_of};
+
+use crate::expected::Expected;
+use crate::told::groups::{all_may, any_may, is_among};
+use crate::told::table::{ROWS, Row, WORDS};
+use edi_lex::{Mark, Symbol};
+use std::alloc::AllocError;
+
+/// What is seen at a fault: the kind of what stands there, that of the symbol before it and that of the innermost symbol that is open,
+/// of which each is 0 where there is none; what may stand there; whether the line has a quotation mark.
+#[derive(Clone, Copy)]
+pub(crate) struct Seen {
+    pub found: u8,
+    pub last: u8,
+    pub inside: u8,
+    pub may: Expected,
+    pub quoted: bool,
+}
+
+// ---- words
+
+// The note of a word in a table, if it has one.
+fn note_beside(table: &[(&'static str, &'static str)], word: &[u8]) -> Option<&'static str>
+    ensures exact { option_map (λ text. text.now) result ≡ spec.note_beside (pairs_of table.now) word.now }
+{
+    for row in table {
+        if word == row.0.as_bytes() {
+            return Some(row.1);
+        }
+    }
+    None
+}
+
+// The note of a symbol that is such a word.
+fn symbol_note(symbol: &Symbol) -> Option<&'static str>
+    ensures exact { option_map (λ text. text.now) result ≡ spec.symbol_note symbol.now }
+{
+    match symbol {
+        Symbol::Name(letters) => note_beside(&WORDS, letters.as_slice()),
+        _ => None,
+    }
+}
+
+// That of what stands at a place.
+fn mark_note(here: Option<&Mark>) -> Option<&'static str>
+    ensures exact { option_map (λ text. text.now) result ≡ spec.mark_note (option_copied here.entry) }
+{
+    match here {
+        Some(mark) => symbol_note(&mark.symbol),
+        None => None,
+    }
+}
+
+// ---- rows
+
+// Whether a kind is one of these, where a list of none stands for all.
+fn takes(kinds: &[u8], kind: u8) -> bool
+    ensures exact { result ≡ spec.takes kinds.now kind }
+{
+    kinds.is_empty() || is_among(kind, kinds)
+}
+
+// Whether what stands there, what stands before it and what is open are as the row asks.
+fn stands(row: &Row, seen: &Seen) -> bool
+    ensures exact { result ≡ spec.stands (row_of row.now) (seen_of seen.now) }
+{
+    takes(row.found, seen.found) && takes(row.last, seen.last) && takes(row.inside, seen.inside)
+}
+
+// Whether a row fits.
+fn fits(row: &Row, seen: &Seen) -> bool
+    ensures exact { result ≡ spec.fits (row_of row.now) (seen_of seen.now) }
+{
+    stands(row, seen)
+        && all_may(&seen.may, row.may)
+        && !any_may(&seen.may, row.not_these)
+        && (seen.quoted || !row.quoted)
+}
+
+// The note of the first row of a table that fits; nothing where none does.
+fn first_fit(table: &[Row], seen: &Seen) -> &'static str
+    ensures exact { result.now ≡ spec.first_fit (rows_of table.now) (seen_of seen.now) }
+{
+    for row in table {
+        if fits(row, seen) {
+            return row.note;
+        }
+    }
+    ""
+}
+
+// The note at what stands there and what stands before it; nothing where there is none.
+fn note_of(here: Option<&Mark>, before: Option<&Mark>, seen: &Seen) -> &'static str
+    ensures exact { result.now ≡ spec.note_of (option_copied here.entry) (option_copied before.entry) (seen_of seen.now) }
+{
+    if let Some(note) = mark_note(here) {
+        return note;
+    }
+    if let Some(note) = mark_note(before) {
+        return note;
+    }
+    first_fit(&ROWS, seen)
+}
+
+/// Puts the line of the note behind bytes, if there is one.
+pub(crate) fn put_note(
+    out: &mut Vec<u8>,
+    here: Option<&Mark>,
+    before: Option<&Mark>,
+    seen: &Seen,
+) -> Result<(), AllocError>
+    ensures { OnOk result (out.new.items ≡ out.old.items
+        ++ spec.note_line (spec.note_of (option_copied here.entry) (option_copied before.entry) (seen_of seen.now))) }
+{
+    put_note_line(out, note_of(here, before, seen).as_bytes())
+}
+
+// Puts a note behind bytes, on a line of its own; an empty one is none.
+fn put_note_line(out: &mut Vec<u8>, note: &[u8]) -> Result<(), AllocError>
+    ensures { OnOk result (out.new.items ≡ out.old.items ++ spec.note_line note.now) }
+{
+    if note.is_empty() {
+        return Ok(());
+    }
+    out.extend_from_slice(note)?;
+    out.push(b'\n')?;
+    Ok(())
+}
