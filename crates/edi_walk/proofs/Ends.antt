@@ -79,14 +79,14 @@ all_fall unit s p q found =
 
 -- ---- walks
 
-abbrev IsFinished : Selected → Type 0
+abbrev pub IsFinished : Selected → Type 0
 IsFinished r = (ending : Ending) × (end : Traced) × (turns : ℕ) × (drawn : ℕ) × (order : List Name) × (r ≡ finished ending end turns drawn order)
 
 first_finished : (p : Name) (r : Selected) → IsFinished r → IsFinished (stepped_first p r)
 first_finished p r h = (h.0, h.1, h.2, h.3, p ∷ h.4, ap (stepped_first p) h.5)
 
 module _ (unit : ProgramUnit) (choices : Choices) where
-  abbrev Finishes : Processes → List Name → ℕ → Type 0
+  abbrev pub Finishes : Processes → List Name → ℕ → Type 0
   Finishes s listed drawn = (n : ℕ) × IsFinished (walked unit choices n s listed drawn)
 
   abbrev Onward : Name → List Name → ℕ → Stepped → Type 0
@@ -137,7 +137,7 @@ module _ (unit : ProgramUnit) (choices : Choices) where
       found smaller nobody = tt
       found smaller (taking p others d) = stepped smaller p others d (find s.live p) refl
 
-  by_turns : (t : ℕ) (s : Processes) (listed : List Name) (drawn : ℕ) → s.world.turns < t → Finishes s listed drawn
+  pub by_turns : (t : ℕ) (s : Processes) (listed : List Name) (drawn : ℕ) → s.world.turns < t → Finishes s listed drawn
   by_turns zero s listed drawn h = absurd (omega arith)
   by_turns (suc t) s listed drawn h = by_work t (by_turns t) (suc (total s.live)) s listed drawn (omega arith) (omega arith)
 

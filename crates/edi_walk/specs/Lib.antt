@@ -1,3 +1,13 @@
 pub mod Walk
 pub mod Laws
+pub mod Ends
+pub mod Frames
+pub mod Data
+pub mod Memory
+pub mod Machine
+pub mod Runs
+pub mod Steps
+pub mod Processes
+pub mod Walkers
+pub mod Works
 pub mod Rows

@@ -1,5 +1,27 @@
-//! A walk through a program: a choice at every step, as a definition, with the laws of it. The functions do nothing; their
-//! contracts are the laws.
+//! A walk through a program: a choice at every step.
 #![tactic(auto)]
 
+mod asking;
+mod calling;
+mod data;
+mod evaluate;
+mod evaluation;
+mod forking;
+mod frames;
 pub mod laws;
+mod lists;
+mod local;
+mod memory;
+mod operators;
+mod procedures;
+mod process;
+mod running;
+mod statements;
+mod stepping;
+mod stop;
+mod values;
+mod walker;
+mod walking;
+mod zero;
+
+pub use walking::{WalkEnd, walk};

@@ -1,0 +1,34 @@
+use Rattle.std.proofs.Common.{sym, ap, ◌∙◌}
+use Rattle.std.specs.Prelude.{map}
+use Rattle.edi_unit.specs.Need.{block_at}
+use Rattle.edi_unit.specs.View.{acts, act_of, unit_of}
+use Rattle.edi_meaning.specs.Evaluation.{gives, ◌>>=◌}
+use Rattle.edi_meaning.specs.Whole.{function_call}
+use Rattle.edi_walk.specs.Data.{cell_of, closure_of, spot_of}
+use Rattle.edi_walk.specs.Frames.{a_value, cells_given, calls_function, ends_function, performs}
+use Rattle.edi_walk.specs.Machine.{deeper_of, given_of, next_of, rest_of, world_of}
+use Rattle.edi_walk.proofs.Arms.{above, gave}
+use Rattle.edi_walk.proofs.Layers.{ordinal_seen}
+use Rattle.edi_walk.proofs.Blocks.{function_entered}
+use Rattle.edi_walk.proofs.evaluation.Evaluation.call_function.Goals as goal
+
+pub returns-in-System-clause-exact : goal.returns-in-System-clause-exact
+returns-in-System-clause-exact c levels system enough =
+    let old = c.args.self.now in
+    ap (λ x. (function_call (unit_of old.unit.now) old.name.items old.size (deeper_of levels old) x (cells_given (given_of c.args.given)) c.args.line
+    (world_of old system) >>= λ v w. gives (a_value v) w) >>= rest_of levels old)
+    (sym (c.in_ok-meant.ensures.exact system) ∙ ap closure_of c.in-System.is)
+    ∙ gave levels system old c.give.new.self _ _ c.give.ensures.exact (ap a_value (ordinal_seen _))
+
+pub returns-in_ok-block-in-Block-clause-exact : goal.returns-in_ok-block-in-Block-clause-exact
+returns-in_ok-block-in-Block-clause-exact c levels system enough =
+    let old = c.args.self.now in
+    let mid = c.enter.new.self in
+    c.put_two.ensures.exact levels system _
+    (ap (λ g. next_of levels old (calls_function c.args.callee c.args.line) (given_of g) (world_of old system)) c.in_ok-cells.ensures.exact
+    ∙ function_entered levels system old mid c.in-Block.number (spot_of c.in-Block.parent) (map cell_of c.in_ok-cells.cells.items)
+    c.in_ok-enter-in-Block.ensures.exact enough c.args.callee c.args.line (sym (c.in_ok-meant.ensures.exact system) ∙ ap closure_of c.in-Block.is)
+    ∙ ap (λ s. above levels system (performs s) mid (next_of levels mid ends_function))
+    (ap (λ u. (block_at (unit_of u.now).blocks c.in-Block.number).body) (sym c.in_ok-enter-in-Block.ensures.same.unit)
+    ∙ ap (λ b. b.body) (sym c.in_ok-block-in-Block.ensures.exact)
+    ∙ ap (λ l. acts (map act_of l)) (sym c.items.ensures.exact)))

@@ -1,0 +1,16 @@
+use Rattle.std.proofs.Common.{sym, ap, ◌∙◌}
+use Rattle.edi_unit.specs.View.{unit_of}
+use Rattle.edi_walk.specs.Machine.{deeper_of, given_of, rest_of, world_of}
+use Rattle.edi_walk.proofs.FrameSteps.{if_goes}
+use Rattle.std.specs.Prelude.{map}
+use Rattle.edi_unit.specs.View as view
+use Rattle.edi_unit.specs.View.{act_of, arguments_of, argument_of, clause_of, clauses_of, expression_of, place_of}
+use Rattle.edi_walk.specs.Frames.{nothing, performs, tries}
+use Rattle.edi_walk.proofs.FrameSteps.{two}
+use Rattle.edi_walk.proofs.evaluation.Evaluation.choice.Goals as goal
+
+pub returns-clause-exact : goal.returns-clause-exact
+returns-clause-exact c levels system enough =
+    c.put_two.ensures.exact levels system _
+    (if_goes (unit_of c.args.self.now.unit.now) c.args.self.now.name.items c.args.self.now.size (deeper_of levels c.args.self.now) (rest_of levels c.args.self.now) (clauses_of c.args.clauses.now) (view.acts (map act_of c.args.rest.now)) nothing (given_of c.args.self.now.given) (world_of c.args.self.now system)
+    ∙ ap (λ l. two (unit_of c.args.self.now.unit.now) c.args.self.now.name.items c.args.self.now.size (deeper_of levels c.args.self.now) (rest_of levels c.args.self.now) (tries (view.clauses (map clause_of l))) (performs (view.acts (map act_of c.args.rest.now))) (given_of c.args.self.now.given) (world_of c.args.self.now system)) (sym c.items.ensures.exact))

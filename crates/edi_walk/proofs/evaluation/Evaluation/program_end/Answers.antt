@@ -1,0 +1,20 @@
+use Rattle.std.proofs.Common.{◌∷◌, Err, sym, subst}
+use Rattle.edi_walk.specs.declared.stop.Stop.TheVariants as stop
+use Rattle.edi_walk.specs.Works.{IsCalm, Works}
+use Rattle.edi_walk.specs.Processes.{ends_program}
+use Rattle.edi_walk.proofs.Pieces.{err_is, program_out, program_over}
+use Rattle.edi_walk.specs.declared.process.Asked as code_asked
+use Rattle.edi_walk.proofs.evaluation.Evaluation.program_end.Goals as goal
+
+pub returns-in-Ok-clause-exact : goal.returns-in-Ok-clause-exact
+returns-in-Ok-clause-exact c todo left s =
+    program_over c.args.self.now c.turn.new.self s todo left c.in-Ok.ensures.exact c.in-Ok.ensures.others
+
+pub returns-in-Err-clause-exact : goal.returns-in-Err-clause-exact
+returns-in-Err-clause-exact c todo left s =
+    subst (λ x. Works (ends_program ∷ todo) left (Err x) c.args.self.now c.turn.new.self s s) (sym (err_is c.in-Err.stop stop.Turns c.in-Err.ensures.err.2))
+    (program_out c.args.self.now c.turn.new.self s todo left c.in-Err.ensures.err.0 c.in-Err.ensures.err.1)
+
+pub returns-in-Err-clause-calm : goal.returns-in-Err-clause-calm
+returns-in-Err-clause-calm c =
+    subst (λ x. IsCalm {T = code_asked.Asked} (Err x)) (sym (err_is c.in-Err.stop stop.Turns c.in-Err.ensures.err.2)) tt
