@@ -1,11 +1,13 @@
 //! The examples, a file of scripts for each subject; `play`, `script` and `world` play them.
 
+mod arrivals;
 mod checks;
 mod disks;
 mod editings;
 mod faults;
 mod images;
 mod play;
+mod points;
 mod programs;
 mod refused;
 mod runs;
