@@ -1,0 +1,23 @@
+-- Words of contracts. What a timeline keeps of the stints of a run.
+use Rattle.std.specs.Prelude.{◌≡◌, ◌≤◌, ℕ, List, map, take, length, vec_capacity}
+use Rattle.edi_timeline.specs.Stints.{Stint}
+use Rattle.edi_timeline.specs.Text.{most_lines, kept}
+use Rattle.edi_timeline.specs.Told.{AreRows, stints_in}
+use Rattle.edi_timeline.specs.declared.timeline.Kept.{Kept}
+
+-- the stints that are told, and how many there were
+pub record Told : Type 0 where
+  pub stints : List Stint
+  pub count : ℕ
+
+-- what is told of all stints of a run
+abbrev pub told_of : List Stint → Told
+told_of xs = record { stints = map kept (take most_lines xs); count = length xs }
+
+abbrev pub told_in : Kept → Told
+told_in k = record { stints = stints_in k.ending k.rows.items 0 k.rows.items; count = k.count }
+
+pub record IsTimeline (k : Kept) : Type 0 where
+  pub rows : AreRows k.rows.items
+  pub few : length k.rows.items ≤ 100000
+  pub room : 100000 ≤ vec_capacity k.rows

@@ -1,0 +1,81 @@
+//! A timeline.
+
+ghost use Rattle.std.specs.Prelude.{◌≡◌, [], IfOk};
+ghost use Rattle.edi_timeline.specs.Text as text;
+ghost use Rattle.edi_timeline.specs.Picture as picture;
+ghost use Rattle.edi_timeline.specs.Timelines.{told_in, IsTimeline};
+
+use crate::picture::picture_of;
+use crate::rows::Row;
+use crate::text::text_of;
+use edi_kernel::Ending;
+use std::alloc::{AllocError, Global};
+use std::marker::Model;
+
+/// The stints of which more than their number is kept.
+const MOST_ROWS: usize = 100_000;
+
+/// What is kept of a run.
+#[derive(Drop)]
+pub(crate) struct Kept {
+    pub(crate) rows: Vec<Row>,
+    /// The number of its stints.
+    pub(crate) count: u64,
+    /// How it has ended, if it has.
+    pub(crate) ending: Ending,
+}
+
+// The picture of what is kept.
+fn picture_in(alloc: Global, kept: &Kept) -> Result<Vec<u8>, AllocError>
+    requires kept { IsTimeline kept.now }
+    ensures exact { IfOk result (λ bytes. bytes.items ≡ picture.picture_of (told_in kept.now).count (told_in kept.now).stints) }
+{
+    picture_of(alloc, &kept.rows, kept.count, kept.ending)
+}
+
+/// A timeline: the first 100,000 stints of a run, and how many there were. All its memory, 4 MB, is taken at the start.
+///
+/// Contracts see the stints, each with the first seven characters that were shown in it, and their number.
+#[derive(Drop)]
+pub struct Timeline {
+    kept: Kept,
+}
+
+impl Model for Timeline {
+    ghost use Rattle.edi_timeline.specs.Timelines.{Told, told_in, IsTimeline};
+
+    ghost Value = { Told };
+
+    ghost view = { λ t. told_in t.kept };
+
+    ghost invariant = { λ t. IsTimeline t.kept };
+}
+
+impl Timeline {
+    /// The timeline of a run that has not begun. The only error is want of memory.
+    pub fn new(alloc: Global) -> Result<Timeline, AllocError>
+        ensures empty { IfOk result (λ timeline. timeline ≡ record { stints = []; count = 0 }) }
+    {
+        Ok(Timeline {
+            kept: Kept {
+                rows: Vec::with_capacity(alloc, MOST_ROWS)?,
+                count: 0,
+                ending: Ending::Done,
+            },
+        })
+    }
+
+    /// Its text: a line for each of the stints. The only error is want of memory.
+    pub fn text(&self, alloc: Global) -> Result<Vec<u8>, AllocError>
+        ensures exact { IfOk result (λ bytes. bytes.items ≡ text.text_of self.now.stints) }
+    {
+        text_of(alloc, &self.kept.rows, self.kept.ending)
+    }
+
+    /// Its picture, of the first 1,000 stints, as SVG. The only error is want of memory.
+    pub fn picture(&self, alloc: Global) -> Result<Vec<u8>, AllocError>
+        ensures exact { IfOk result (λ bytes. bytes.items ≡ picture.picture_of self.now.count self.now.stints) }
+    {
+        picture_in(alloc, &self.kept)
+    }
+}
