@@ -348,7 +348,7 @@ const ROWS: [(&str, RefusalKind, u16, &str); 63] = [
         "proc main(proc display(value: char))\nvar x: int\nbegin\n  display('Hello')\nend\n",
         RefusalKind::InvalidConstructor,
         4,
-        "as in t('abc'); display takes one character, as in display('a').",
+        "which it gives its characters, as in t('abc'); display takes one character, as in display('a').",
     ),
     (
         "proc main(proc display(value: char))\nvar x: int\nbegin\n  display(42)\nend\n",
