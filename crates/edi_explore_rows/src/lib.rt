@@ -1,0 +1,7 @@
+//! Programs whose choices are all followed: how many states, which endings, and their records run again.
+#![tactic(auto)]
+
+#[cfg(test)]
+mod explored;
+#[cfg(test)]
+mod texts;
