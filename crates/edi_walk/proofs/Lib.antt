@@ -6,8 +6,8 @@ mod Calls
 mod Choosing
 mod ChoosingTold
 mod Conditions
-mod Determined
-mod Ends
+pub mod Determined
+pub mod Ends
 mod Entries
 mod Exits
 mod FrameRuns
@@ -21,7 +21,7 @@ mod Named
 mod Onward
 mod Parted
 mod PartsOf
-mod Permits
+pub mod Permits
 mod Pieces
 mod Reaching
 mod SameParts
