@@ -23,13 +23,23 @@ const WITHOUT_DRIVE: [&str; 4] = ["compile", "list", "check", "demo"];
 
 /// The drive, with what holds its file until the call ends. Two calls at once would write over each other's blocks, so who comes
 /// second has a drive of which every call fails. A command that never asks the drive holds nothing.
-fn held_drive<'a>(rt: &'a HostRuntime, words: &[String]) -> (Option<File>, HostDrive<'a, HostRuntime>) {
+fn held_drive<'a>(
+    rt: &'a HostRuntime,
+    words: &[String],
+) -> (Option<File>, HostDrive<'a, HostRuntime>) {
     match words.first() {
         Some(first) if WITHOUT_DRIVE.contains(&first.as_str()) => return (None, HostDrive::new(rt)),
         _ => {}
     }
-    match OpenOptions::new().read(true).write(true).open(rt, DRIVE_FILE) {
-        Ok(file) if matches!(file.try_lock(), Err(TryLockError::WouldBlock)) => (None, HostDrive::busy(rt)),
+    match OpenOptions::new()
+        .read(true)
+        .write(true)
+        .open(rt, DRIVE_FILE)
+    {
+        Ok(file) if matches!(file.try_lock(), Err(TryLockError::WouldBlock)) => (
+            None,
+            HostDrive::busy(rt),
+        ),
         Ok(file) => (Some(file), HostDrive::new(rt)),
         Err(_) => (None, HostDrive::new(rt)),
     }

@@ -394,7 +394,14 @@ fn has_line(bytes: &[u8], line: &[u8]) -> bool {
 }
 
 /// Whether the line is one of those that are shown of the text.
-fn helps(rt: &impl Abort, alloc: Global, text: &str, kind: RefusalKind, line: u16, wanted: &str) -> bool {
+fn helps(
+    rt: &impl Abort,
+    alloc: Global,
+    text: &str,
+    kind: RefusalKind,
+    line: u16,
+    wanted: &str,
+) -> bool {
     let shown = explain(alloc, text.as_bytes(), kind, line).expect(rt, "memory");
     has_line(&shown, wanted.as_bytes())
 }
