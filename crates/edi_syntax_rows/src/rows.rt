@@ -1,7 +1,6 @@
 //! The examples, a file for each subject.
 
 mod expected;
-mod explained;
 mod faults;
 mod lengths;
 mod lists;
