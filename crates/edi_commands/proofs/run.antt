@@ -14,5 +14,7 @@ pub mod OfFiles
 pub mod PointsRead
 pub mod Shown
 pub mod Told
+pub mod WalkEnds
+pub mod WalkExits
 pub mod WatchedEnds
 pub mod WatchedExits

@@ -19,29 +19,24 @@ use Rattle.edi_statuses.proofs.Silent.{idle, nothing_shown}
 use Rattle.edi_commands.specs.disk.OnDisk.{MeansOnDisk, RestStays}
 use Rattle.edi_commands.specs.run.RunMeans.{replaying}
 use Rattle.edi_commands.proofs.run.Meaning.{replayed}
-use Rattle.edi_main.specs.Built.{built}
 use Rattle.edi_statuses.specs.Lines.{text_of}
 use Rattle.edi_statuses.specs.Facts.{DriveUse, leaves_drive, mounts_last, mounts_first, formats_to, facts_of}
 use Rattle.edi_statuses.specs.EachObject.{CountsBlocks, CountsNew, CountsUsed, FitsCount, FitsGet, Handed, KeepsImage, LeavesEach, UnusedStay}
 use Rattle.edi_statuses.specs.EachObject.{comes_to, formats, handed, stops_by, stops_first, uses_devices, uses_drive, uses_input, uses_kernel}
 use Rattle.edi_statuses.specs.Decided.{Came}
 
-pub no_words : (f : Option commands.Command) (x : Option Command) → option_map view f ≡ x → f ≡ None → built x ≡ None
-no_words f x exact none = subst (λ y. built y ≡ None) exact (subst (λ g. built (option_map view g) ≡ None) (sym none) refl)
-
--- a command that is not built
-pub not_built : (c d : commands.Command) → c ≡ d → built (Some (view d)) ≡ None → built (Some (view c)) ≡ None
-not_built c d is none = subst (λ x. built (Some (view x)) ≡ None) (sym is) none
+pub no_words : (f : Option commands.Command) (x : Option Command) → option_map view f ≡ x → f ≡ None → x ≡ None
+no_words f x exact none = subst (λ y. y ≡ None) exact (subst (λ g. option_map view g ≡ None) (sym none) refl)
 
 -- a command as the code has it
 pub obeyed_so : (c d : commands.Command) (s : Status) (due : Bool) (before after : Outside) (kernel : Lent) → c ≡ d
-    → Came s due (built (Some (view d))) before after kernel → Came s due (built (Some (view c))) before after kernel
-obeyed_so c d s due before after kernel is came = subst (λ x. Came s due (built (Some (view x))) before after kernel) (sym is) came
+    → Came s due (Some (view d)) before after kernel → Came s due (Some (view c)) before after kernel
+obeyed_so c d s due before after kernel is came = subst (λ x. Came s due (Some (view x)) before after kernel) (sym is) came
 
 -- so of a demonstration, whose number the code has in a wider form
 pub obeyed_demo : (c : commands.Command) (n m : ℕ) (o : Options) (s : Status) (due : Bool) (before after : Outside) (kernel : Lent)
     → c ≡ command.Demo n o → m ≡ n → Came s due (Some (words.demo m (options_of o))) before after kernel
-    → Came s due (built (Some (view c))) before after kernel
+    → Came s due (Some (view c)) before after kernel
 obeyed_demo c n m o s due before after kernel is same came =
     obeyed_so c (command.Demo n o) s due before after kernel is
     (subst (λ k. Came s due (Some (words.demo k (options_of o))) before after kernel) same came)
@@ -49,7 +44,7 @@ obeyed_demo c n m o s due before after kernel is same came =
 -- so of a replay, which is a run
 pub obeyed_replay : (c : commands.Command) (file choices : Bor Text) (turns : ℕ) (o : Options) (s : Status) (due : Bool) (before after : Outside)
     (kernel : Lent) → c ≡ command.Replay file choices turns → options_of o ≡ replaying choices.now turns
-    → Came s due (Some (words.run file.now (options_of o))) before after kernel → Came s due (built (Some (view c))) before after kernel
+    → Came s due (Some (words.run file.now (options_of o))) before after kernel → Came s due (Some (view c)) before after kernel
 obeyed_replay c file choices turns o s due before after kernel is same came =
     obeyed_so c (command.Replay file choices turns) s due before after kernel is
     (replayed file.now choices.now turns s due before after kernel
@@ -57,11 +52,11 @@ obeyed_replay c file choices turns o s due before after kernel is same came =
 
 -- so of one that shows nothing
 pub obeyed : (c d : commands.Command) (meant s : Status) (due : Bool) (before after : Outside) (kernel : Lent) → c ≡ d → s ≡ meant → due ≡ false
-    → Came meant false (built (Some (view d))) before after kernel → Came s due (built (Some (view c))) before after kernel
+    → Came meant false (Some (view d)) before after kernel → Came s due (Some (view c)) before after kernel
 obeyed c d meant s due before after kernel is same silent came =
-    subst (λ x. Came s due (built (Some (view x))) before after kernel) (sym is)
-    (subst (λ t. Came t due (built (Some (view d))) before after kernel) (sym same)
-    (subst (λ x. Came meant x (built (Some (view d))) before after kernel) (sym silent) came))
+    subst (λ x. Came s due (Some (view x)) before after kernel) (sym is)
+    (subst (λ t. Came t due (Some (view d)) before after kernel) (sym same)
+    (subst (λ x. Came meant x (Some (view d)) before after kernel) (sym silent) came))
 
 -- ---- commands that touch the files and the drive alone
 
@@ -138,19 +133,19 @@ counts_unread (Some c) s n had is = subst (λ x. CountsUsed (facts_of c).drive x
 
 -- a command as the code has it, and its status
 pub counts_so : (c d : commands.Command) (meant s : Status) (old new had has : ℕ) → c ≡ d → s ≡ meant
-    → CountsBlocks (built (Some (view d))) meant old new had has → CountsBlocks (built (Some (view c))) s old new had has
+    → CountsBlocks (Some (view d)) meant old new had has → CountsBlocks (Some (view c)) s old new had has
 counts_so c d meant s old new had has is same h =
-    subst (λ x. CountsBlocks (built (Some (view x))) s old new had has) (sym is)
-    (subst (λ t. CountsBlocks (built (Some (view d))) t old new had has) (sym same) h)
+    subst (λ x. CountsBlocks (Some (view x)) s old new had has) (sym is)
+    (subst (λ t. CountsBlocks (Some (view d)) t old new had has) (sym same) h)
 
 -- ---- what is not touched
 
 -- a command as the code has it, and its status
 pub untouched_so : {F D S T P K : Type 0} (c d : commands.Command) (meant s : Status) (before after : Handed F D S T P K) → c ≡ d → s ≡ meant
-    → UnusedStay (built (Some (view d))) meant before after → UnusedStay (built (Some (view c))) s before after
+    → UnusedStay (Some (view d)) meant before after → UnusedStay (Some (view c)) s before after
 untouched_so c d meant s before after is same h =
-    subst (λ x. UnusedStay (built (Some (view x))) s before after) (sym is)
-    (subst (λ t. UnusedStay (built (Some (view d))) t before after) (sym same) h)
+    subst (λ x. UnusedStay (Some (view x)) s before after) (sym is)
+    (subst (λ t. UnusedStay (Some (view d)) t before after) (sym same) h)
 
 -- a fault of the output is no status of a step
 never_first : (drive : DriveUse) → stops_by drive status.OutputFault ≡ false

@@ -7,7 +7,6 @@ ghost use Rattle.edi_words.specs.Words.{command_of, newdisk};
 ghost use Rattle.edi_words.specs.View.{options_of, view, IsInRange};
 ghost use Rattle.edi_commands.specs.run.RunMeans.{replaying};
 ghost use Rattle.edi_commands.specs.disk.OnDisk.{HasCauseOnDisk, MeansOnDisk};
-ghost use Rattle.edi_main.specs.Built.{built};
 ghost use Rattle.edi_statuses.specs.Outside.{lent, outside_of, Shows};
 ghost use Rattle.edi_statuses.specs.Counts.{counts_of, HasCause, NoneFalls};
 ghost use Rattle.edi_statuses.specs.EachObject.{command_does, handed, is_before_format, is_silent, uses_files};
@@ -19,7 +18,7 @@ use edi_commands::boot::boot;
 use edi_commands::code::list;
 use edi_commands::disk::{get, new_disk, new_disk_from, put};
 use edi_commands::run::Form::{Code, Text};
-use edi_commands::run::{demonstrate, run_file, watch_file};
+use edi_commands::run::{demonstrate, run_file, walk_file, watch_file};
 use edi_commands::text::{check, compile_file};
 use edi_host::{Drive, Files, Sink, Source};
 use edi_kernel::Kernel;
@@ -82,7 +81,7 @@ fn perform<F: Files, D: Drive, S: Source, T: Sink, P: Sink>(
     kernel: &mut Kernel,
 ) -> Ended
     requires range { IsInRange command }
-    ensures came { Came result.status result.due (built (Some (view command.entry)))
+    ensures came { Came result.status result.due (Some (view command.entry))
         (outside_of F.contents D.contents S.left T.taken P.taken files.old drive.old input.old terminal.old printer.old)
         (outside_of F.contents D.contents S.left T.taken P.taken files.new drive.new input.new terminal.new printer.new)
         (lent kernel.old.store kernel.old.used kernel.new.store kernel.new.used) }
@@ -92,12 +91,12 @@ fn perform<F: Files, D: Drive, S: Source, T: Sink, P: Sink>(
     ensures later { NoneFalls
         (counts_of F.faults D.faults S.faults T.faults P.faults files.old drive.old input.old terminal.old printer.old)
         (counts_of F.faults D.faults S.faults T.faults P.faults files.new drive.new input.new terminal.new printer.new) }
-    ensures size { CountsBlocks (built (Some (view command.entry))) result.status (D.count drive.old) (D.count drive.new)
+    ensures size { CountsBlocks (Some (view command.entry)) result.status (D.count drive.old) (D.count drive.new)
         (D.faults drive.old) (D.faults drive.new) }
-    ensures untouched { UnusedStay (built (Some (view command.entry))) result.status
+    ensures untouched { UnusedStay (Some (view command.entry)) result.status
         (handed files.old drive.old input.old terminal.old printer.old kernel.old)
         (handed files.new drive.new input.new terminal.new printer.new kernel.new) }
-    ensures no_terminal { command_does is_silent (built (Some (view command.entry))) ≡ true → terminal.new ≡ terminal.old }
+    ensures no_terminal { command_does is_silent (Some (view command.entry)) ≡ true → terminal.new ≡ terminal.old }
 {
     match command {
         Command::Run { file, options } => run_file(
@@ -134,7 +133,13 @@ fn perform<F: Files, D: Drive, S: Source, T: Sink, P: Sink>(
             kernel,
         ),
         Command::Check { file } => check(alloc, files, terminal, file),
-        Command::Walk { .. } => silent(Status::Words),
+        Command::Walk {
+            file,
+            choices,
+            turns,
+        } => walk_file(
+            alloc, file, choices, turns, files, drive, input, terminal, printer,
+        ),
         Command::Watch {
             file,
             stops,
@@ -157,7 +162,7 @@ fn obey<F: Files, D: Drive, S: Source, T: Sink, P: Sink>(
     printer: &mut P,
     kernel: &mut Kernel,
 ) -> Ended
-    ensures came { Came result.status result.due (built (command_of (map string_bytes words.now)))
+    ensures came { Came result.status result.due (command_of (map string_bytes words.now))
         (outside_of F.contents D.contents S.left T.taken P.taken files.old drive.old input.old terminal.old printer.old)
         (outside_of F.contents D.contents S.left T.taken P.taken files.new drive.new input.new terminal.new printer.new)
         (lent kernel.old.store kernel.old.used kernel.new.store kernel.new.used) }
@@ -167,12 +172,12 @@ fn obey<F: Files, D: Drive, S: Source, T: Sink, P: Sink>(
     ensures later { NoneFalls
         (counts_of F.faults D.faults S.faults T.faults P.faults files.old drive.old input.old terminal.old printer.old)
         (counts_of F.faults D.faults S.faults T.faults P.faults files.new drive.new input.new terminal.new printer.new) }
-    ensures size { CountsBlocks (built (command_of (map string_bytes words.now))) result.status (D.count drive.old) (D.count drive.new)
+    ensures size { CountsBlocks (command_of (map string_bytes words.now)) result.status (D.count drive.old) (D.count drive.new)
         (D.faults drive.old) (D.faults drive.new) }
-    ensures untouched { UnusedStay (built (command_of (map string_bytes words.now))) result.status
+    ensures untouched { UnusedStay (command_of (map string_bytes words.now)) result.status
         (handed files.old drive.old input.old terminal.old printer.old kernel.old)
         (handed files.new drive.new input.new terminal.new printer.new kernel.new) }
-    ensures no_terminal { command_does is_silent (built (command_of (map string_bytes words.now))) ≡ true → terminal.new ≡ terminal.old }
+    ensures no_terminal { command_does is_silent (command_of (map string_bytes words.now)) ≡ true → terminal.new ≡ terminal.old }
 {
     match command(alloc, words) {
         Ok(Some(command)) => perform(
@@ -205,10 +210,10 @@ pub fn edison<F: Files, D: Drive, S: Source, T: Sink, P: Sink>(
         let had = counts_of F.faults D.faults S.faults T.faults P.faults files.old drive.old input.old terminal.old printer.old in
         let has = counts_of F.faults D.faults S.faults T.faults P.faults files.new drive.new input.new terminal.new printer.new in
         (all : List ℕ)
-        × EndsWith result (built (command_of (map string_bytes words.now))) before after had has all
+        × EndsWith result (command_of (map string_bytes words.now)) before after had has all
         (lent kernel.old.store kernel.old.used kernel.new.store kernel.new.used)
         × Shows before after all
-        × LeavesEach (built (command_of (map string_bytes words.now))) before after }
+        × LeavesEach (command_of (map string_bytes words.now)) before after }
 
     // A fault comes only where the count of its object rose.
     ensures file_fault { result ≡ Status.FileFault → CountRose (F.faults files.old) (F.faults files.new) }
@@ -226,15 +231,15 @@ pub fn edison<F: Files, D: Drive, S: Source, T: Sink, P: Sink>(
 
     // Only `newdisk` gives the drive another number of blocks, and the status of a command that mounts the drive fits it, whatever the
     // drive tells.
-    ensures size { CountsBlocks (built (command_of (map string_bytes words.now))) result (D.count drive.old) (D.count drive.new)
+    ensures size { CountsBlocks (command_of (map string_bytes words.now)) result (D.count drive.old) (D.count drive.new)
         (D.faults drive.old) (D.faults drive.new) }
 
     // Objects that a command has no use for, and those that it has not come to, are not touched, whatever they tell; words that are
     // refused touch none but the terminal.
-    ensures untouched { UnusedStay (built (command_of (map string_bytes words.now))) result
+    ensures untouched { UnusedStay (command_of (map string_bytes words.now)) result
         (handed files.old drive.old input.old terminal.old printer.old kernel.old)
         (handed files.new drive.new input.new terminal.new printer.new kernel.new) }
-    ensures no_terminal { result ≡ Status.Ok → command_does is_silent (built (command_of (map string_bytes words.now))) ≡ true
+    ensures no_terminal { result ≡ Status.Ok → command_does is_silent (command_of (map string_bytes words.now)) ≡ true
         → terminal.new ≡ terminal.old }
 {
     let ended = obey(alloc, words, files, drive, input, terminal, printer, kernel);

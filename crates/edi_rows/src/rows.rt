@@ -16,5 +16,6 @@ mod session_ends;
 mod session_faults;
 mod session_refusals;
 mod sessions;
+mod walks;
 mod watches;
 mod world;

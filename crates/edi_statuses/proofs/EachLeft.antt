@@ -85,6 +85,18 @@ module _ {F D S T P K : Type 0} (before after : Handed F D S T P K) where
     kernel = λ none. (stay (first (asked (uses_kernel c) (stops_first c s) kernel none))).kernel;
   }
 
+  -- so of one that sees all devices, but not the kernel
+  pub untouched_but_kernel : (c : Command) (s : Status) → uses_drive c ≡ true → uses_input c ≡ true → uses_devices c ≡ true
+      → (stops_first c s ≡ true → is_before_drive s ≡ true) → (uses_files c ≡ false → after.files ≡ before.files)
+      → (is_before_drive s ≡ true → DevicesStay before after) → after.kernel ≡ before.kernel → UnusedStay (Some c) s before after
+  untouched_but_kernel c s drive input devices first files stay kernel = record {
+    files = files;
+    drive = λ none. (stay (first (asked (uses_drive c) (stops_first c s) drive none))).drive;
+    input = λ none. (stay (first (asked (uses_input c) (stops_first c s) input none))).input;
+    printer = λ none. (stay (first (asked (uses_devices c) (stops_first c s) devices none))).printer;
+    kernel = λ none. kernel;
+  }
+
   -- so of one that sees the terminal and the printer alone
   pub untouched_alone : (c : Command) (s : Status) → uses_devices c ≡ true → uses_kernel c ≡ true → (stops_first c s ≡ true → is_before_drive s ≡ true)
       → (uses_files c ≡ false → after.files ≡ before.files) → after.drive ≡ before.drive → after.input ≡ before.input

@@ -22,6 +22,8 @@ use Rattle.edi_statuses.proofs.Terminal.{StillTold, asks_later, fetch_fails_late
 use Rattle.edi_statuses.proofs.Terminal.{drive_later, keeps_later, blocks_later, code_later, runs_later, whole_later, unkept_later, broke_later}
 use Rattle.edi_statuses.proofs.Terminal.{record_later, does_later, list_later, shows_later, front_later, demo_later}
 use Rattle.edi_statuses.proofs.Watched.{watches_later, watched_wants, watched_broke}
+use Rattle.edi_statuses.proofs.Walked.{walks_later, walked_wants, walked_broke}
+use Rattle.edi_statuses.specs.Walked.{Walks}
 use Rattle.edi_statuses.proofs.Terminal.{boot_later, holds_later, ended_later, broke_session_later}
 
 module _ (b m : Outside) (y : Option (List ℕ)) (still : StillTold m.shown y) where
@@ -113,6 +115,20 @@ module _ (b m : Outside) (y : Option (List ℕ)) (still : StillTold m.shown y) w
             kernel steps (λ a. watches_later b m y still a.0 a.2 options.turns a.1 out options.record_file s shown kernel);
         wants = watched_wants b m y still file points_file out options shown kernel;
         files = λ h. (h.0, steps (goes h.0) h.1, whole_later b m y still (text h.0.0) options.turns h.0.1 shown kernel h.2);
+        drive = broke;
+        input = broke;
+        output = broke;
+      }
+
+  walk_is : (file choices : List ℕ) (turns : ℕ) (shown : List ℕ) (kernel : Lent) → Later (words.walk file choices turns) shown kernel
+  walk_is file choices turns shown kernel =
+      let broke = walked_broke b m y still file choices turns shown kernel in
+      record {
+        comes = λ s. does_later b m y still (RunSteps before_ file (words.file choices)) (RunSteps seen_later file (words.file choices))
+            (λ a. Walks a.0 turns a.1) (λ a. Walks a.0 turns a.1) s shown kernel (run_later b m y still file (words.file choices))
+            (λ a. walks_later b m y still a.0 turns a.1 s shown kernel);
+        wants = walked_wants b m y still file choices turns shown kernel;
+        files = λ h. absurd h;
         drive = broke;
         input = broke;
         output = broke;
@@ -287,20 +303,6 @@ module _ (b m : Outside) (y : Option (List ℕ)) (still : StillTold m.shown y) w
         (h.0, text_later b m y still file (goes h.0) h.1, (h.2.0, h.2.1, front_later b m y still h.2.0 shown kernel h.2.2));
   }
 
-  -- one that is not there
-  none_is : (c : Command) (shown : List ℕ) (kernel : Lent) → ((s : Status) → Comes c s before_ m shown kernel → ⊥)
-      → (Wants c before_ m shown kernel → Wants c seen_later later_ shown kernel) → (ComesToBreak status.FileFault c before_ m shown kernel → ⊥)
-      → (ComesToBreak status.DriveFault c before_ m shown kernel → ⊥) → (ComesToBreak status.InputFault c before_ m shown kernel → ⊥)
-      → (ComesToBreak status.OutputFault c before_ m shown kernel → ⊥) → Later c shown kernel
-  none_is c shown kernel comes wants files drive input output = record {
-    comes = λ s h. absurd (comes s h);
-    wants = wants;
-    files = λ h. absurd (files h);
-    drive = λ h. absurd (drive h);
-    input = λ h. absurd (input h);
-    output = λ h. absurd (output h);
-  }
-
   each_is : (c : Command) (shown : List ℕ) (kernel : Lent) → Later c shown kernel
   each_is (words.run file options) shown kernel = run_is file options shown kernel
   each_is (words.replay file choices turns) shown kernel = replay_is file choices turns shown kernel
@@ -313,8 +315,7 @@ module _ (b m : Outside) (y : Option (List ℕ)) (still : StillTold m.shown y) w
   each_is (words.demo n options) shown kernel = demo_is n options shown kernel
   each_is (words.boot options) shown kernel = boot_is options shown kernel
   each_is (words.check file) shown kernel = check_is file shown kernel
-  each_is (words.walk file choices turns) shown kernel =
-      none_is (words.walk file choices turns) shown kernel (λ s h. h) (nothing_later b m y still shown kernel) (λ h. h) (λ h. h) (λ h. h) (λ h. h)
+  each_is (words.walk file choices turns) shown kernel = walk_is file choices turns shown kernel
   each_is (words.watch file points_file out options) shown kernel = watch_is file points_file out options shown kernel
 
   -- ---- the statuses

@@ -10,3 +10,4 @@ pub mod EachLeft
 pub mod Silent
 pub mod Causes
 pub mod Watched
+pub mod Walked

@@ -23,7 +23,9 @@ use Rattle.edi_statuses.specs.Commands.{Comes, IsDone, OnlyBlocks, OnlyKeeps, On
 use Rattle.edi_statuses.specs.Commands.{RunSteps, ExecSteps, WatchSteps, Watches, TextSteps, OldSteps, PutSteps, GetSteps, ListSteps, DemoSteps}
 use Rattle.edi_statuses.specs.Commands.{Demonstrates, size_shown, with_own}
 use Rattle.edi_statuses.specs.Steps.{goes, ◌>>=◌, Accepts, Ready}
+use Rattle.edi_statuses.specs.Walked.{HasWalked, Walks}
 use Rattle.edi_statuses.specs.Decided.{IsTold, OneStatus, is_session}
+use Rattle.edi_statuses.proofs.Walked.{walked_same}
 use Rattle.edi_statuses.proofs.StepLemmas.{IsOne, TextsAreOne, ready_one, then_one, tests_one, fetches_one, choices_one, accepts_one, mounts_one}
 use Rattle.edi_statuses.proofs.StepLemmas.{loads_one, old_one, finds_one, has_place_one, reads_one, IsOneEffect, does_one}
 
@@ -137,6 +139,15 @@ module _ (each : TextsAreOne) (before after behind : Outside) (is_told : IsTold 
   code_one : (out bytes_ : List ℕ) → IsOneEffect before after behind (IsDone (KeepsCode out bytes_))
   code_one out bytes_ s t shown bytes kernel other h k = (h.0 ∙ sym k.0, h.1.keeps.shown_ ∙ sym k.1.keeps.shown_)
 
+  walks_one : (program : List ℕ) (bound : ℕ) (choices : Choices) → IsOneEffect before after behind (Walks program bound choices)
+  walks_one program bound choices s t shown bytes kernel other h k =
+      let d = devices_told before is_told in
+      let e = devices_told after after_told in
+      let f = devices_told behind behind_told in
+      let same = walked_same program bound choices h.ending k.ending d.devices e.devices f.devices shown bytes
+      (there _ _ _ d.devices e.devices d.are e.are h.walked) (there _ _ _ d.devices f.devices d.are f.are k.walked) in
+      (h.status_is ∙ ap status_of same.0 ∙ sym k.status_is, same.1)
+
   text_steps : (file : List ℕ) (from : ChoicesFrom) → IsOne (RunSteps before file from)
   text_steps file from =
       then_one _ _ (fetches_one before is_told.files file) (λ bytes. then_one _ _ (choices_one before is_told.files from)
@@ -212,7 +223,8 @@ module _ (each : TextsAreOne) (before after behind : Outside) (is_told : IsTold 
   comes_one (words.check file) no_session = does_one before after behind (TextSteps before file)
       (λ a. IsDone (ShowsReport a.1)) (compile_steps file) (λ a went. report_one a.1 (unit_fits file a went))
   comes_one (words.boot o) no_session = absurd (true≢false no_session)
-  comes_one (words.walk file choices turns) no_session = λ s t shown bytes kernel other h k. absurd h
+  comes_one (words.walk file choices turns) no_session = does_one before after behind (RunSteps before file (words.file choices))
+      (λ a. Walks a.0 turns a.1) (text_steps file (words.file choices)) (λ a went. walks_one a.0 turns a.1)
   comes_one (words.watch file points_file out o) no_session = does_one before after behind (WatchSteps before file points_file o.choices)
       (λ a. Watches a.0 a.2 o.turns a.1 out o.record_file) (watch_steps file points_file o.choices)
       (λ a went. watches_one a.0 a.2 o.turns a.1 out o.record_file)

@@ -220,6 +220,7 @@ module _ (b m : Outside) (y : Option (List ℕ)) (still : StillTold m.shown y) w
   pub asks_later : (c : Command) → AsksDrive c seen_then → AsksDrive c seen_now
   asks_later (words.run file o) h = (h.0, third_later file o.choices Accepts (goes h.0) h.1)
   asks_later (words.replay file choices turns) h = (h.0, third_later file (words.file choices) Accepts (goes h.0) h.1)
+  asks_later (words.walk file choices turns) h = (h.0, third_later file (words.file choices) Accepts (goes h.0) h.1)
   asks_later (words.exec file o) h = (h.0, third_later file o.choices Loads (goes h.0) h.1)
   asks_later (words.boot o) h = (h.0, choices_later o.choices (goes h.0) h.1)
   asks_later (words.watch file points_file out o) h = (h.0, points_later file points_file o.choices (goes h.0) h.1)
@@ -293,7 +294,7 @@ module _ (b m : Outside) (y : Option (List ℕ)) (still : StillTold m.shown y) w
     kernel_is = h.kernel_is;
   }
 
-  stands_silent : (Holds : Devices → State → Type 0) (shown : List ℕ) → Silent (λ d e. StandsAt (Holds d) d e shown)
+  pub stands_silent : (Holds : Devices → State → Type 0) (shown : List ℕ) → Silent (λ d e. StandsAt (Holds d) d e shown)
   stands_silent Holds shown d e bytes h = record {
     moment = h.moment;
     comes = h.comes;

@@ -37,10 +37,11 @@ use Rattle.edi_statuses.specs.Steps.{AfterStep, goes, stops, ◌>>=◌, Ready, F
 use Rattle.edi_statuses.specs.Steps.{FitsDisk, FindsPoints, HasRoom}
 use Rattle.edi_statuses.specs.Executions.{Runnable, text, code, status_of, Ran, record_of}
 use Rattle.edi_statuses.specs.Sessions.{BootSteps, HoldsSession}
+use Rattle.edi_statuses.specs.Walked.{Walks}
 
 -- ---- the steps of each command
 
--- `run FILE` and `replay FILE CHOICES`: fetches the text, reads the choices, compiles, mounts
+-- `run FILE`, `replay FILE CHOICES` and `walk FILE CHOICES`: fetches the text, reads the choices, compiles or resolves it, mounts
 abbrev pub RunSteps : Outside → (file : List ℕ) → ChoicesFrom → AfterStep (List ℕ × Choices) → Type 0
 RunSteps o file from =
     Fetches o file >>= λ bytes. ReadsChoices o from >>= λ choices. Accepts bytes >>= λ unit. Mounts o >>= λ done.
@@ -277,6 +278,7 @@ Comes (words.demo n o) s before after shown kernel =
     Does (DemoSteps before o.choices) (λ choices. Demonstrates n o.turns choices o.record_file) s before after shown kernel
 Comes (words.check file) s before after shown kernel =
     Does (TextSteps before file) (λ a. IsDone (ShowsReport a.1)) s before after shown kernel
-Comes (words.walk file choices turns) s before after shown kernel = ⊥
+Comes (words.walk file choices turns) s before after shown kernel =
+    Does (RunSteps before file (words.file choices)) (λ a. Walks a.0 turns a.1) s before after shown kernel
 Comes (words.watch file points_file out o) s before after shown kernel =
     Does (WatchSteps before file points_file o.choices) (λ a. Watches a.0 a.2 o.turns a.1 out o.record_file) s before after shown kernel

@@ -13,6 +13,7 @@ use Rattle.edi_statuses.specs.Sessions.{BootSteps, BrokeSession, EndedUnkept, En
 use Rattle.edi_statuses.specs.Commands.{IsNothing, OnItsOwn, RunSteps, ExecSteps, WatchSteps, TextSteps, OldSteps, PutSteps, GetSteps, ListSteps, DemoSteps}
 use Rattle.edi_statuses.specs.Broken.{RanWhole, RanUnkept, AtRecord, HasNotBegun, ChangesDrive, ArePutInPart, ShowsFront, ShowsReportFront, IsOpen, BrokeDemo}
 use Rattle.edi_statuses.specs.Broken.{HasBegun, WentOn, RunAsks, ExecAsks, WatchAsks, WatchedUnkept}
+use Rattle.edi_statuses.specs.Walked.{BrokeWalk}
 
 -- ---- facts
 
@@ -35,8 +36,6 @@ abbrev pub Left : Type 1
 Left = Outside → Outside → (shown : List ℕ) → Lent → Type 0
 
 pub record Facts : Type 1 where
-  -- It is built; one that is not is refused as bad words.
-  pub built : Bool
   -- It holds a session, in which memory may run out at single lines. So contents do not decide how it ends.
   pub session : Bool
   -- It shows nothing but the line of its status.
@@ -70,7 +69,6 @@ never before after shown kernel = ⊥
 -- is here, which is the most that can be claimed, but for want of memory, which any command may meet before it has done anything.
 abbrev pub plain : Facts
 plain = record {
-  built = true;
   session = false;
   silent = true;
   devices = false;
@@ -210,7 +208,17 @@ facts_of (words.check file) = record plain {
   fetches = file_named file;
   output_failed = λ before after shown kernel. HasBegun (TextSteps before file) (λ a. ShowsReportFront a.1 before after shown kernel);
 }
-facts_of (words.walk file choices turns) = record plain { built = false }
+facts_of (words.walk file choices turns) =
+    let broken : Left = λ before after shown kernel.
+    HasBegun (RunSteps before file (words.file choices)) (λ a. BrokeWalk a.0 turns a.1 before after shown kernel) in
+    record (on_devices (file_named file) None) {
+      kernel = false;
+      asks_drive = λ before. RunAsks before file (words.file choices);
+      no_memory = λ before after shown kernel. IsNothing before after shown kernel ⊎ broken before after shown kernel;
+      drive_failed = broken;
+      input_failed = broken;
+      output_failed = broken;
+    }
 facts_of (words.watch file points_file out o) =
     record (program_run file (λ before. WatchAsks before file points_file o.choices) (λ before. WatchSteps before file points_file o.choices) (λ a. text a.0) (λ a. a.1)
     o.turns o.record_file) {

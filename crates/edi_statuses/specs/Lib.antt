@@ -15,3 +15,4 @@ pub mod Means
 pub mod Decided
 pub mod OnFiles
 pub mod Rows
+pub mod Walked

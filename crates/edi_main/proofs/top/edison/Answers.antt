@@ -1,7 +1,6 @@
 use Rattle.std.proofs.Common.{◌≡◌, ◌∙◌, ap, inl, inr, map, sym}
 use Rattle.std.specs.String.{string_bytes}
 use Rattle.edi_words.specs.Words.{command_of}
-use Rattle.edi_main.specs.Built.{built}
 use Rattle.edi_statuses.specs.Lines.{text_of}
 use Rattle.edi_statuses.specs.declared.status.Status.TheVariants as status
 use Rattle.edi_statuses.proofs.Causes.{cause_later, rose_before}
@@ -11,7 +10,7 @@ use Rattle.edi_main.proofs.top.edison.Goals as goal
 
 pub returns-clause-ends : goal.returns-clause-ends
 returns-clause-ends g c =
-    lines_end c.obey-ended.result.status c.show_status.result c.obey-ended.result.due (built (command_of (map string_bytes c.args.words.now))) _ _ _ _
+    lines_end c.obey-ended.result.status c.show_status.result c.obey-ended.result.due (command_of (map string_bytes c.args.words.now)) _ _ _ _
     (g.T.Sink.taken c.show_status.new.terminal) _
     (cause_later c.obey-ended.result.status _ _ _ _ _ (g.T.Sink.faults c.show_status.new.terminal) _ c.show_status.ensures.later c.obey-ended.ensures.cause)
     c.obey-ended.ensures.came c.show_status.ensures.exact
@@ -20,7 +19,7 @@ returns-clause-ends g c =
 
 pub returns-clause-size : goal.returns-clause-size
 returns-clause-size g c =
-    counts_closed (built (command_of (map string_bytes c.args.words.now))) c.obey-ended.result.status c.show_status.result _ _ _ _
+    counts_closed (command_of (map string_bytes c.args.words.now)) c.obey-ended.result.status c.show_status.result _ _ _ _
     (elim c.show_status.ensures.exact [
       | inl same ↦ inl same.0
       | inr fault ↦ inr fault.0
@@ -39,7 +38,7 @@ returns-clause-no_terminal g c = λ ok silent.
 
 pub returns-clause-untouched : goal.returns-clause-untouched
 returns-clause-untouched g c =
-    untouched_closed (built (command_of (map string_bytes c.args.words.now))) c.obey-ended.result.status c.show_status.result _ _ _ _ _ _ _ _
+    untouched_closed (command_of (map string_bytes c.args.words.now)) c.obey-ended.result.status c.show_status.result _ _ _ _ _ _ _ _
     (elim c.show_status.ensures.exact [
       | inl same ↦ inl same.0
       | inr fault ↦ inr fault.0

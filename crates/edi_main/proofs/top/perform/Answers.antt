@@ -3,10 +3,10 @@ use Rattle.edi_words.specs.Words as words
 use Rattle.edi_words.specs.View.{options_of}
 use Rattle.edi_words.specs.declared.commands.Command.TheVariants as command
 use Rattle.edi_statuses.specs.Outside.{kernel_of}
-use Rattle.edi_statuses.proofs.EachLeft.{none_touched, same_valid, untouched, untouched_alone, untouched_drive}
-use Rattle.edi_statuses.proofs.Silent.{on_files, refused}
+use Rattle.edi_statuses.proofs.EachLeft.{same_valid, untouched, untouched_alone, untouched_but_kernel, untouched_drive}
+use Rattle.edi_statuses.proofs.Silent.{on_files}
 use Rattle.edi_statuses.proofs.Told.{told_so}
-use Rattle.edi_main.proofs.Obeyed.{counts_of_none, counts_so, not_built, obeyed, obeyed_demo, obeyed_replay, obeyed_so, on_disk, untouched_so}
+use Rattle.edi_main.proofs.Obeyed.{counts_so, obeyed, obeyed_demo, obeyed_replay, obeyed_so, on_disk, untouched_so}
 use Rattle.edi_main.proofs.top.perform.Goals as goal
 
 pub returns-in-Compile-clause-came : goal.returns-in-Compile-clause-came
@@ -54,18 +54,25 @@ returns-in-Demo-clause-came g c =
 pub returns-in-Demo-clause-cause : goal.returns-in-Demo-clause-cause
 returns-in-Demo-clause-cause g c = c.demonstrate.ensures.cause (g.D.Drive.faults c.args.drive.now) (g.S.Source.faults c.args.input.now)
 
-pub returns-in-Walk : goal.returns-in-Walk
-returns-in-Walk g c =
-    let none = not_built c.args.command _ c.in-Walk.is refl in
-    record {
-      came = refused c.silent-in-Walk.result.status c.silent-in-Walk.result.due _ _ _ c.silent-in-Walk.ensures.status
-          c.silent-in-Walk.ensures.due none;
-      cause = search rules;
-      later = search rules;
-      size = counts_of_none _ c.silent-in-Walk.result.status _ _ none;
-      untouched = none_touched _ _ _;
-      no_terminal = λ e. refl;
-    }
+pub returns-in-Walk-clause-came : goal.returns-in-Walk-clause-came
+returns-in-Walk-clause-came g c =
+    obeyed_so c.args.command (command.Walk c.in-Walk.file c.in-Walk.choices c.in-Walk.turns) c.walk_file.result.status c.walk_file.result.due _ _ _
+    c.in-Walk.is (c.walk_file.ensures.came (kernel_of c.args.kernel.now.store c.args.kernel.now.used))
+
+pub returns-in-Walk-clause-size : goal.returns-in-Walk-clause-size
+returns-in-Walk-clause-size g c =
+    counts_so c.args.command (command.Walk c.in-Walk.file c.in-Walk.choices c.in-Walk.turns) c.walk_file.result.status c.walk_file.result.status _ _ _ _
+    c.in-Walk.is refl (c.walk_file.ensures.size, c.walk_file.ensures.fits)
+
+pub returns-in-Walk-clause-untouched : goal.returns-in-Walk-clause-untouched
+returns-in-Walk-clause-untouched g c =
+    untouched_so c.args.command (command.Walk c.in-Walk.file c.in-Walk.choices c.in-Walk.turns) c.walk_file.result.status c.walk_file.result.status
+    _ _ c.in-Walk.is refl
+    (untouched_but_kernel _ _ (words.walk c.in-Walk.file.now c.in-Walk.choices.now c.in-Walk.turns) c.walk_file.result.status refl refl refl (λ e. e)
+    (λ none. absurd (true≢false none))
+    (λ early.
+    let none = c.walk_file.ensures.early early in
+    record { drive = none.drive; input = none.input; terminal = none.terminal; printer = none.printer; kernel = refl }) refl)
 
 pub returns-in-Run-clause-size : goal.returns-in-Run-clause-size
 returns-in-Run-clause-size g c =

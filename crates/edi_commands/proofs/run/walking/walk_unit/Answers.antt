@@ -1,0 +1,88 @@
+-- The exits of a walk.
+use Rattle.std.proofs.Common.{rules, ◌≡◌, ◌∙◌, IsSome, arith, refl, sym, subst, ap}
+use Rattle.edi_calls.specs.declared.ends.Outside.TheVariants as object
+use Rattle.edi_unit.specs.View.{unit_of}
+use Rattle.edi_walk.specs.declared.walking.WalkEnd.TheVariants as end
+use Rattle.edi_commands.specs.steps.NotMounted.{mount_status}
+use Rattle.edi_commands.specs.run.CodeRan.{object_status}
+use Rattle.edi_commands.proofs.run.Asked.{asked_so, failed_asked, unmounted_asked}
+use Rattle.edi_commands.proofs.run.Mounting.{left_on}
+use Rattle.edi_commands.proofs.run.WalkEnds.{ended_no_fault, ended_walk_asked, failed_so, not_mounted, walked_so, with_bound}
+use Rattle.edi_commands.proofs.run.walking.walk_unit.Goals as goal
+
+pub returns-in-Err-clause-ran : goal.returns-in-Err-clause-ran
+returns-in-Err-clause-ran g c = λ files kernel.
+    let n = c.in-Err.ensures.nothing_done in
+    not_mounted (unit_of c.args.unit.now) c.args.turns _ _ kernel c.args.choices.now.source c.stopped.result.status c.stopped.result.due c.in-Err.why
+    (c.stopped.ensures.status_is ∙ c.mount_status.ensures.exact) c.stopped.ensures.due
+    (record {
+      files = refl;
+      blocks = c.in-Err.ensures.not_mounted;
+      input = ap g.S.Source.left n.0;
+      shown = ap g.T.Sink.taken n.1;
+      printed = ap g.P.Sink.taken n.2;
+      kernel_same = refl;
+    })
+
+pub returns-in-Some-clause-ran : goal.returns-in-Some-clause-ran
+returns-in-Some-clause-ran g c = λ files kernel.
+    let l = c.in-Ok.ensures.leaves in
+    let there : IsSome c.in-Ok.walked.failed = search rules in
+    with_bound c.from.result c.args.turns (search rules) _ _ _ _ _ _ _
+    (failed_so (unit_of c.args.unit.now) c.from.result _ _ kernel c.args.choices.now c.requires.none_drawn c.in-Ok.walked.due
+    (left_on _ _ _ c.in-Ok.ensures.mounted l.told l.due) refl c.object_status.result c.in-Some.object c.object_status.ensures.exact
+    c.in-Ok.walked.end c.walk_on.new.choices (c.in-Ok.ensures.failed.0 there) l.walks)
+
+pub returns-clause-ran : goal.returns-clause-ran
+returns-clause-ran g c = λ files kernel.
+    let l = c.in-Ok.ensures.leaves in
+    let unfailed : c.in-Ok.walked.end ≡ end.Fault → ⊥ = search rules in
+    with_bound c.from.result c.args.turns (search rules) _ _ _ _ _ _ _
+    (walked_so (unit_of c.args.unit.now) c.from.result _ _ kernel c.args.choices.now c.requires.none_drawn c.in-Ok.walked.due
+    (left_on _ _ _ c.in-Ok.ensures.mounted l.told l.due) refl c.walk_on.new.choices c.in-Ok.walked.end c.end_status.result unfailed
+    c.end_status.ensures.exact l.walks)
+
+pub returns-clause-cause : goal.returns-clause-cause
+returns-clause-cause g c = λ had has. ended_no_fault c.in-Ok.walked.end c.end_status.result _ _ c.end_status.ensures.exact
+
+pub returns-in-Err-clause-asked : goal.returns-in-Err-clause-asked
+returns-in-Err-clause-asked g c =
+    asked_so (mount_status c.in-Err.why) c.stopped.result.status _ (c.stopped.ensures.status_is ∙ c.mount_status.ensures.exact)
+    (unmounted_asked c.in-Err.why _ c.in-Err.ensures.faults)
+
+pub returns-in-Some-clause-asked : goal.returns-in-Some-clause-asked
+returns-in-Some-clause-asked g c =
+    asked_so (object_status c.in-Some.object) c.object_status.result _ c.object_status.ensures.exact
+    (failed_asked _ (record { least = c.in-Ok.ensures.least; most = c.in-Ok.ensures.most }) c.in-Some.object)
+
+pub returns-clause-asked : goal.returns-clause-asked
+returns-clause-asked g c =
+    ended_walk_asked _ (record { least = c.in-Ok.ensures.least; most = c.in-Ok.ensures.most }) c.in-Ok.walked.end c.end_status.result
+    c.end_status.ensures.exact
+
+pub returns-in-Err-clause-later_drive : goal.returns-in-Err-clause-later_drive
+returns-in-Err-clause-later_drive g c = c.walk_on.ensures.later.later object.Drive
+
+pub returns-in-Some-clause-later_drive : goal.returns-in-Some-clause-later_drive
+returns-in-Some-clause-later_drive g c = c.walk_on.ensures.later.later object.Drive
+
+pub returns-in-Some-clause-later_input : goal.returns-in-Some-clause-later_input
+returns-in-Some-clause-later_input g c = c.walk_on.ensures.later.later object.Input
+
+pub returns-in-Some-clause-later_terminal : goal.returns-in-Some-clause-later_terminal
+returns-in-Some-clause-later_terminal g c = c.walk_on.ensures.later.later object.Terminal
+
+pub returns-in-Some-clause-later_printer : goal.returns-in-Some-clause-later_printer
+returns-in-Some-clause-later_printer g c = c.walk_on.ensures.later.later object.Printer
+
+pub returns-clause-later_drive : goal.returns-clause-later_drive
+returns-clause-later_drive g c = c.walk_on.ensures.later.later object.Drive
+
+pub returns-clause-later_input : goal.returns-clause-later_input
+returns-clause-later_input g c = c.walk_on.ensures.later.later object.Input
+
+pub returns-clause-later_terminal : goal.returns-clause-later_terminal
+returns-clause-later_terminal g c = c.walk_on.ensures.later.later object.Terminal
+
+pub returns-clause-later_printer : goal.returns-clause-later_printer
+returns-clause-later_printer g c = c.walk_on.ensures.later.later object.Printer

@@ -1,0 +1,4 @@
+pub mod Chained
+pub mod Left
+pub mod Texts
+pub mod Walking

@@ -1,0 +1,3 @@
+pub mod Laws
+pub mod Leaves
+pub mod Walks
