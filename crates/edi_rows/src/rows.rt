@@ -1,13 +1,11 @@
 //! The examples, a file of scripts for each subject; `play`, `script` and `world` play them.
 
-mod arrivals;
 mod checks;
 mod disks;
 mod editings;
 mod faults;
 mod images;
 mod play;
-mod points;
 mod programs;
 mod refused;
 mod runs;
@@ -16,6 +14,5 @@ mod session_ends;
 mod session_faults;
 mod session_refusals;
 mod sessions;
-mod walks;
 mod watches;
 mod world;

@@ -17,7 +17,7 @@
 //! | `shows TEXT`, `prints TEXT` | what the terminal and the printer have taken since |
 //! | `seen` | the terminal has taken the bytes since |
 //! | `leaves TEXT` | what is left of the input |
-//! | `holds NAME TEXT`, `begins NAME TEXT`, `none NAME` | the file with this name; its first bytes; that there is none |
+//! | `holds NAME TEXT`, `none NAME` | the file with this name; that there is none |
 //! | `same NAME NAME` | two files with the same bytes |
 //! | `blocks N`, `sees N HEX`, `zeros N N` | the number of blocks of the drive; its bytes from N on; zeros from N on to N |
 //! | `unchanged` | the drive has the bytes from before the call |
@@ -293,18 +293,6 @@ impl Stage {
         self.is_file(rt, name, &meant(rt, alloc, text));
     }
 
-    fn begins(&self, rt: &impl Abort, alloc: Global, rest: &str) {
-        let (name, text) = parts(rest);
-        let wanted = meant(rt, alloc, text);
-        let bytes = file(rt, alloc, &self.world, name);
-        are_same(
-            rt,
-            bytes.get(..wanted.len()).expect(rt, name),
-            &wanted,
-            name,
-        );
-    }
-
     fn blocks(&self, rt: &impl Abort, rest: &str) {
         let length = self.world.devices.drive.bytes().len();
         assert_eq!(rt; length / 512, size(rt, rest));
@@ -316,7 +304,6 @@ impl Stage {
         match word {
             "leaves" => self.leaves(rt, alloc, rest),
             "holds" => self.holds(rt, alloc, rest),
-            "begins" => self.begins(rt, alloc, rest),
             "same" => self.are_same(rt, alloc, first, second),
             "blocks" => self.blocks(rt, rest),
             "sees" => self.sees(rt, alloc, first, second),

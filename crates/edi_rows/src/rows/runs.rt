@@ -201,8 +201,6 @@ call 17 run waits
 shows standstill/
 call 17 run waits --turns 3
 shows standstill/
-call 17 run waits --turns 10
-shows standstill/
 call 4 run waits --turns 2
 shows turn limit/
 
@@ -211,8 +209,6 @@ file both_wait
 call 17 run both_wait --record s0
 shows standstill/
 holds s0 0/0/0/0/
-call 17 run both_wait --turns 10
-shows standstill/
 call 17 run both_wait --choices seven --record s7
 shows standstill/
 holds s7 0/1/0/1/1/1/0/
@@ -312,7 +308,6 @@ shows edison
 input 0 edison
 call 0 run buffer --seed 7 --record kept
 shows edison
-begins kept 230/15/
 input 0 edison
 call 0 replay buffer kept
 shows edison
