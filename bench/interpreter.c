@@ -2,9 +2,10 @@
  * runs the code of a file of numbers until so many turns are used up, and shows them. It takes its choices from the generator
  * of `--seed SEED`, where SEED is not `-`, and else takes the first of the ready ones.
  *
- * It makes the tests that docs/machine.md asks of an execution (the frame's bounds, the memory's, the ranges), but not that the program
- * counter is in the code, nor that none but the first process ends by RETURN, and none of the operands, which a code is checked for before:
- * the kernel makes all of these. It has no sets, no texts, no system calls and no functions. */
+ * It makes the tests that docs/reference/machine.md asks of an execution (the frame's bounds, the memory's, the ranges), but
+ * not that the program counter is in the code, nor that none but the first process ends by RETURN, and none of the operands,
+ * which a code is checked for before: the kernel makes all of these. It has no sets, no texts, no system calls and no
+ * functions. */
 #include <stdint.h>
 #include <stdio.h>
 #include <stdlib.h>

@@ -3,7 +3,7 @@
 
     tools/unfolds.py                       of the program's one call, `edison` of crates/edi_main/src/top.rt
     tools/unfolds.py FILE FUNCTION         of another public function
-    tools/unfolds.py --check               and says where docs/CLAIMS.md or the first lines of the files say otherwise
+    tools/unfolds.py --check               and says where docs/developer/CLAIMS.md or the first lines of the files say otherwise
     tools/unfolds.py --why NAME            the way from `edison` to a definition
 
 From each name in the contract it goes to the definition, by the imports of the file, and on to the names in that. It prints the files that
@@ -17,6 +17,7 @@ import subprocess
 import sys
 from collections import defaultdict
 
+CLAIMS = "docs/developer/CLAIMS.md"
 USE = re.compile(r"\buse\s+Rattle\.([^\s{;]+?)(?:\.\{([^}]*)\}|\s+as\s+([^\s;]+))", re.S)
 WORD = re.compile(r"[^\s(){}\[\];,:|\"]+")
 HEAD = re.compile(r"^(\s*)(?:(?:abbrev|unfoldable|pub|record|data)\s+)*([^\s(:]+)(?:\s+[({].*)?\s*:\s")
@@ -194,30 +195,30 @@ def contract(path, function):
 
 
 def wrong(closure):
-    """What docs/CLAIMS.md and the first lines of the files say otherwise than what is reached."""
-    claims = open("docs/CLAIMS.md", encoding="utf-8").read()
+    """What CLAIMS.md and the first lines of the files say otherwise than what is reached."""
+    claims = open(CLAIMS, encoding="utf-8").read()
     apart = {path for part in APART.findall(claims) for path, lines in ROW.findall(part)}
     listed = {path for path, lines in ROW.findall(claims) if path.endswith(".antt")} - apart
     reached = {path for path, lines, used in closure.files()}
     tracked = subprocess.run(["git", "ls-files", "crates/*/specs/*.antt"], capture_output=True, text=True, check=True).stdout.split()
     marked = {path for path in tracked if os.path.exists(path) and open(path, encoding="utf-8").readline().startswith("-- Definition. ")}
     for path in sorted(reached - listed):
-        yield f"{path} is reached, and docs/CLAIMS.md does not list it"
+        yield f"{path} is reached, and {CLAIMS} does not list it"
     for path in sorted(listed - reached):
-        yield f"docs/CLAIMS.md lists {path}, which is not reached"
+        yield f"{CLAIMS} lists {path}, which is not reached"
     for path in sorted((reached | apart) - marked):
-        yield f"the first line of {path} does not say that it is a definition, and docs/CLAIMS.md lists it"
+        yield f"the first line of {path} does not say that it is a definition, and {CLAIMS} lists it"
     for path in sorted(marked - reached - apart):
-        yield f"{path} says that it is a definition, and docs/CLAIMS.md does not list it"
+        yield f"{path} says that it is a definition, and {CLAIMS} does not list it"
     for path in sorted(apart & reached):
-        yield f"docs/CLAIMS.md says that no clause of `edison` speaks of {path}, which is reached"
+        yield f"{CLAIMS} says that no clause of `edison` speaks of {path}, which is reached"
     used = sum(used for path, lines, used in closure.files())
     if used >= MOST_LINES:
         yield f"the definitions that are reached have {used} lines; the most are {MOST_LINES}"
     told = {path: set(re.findall(r"`([^`]+)`", names)) for path, names in TYPES.findall(claims)}
     for path in sorted(set(told) | set(closure.types)):
         if told.get(path, set()) != closure.types.get(path, set()):
-            yield f"of {path} docs/CLAIMS.md lists {sorted(told.get(path, []))}, and reached are {sorted(closure.types.get(path, []))}"
+            yield f"of {path} {CLAIMS} lists {sorted(told.get(path, []))}, and reached are {sorted(closure.types.get(path, []))}"
 
 
 def main(words):

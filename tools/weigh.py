@@ -1,5 +1,5 @@
 #!/usr/bin/env python3
-"""Measures what the gate costs, crate by crate, and prints the table of docs/GATE.md.
+"""Measures what the gate costs, crate by crate, and prints the table of docs/developer/GATE.md.
 
 usage: tools/weigh.py                runs `rt ci --anew` once, from nothing
        tools/weigh.py NAME..         runs `rt ci NAME..`, which proves what it has not kept, and adds to what was measured

@@ -1,4 +1,4 @@
-" Vim syntax file for Edison: the symbols of docs/language.md.
+" Vim syntax file for Edison: the symbols of docs/reference/language.md.
 if exists('b:current_syntax')
   finish
 endif
