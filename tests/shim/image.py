@@ -1,0 +1,50 @@
+"""The files on a disk, read from its bytes by the rules of an image of version 2 (docs: "Files on a disk image")."""
+
+import re
+
+
+def number(some):
+    """A number whose high byte comes first."""
+    return int.from_bytes(some, "big")
+
+
+def files_of(disk):
+    """Title, and its kind (1 text, 2 code), whether it is protected, and its bytes; or, as text, the first rule that is broken."""
+    disk = disk or b""
+    blocks = [disk[at : at + 512] for at in range(0, len(disk) // 512 * 512, 512)]
+    if not blocks:
+        return {}
+    if len(blocks) < 64:
+        return "short"
+    if blocks[0] != b"EDIS\0\2" + len(blocks).to_bytes(2, "big") + bytes(504):
+        return "header"
+    files, used = {}, set()
+
+    def use(block):
+        if not 33 <= block < len(blocks) or block in used:
+            raise ValueError(f"block {block}")
+        used.add(block)
+        return blocks[block]
+
+    for slot in range(256):
+        entry = blocks[1 + slot // 8][slot % 8 * 64 :][:64]
+        if entry == bytes(64):
+            continue
+        title, kind, protected, length = entry[:24].rstrip(b" ").decode(errors="replace"), entry[24], entry[25], number(entry[30:34])
+        pages = (length + 511) // 512
+        good = re.fullmatch("[A-Za-z][A-Za-z0-9_]{0,23}", title) and kind in (1, 2) and protected in (0, 1) and length <= 261120
+        if not good or entry[34:] != bytes(30) or title in files or (pages > 255) != (number(entry[28:30]) != 0):
+            return f"entry {slot}"
+        some = b""
+        try:
+            for map_block, count in ((number(entry[26:28]), min(pages, 255)), (number(entry[28:30]), pages - 255)):
+                if map_block == 0 and count <= 0:
+                    continue
+                listed = use(map_block)
+                if number(listed[:2]) != count:
+                    return f"entry {slot}"
+                some += b"".join(use(number(listed[2 + 2 * n : 4 + 2 * n])) for n in range(count))
+        except ValueError as error:
+            return f"slot {slot}: {error}"
+        files[title] = (kind, protected, some[:length])
+    return files
