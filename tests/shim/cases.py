@@ -1,20 +1,41 @@
-"""The commands that are played with faults, and what each of them does where nothing fails: reckoned from the manual."""
+"""The commands that are played with faults, and what each does where nothing fails, as the manual has it."""
+
+import dataclasses
 
 TEXT, CODE = 1, 2
 
 
+@dataclasses.dataclass
 class About:
-    """A case. Its files and the commands before it make its folder."""
+    """A case: a command, what is there before it, and what it does."""
 
-    # status, shown, printed: how it ends. ran: what it has shown before its status line.
-    # keeps: the files that it keeps, in their order; kept: the bytes of those that are known here.
-    # states: the files of the disk at each moment, the last one at the end; None where nothing is known after a fault.
-    # lines: other ends that a session may have after a refused allocation: what it shows and the files on its disk.
-    def __init__(self, name, words, shown=b"", status=0, printed=b"", ran=None, input=b"", files=None, before=(), keeps=(), kept=None, states=({},), lines=()):
-        self.name, self.words, self.shown, self.status, self.printed, self.input = name, words, shown, status, printed, input
-        self.ran = shown if ran is None else ran
-        self.files, self.before, self.keeps, self.kept = files or {}, before, list(keeps), kept or {}
-        self.states, self.lines = None if states is None else list(states), lines
+    name: str
+    words: str
+    # What it does, in its order: bytes that it shows; the files that its disk holds from then on; Printed and Kept.
+    does: tuple
+    status: int = 0
+    input: bytes = b""
+    # The folder is made of these files and by these commands; then the disk holds these.
+    files: dict = dataclasses.field(default_factory=dict)
+    before: tuple = ()
+    disk: dict = dataclasses.field(default_factory=dict)
+    # After a fault of the disk nothing is known of it.
+    disk_is_lost: bool = False
+    # After a refused allocation a session may end otherwise: what it shows, and the files of its disk.
+    lines: tuple = ()
+
+
+@dataclasses.dataclass
+class Printed:
+    some: bytes
+
+
+@dataclasses.dataclass
+class Kept:
+    """A file that is kept, with its bytes where these are known here."""
+
+    name: str
+    some: bytes | None = None
 
 
 # It uses all that a program can reach. With the input q it shows q, y where the file new is stored, 1 and 2, the first
@@ -43,79 +64,92 @@ var x: int
 begin cobegin 1 do when x = 0 do display('a'); x := 1 end
 also 2 do when true do display('b') end end end
 """
-OLD = {"old": (TEXT, 0, b"o\n")}
-NEW = {"new": (TEXT, 0, b"wq")}
+FIRST, SECOND, LONG = (TEXT, 0, b"o\n"), (TEXT, 0, b"wq"), b"m" * 513
+OLD, BOTH, NEW = {"old": FIRST}, {"old": FIRST, "new": SECOND}, {"new": SECOND}
 WITH_OLD = ("newdisk 64", "put old old")
+
+
+def works(branches):
+    """What it does, if its branches show this."""
+    return b"q", Printed(b"q"), BOTH, b"y" + branches + b"o", NEW, b"z", Printed(b"p")
+
 
 # An image of version 1 without files.
 BLANK = b"EDIS\0\1\0\100" + bytes(32760)
 
-# A session, and what it shows. Each of these lines is shown after `> `, but for those of the text and of the editor.
+# The code of a program that shows a, whose `display` stands on line 2: docs, "Code files", "A sample".
+WORDS = (33, 9, 0, 3, 0, 0, 1, 97, 35, 0, 5, 2, 37, 0, 0)
+COMPILED = bytes.fromhex("ED150002 0000000F 00000000 0102") + bytes(18)
+COMPILED += b"".join(it.to_bytes(2, "big") for it in WORDS)
+LISTING = b"      0 ENTRY 9 0 3 0 0\n      6 CONST 97\n      8 CALLP 0 5 1\n     12 RETURN 0 0\n"
+
+# A session, and what it shows: each line after `> `, but for those of the entered text and of the editor.
 ENTERED = b"proc main(proc display(value: char))\nbegin display('a') end\n"
 SESSION = b"enter t\n" + ENTERED + b".\ncompile t c\nc\ncopy t u\nedit u\ni 1\nx\nw\ntype u\ndelete t\nhalt\n"
-COMPILED = bytes.fromhex("ED150002 0000000F 00000000 0102") + bytes(18)
-COMPILED += b"".join(word.to_bytes(2, "big") for word in (33, 9, 0, 3, 0, 0, 1, 97, 35, 0, 5, 2, 37, 0, 0))
-T, C, U = (TEXT, 0, ENTERED), (CODE, 0, COMPILED), (TEXT, 0, b"x\n" + ENTERED)
 HEAD, TAIL = b"> enter t\n> compile t c\n", b"> delete t\n> halt\n"
-TYPED, AS_COPIED = b"> type u\nx\n" + ENTERED, b"> type u\n" + ENTERED
 EDITED = b"> copy t u\n> edit u\n"
+TYPED, AS_COPIED = b"> type u\nx\n" + ENTERED, b"> type u\n" + ENTERED
 
-# The states of the disk: enter, compile, copy, edit, delete.
-MOMENTS = [{}, {"t": T}, {"t": T, "c": C}, {"t": T, "c": C, "u": T}, {"t": T, "c": C, "u": U}, {"c": C, "u": U}]
-# Where one line of the session has no memory: compile, the execution, the beginning of the editing, its lines `i 1` and `w`.
-NO_MEMORY = b"no memory\n"
-WITHOUT = [
+T, C, U = (TEXT, 0, ENTERED), (CODE, 0, COMPILED), (TEXT, 0, b"x\n" + ENTERED)
+MOMENTS = (
+    *(b"> enter t\n", {"t": T}, b"> compile t c\n", {"t": T, "c": C}, b"> c\na\n> copy t u\n", {"t": T, "c": C, "u": T}),
+    *(b"> edit u\n", {"t": T, "c": C, "u": U}, TYPED + b"> delete t\n", {"c": C, "u": U}, b"> halt\n"),
+)
+
+# One of its lines has no memory: compile, the execution, the beginning of the editing, its lines `i 1` and `w`. In the
+# third the lines of the editor are commands; in the last one the editing goes on, and what follows is no line of it.
+NO_MEMORY, RAN = b"no memory\n", HEAD + b"> c\na\n" + EDITED
+COMMANDS = b"> i 1\nbad command\n> x\nno file x\n> w\nno file w\n"
+WITHOUT = (
     (HEAD + NO_MEMORY + b"> c\nno file c\n" + EDITED + TYPED + TAIL, {"u": U}),
     (HEAD + b"> c\n" + NO_MEMORY + EDITED + TYPED + TAIL, {"c": C, "u": U}),
-    (HEAD + b"> c\na\n" + EDITED + NO_MEMORY + b"> i 1\nbad command\n> x\nno file x\n> w\nno file w\n" + AS_COPIED + TAIL, {"c": C, "u": T}),
-    (HEAD + b"> c\na\n" + EDITED + NO_MEMORY + AS_COPIED + TAIL, {"c": C, "u": T}),
-    # The editing goes on, and the rest are no lines of it.
-    (HEAD + b"> c\na\n" + EDITED + NO_MEMORY + b"bad edit\n" * 3, {"t": T, "c": C, "u": T}),
-]
+    (RAN + NO_MEMORY + COMMANDS + AS_COPIED + TAIL, {"c": C, "u": T}),
+    (RAN + NO_MEMORY + AS_COPIED + TAIL, {"c": C, "u": T}),
+    (RAN + NO_MEMORY + b"bad edit\n" * 3, {"t": T, "c": C, "u": T}),
+)
 
 CASES = [
+    # Seed 7 begins with 230 and 15: branch 1 arrives and goes on to its end, and then branch 2 is alone.
     About(
-        "run", "run works --seed 7 --record r", b"qy12oz", printed=b"qp", input=b"q", files={"works": WORKS, "old": b"o\n"},
-        before=WITH_OLD, keeps=["r"], kept={"r": b"230\n15\n"}, states=[OLD, {**OLD, **NEW}, NEW],
+        "run", "run works --seed 7 --record r", (*works(b"12"), Kept("r", b"230\n15\n")), input=b"q",
+        files={"works": WORKS, "old": b"o\n"}, before=WITH_OLD, disk=OLD,
     ),
-    About("no_disk", "run hello", b"a", files={"hello": HELLO}),
-    # main, its arrival, its attempt: nothing can happen then.
-    About("standstill", "run waits --record r", b"w\nstandstill\n", 17, ran=b"w", files={"waits": WAITS}, keeps=["r"], kept={"r": b""}),
-    About("replay", "replay race c", b"ba", files={"race": RACE, "c": b"1\n"}),
+    About("no_disk", "run hello", (b"a",), files={"hello": HELLO}),
+    # main, its arrival, its attempt: then nothing can happen.
+    About("standstill", "run waits --record r", (b"w", Kept("r", b""), b"\nstandstill\n"), 17, files={"waits": WAITS}),
+    About("replay", "replay race c", (b"ba",), files={"race": RACE, "c": b"1\n"}),
+    # The choice 1 lets branch 2 arrive first; then 0 and 0 take branch 1 to its `when`, and branch 2 to its end.
     About(
-        "exec", "exec code --choices c --record r", b"qy21oz", printed=b"qp", input=b"q", files={"works": WORKS, "c": b"1\n", "old": b"o\n"},
-        before=(*WITH_OLD, "compile works code"), keeps=["r"], kept={"r": b"1\n0\n0\n"}, states=[OLD, {**OLD, **NEW}, NEW],
+        "exec", "exec code --choices c --record r", (*works(b"21"), Kept("r", b"1\n0\n0\n")), input=b"q",
+        files={"works": WORKS, "c": b"1\n", "old": b"o\n"}, before=(*WITH_OLD, "compile works code"), disk=OLD,
     ),
-    About("compile", "compile hello code", files={"hello": HELLO}, keeps=["code"], kept={"code": COMPILED.replace(b"\0\5\0\2", b"\0\5\0\1")}),
-    About("refused", "compile cut code", b"line 2 invalid syntax\n", 2, ran=b"", files={"cut": b"proc\n"}),
+    # Its `display` stands on line 1.
+    About("compile", "compile hello code", (Kept("code", COMPILED.replace(b"\0\5\0\2", b"\0\5\0\1")),), files={"hello": HELLO}),
+    About("refused", "compile cut code", (b"line 2 invalid syntax\n",), 2, files={"cut": b"proc\n"}),
+    About("list", "list code", (LISTING,), files={"hello": HELLO}, before=("compile hello code",)),
+    About("check", "check race", (b"line 3 branches 1 2 may share\n",), files={"race": RACE}),
     About(
-        "list", "list code", b"      0 ENTRY 9 0 3 0 0\n      6 CONST 97\n      8 CALLP 0 5 1\n     12 RETURN 0 0\n",
-        files={"hello": HELLO}, before=("compile hello code",),
+        "watch", "watch race both log --choices c --record r",
+        (b"ba", Kept("log", b"turn 3 line 4 x 0\nturn 4 line 3 x 0\n"), Kept("r", b"1\n0\n0\n")),
+        files={"race": RACE, "c": b"1\n", "both": b"3 x\n4 x\n"},
     ),
-    About("check", "check race", b"line 3 branches 1 2 may share\n", files={"race": RACE}),
+    # In turn: both arrive, and each attempt holds.
     About(
-        "watch", "watch race both log --choices c --record r", b"ba", files={"race": RACE, "c": b"1\n", "both": b"3 x\n4 x\n"},
-        keeps=["log", "r"], kept={"log": b"turn 3 line 4 x 0\nturn 4 line 3 x 0\n", "r": b"1\n0\n0\n"},
+        "walk", "walk works c", works(b"12"), input=b"q",
+        files={"works": WORKS, "c": b"0\n", "old": b"o\n"}, before=WITH_OLD, disk=OLD,
     ),
-    # In turn: both arrive, each attempt holds.
+    About("demo", "demo 1 --record r", (Kept("r"), b"demo 1 symbols 32 turns 11\n")),
+    About("newdisk", "newdisk 64", ({},), files={"old": b"o\n"}, before=WITH_OLD, disk=OLD, disk_is_lost=True),
     About(
-        "walk", "walk works c", b"qy12oz", printed=b"qp", input=b"q", files={"works": WORKS, "c": b"0\n", "old": b"o\n"},
-        before=WITH_OLD, states=[OLD, {**OLD, **NEW}, NEW],
+        "from", "newdisk 64 --from blank", ({},), files={"old": b"o\n", "blank": BLANK},
+        before=WITH_OLD, disk=OLD, disk_is_lost=True,
     ),
-    About("demo", "demo 1 --record r", b"demo 1 symbols 32 turns 11\n", ran=b"", keeps=["r"]),
-    About("newdisk", "newdisk 64", files={"old": b"o\n"}, before=WITH_OLD, states=None),
-    About("from", "newdisk 64 --from blank", files={"old": b"o\n", "blank": BLANK}, before=WITH_OLD, states=None),
-    # Either none of it, or the file is released, which it is not, or the new one is there.
+    About("put", "put more old", ({"old": (TEXT, 0, LONG)},), files={"old": b"o\n", "more": LONG}, before=WITH_OLD, disk=OLD),
+    # A protected file is released, and then replaced.
     About(
-        "put", "put more old", files={"old": b"o\n", "more": b"m" * 513}, before=WITH_OLD,
-        states=[OLD, {"old": (TEXT, 0, b"m" * 513)}],
+        "put_protected", "put more old", (OLD, {"old": (TEXT, 0, LONG)}), disk={"old": (TEXT, 1, b"o\n")},
+        files={"old": b"o\n", "more": LONG, "shell": b"protect old\n"}, before=(*WITH_OLD, "boot < shell"),
     ),
-    About(
-        "put_protected", "put more old", files={"old": b"o\n", "more": b"m" * 513, "shell": b"protect old\n"}, before=(*WITH_OLD, "boot < shell"),
-        states=[{"old": (TEXT, 1, b"o\n")}, OLD, {"old": (TEXT, 0, b"m" * 513)}],
-    ),
-    About("get", "get old back", files={"old": b"o\n"}, before=WITH_OLD, keeps=["back"], kept={"back": b"o\n"}, states=[OLD]),
-    About(
-        "boot", "boot", HEAD + b"> c\na\n" + EDITED + TYPED + TAIL, input=SESSION, before=("newdisk 64",), states=MOMENTS, lines=WITHOUT,
-    ),
+    About("get", "get old back", (Kept("back", b"o\n"),), files={"old": b"o\n"}, before=WITH_OLD, disk=OLD),
+    About("boot", "boot", MOMENTS, input=SESSION, before=("newdisk 64",), lines=WITHOUT),
 ]

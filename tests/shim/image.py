@@ -9,7 +9,7 @@ def number(some):
 
 
 def files_of(disk):
-    """Title, and its kind (1 text, 2 code), whether it is protected, and its bytes; or, as text, the first rule that is broken."""
+    """For each title its kind (1 text, 2 code), 1 if it is protected, and its bytes; or, as text, the first broken rule."""
     disk = disk or b""
     blocks = [disk[at : at + 512] for at in range(0, len(disk) // 512 * 512, 512)]
     if not blocks:
@@ -30,14 +30,15 @@ def files_of(disk):
         entry = blocks[1 + slot // 8][slot % 8 * 64 :][:64]
         if entry == bytes(64):
             continue
-        title, kind, protected, length = entry[:24].rstrip(b" ").decode(errors="replace"), entry[24], entry[25], number(entry[30:34])
+        title, kind, protected = entry[:24].rstrip(b" ").decode(errors="replace"), entry[24], entry[25]
+        first, second, length = number(entry[26:28]), number(entry[28:30]), number(entry[30:34])
         pages = (length + 511) // 512
-        good = re.fullmatch("[A-Za-z][A-Za-z0-9_]{0,23}", title) and kind in (1, 2) and protected in (0, 1) and length <= 261120
-        if not good or entry[34:] != bytes(30) or title in files or (pages > 255) != (number(entry[28:30]) != 0):
+        good = re.fullmatch("[A-Za-z][A-Za-z0-9_]{0,23}", title) and kind in (1, 2) and protected in (0, 1)
+        if not good or length > 261120 or entry[34:] != bytes(30) or title in files or (pages > 255) != (second != 0):
             return f"entry {slot}"
         some = b""
         try:
-            for map_block, count in ((number(entry[26:28]), min(pages, 255)), (number(entry[28:30]), pages - 255)):
+            for map_block, count in ((first, min(pages, 255)), (second, pages - 255)):
                 if map_block == 0 and count <= 0:
                     continue
                 listed = use(map_block)

@@ -14,6 +14,7 @@
 #include <stdio.h>
 #include <stdlib.h>
 #include <string.h>
+#include <sys/file.h>
 #include <sys/stat.h>
 #include <sys/syscall.h>
 #include <sys/uio.h>
@@ -162,6 +163,7 @@ ssize_t readv(int file, const struct iovec *parts, int count) {
   return syscall(SYS_readv, file, parts, count);
 }
 
+int flock(int file, int how) { return fails("lock", name_of(file)) ? -1 : (int)syscall(SYS_flock, file, how); }
 int fsync(int file) { return fails("sync", name_of(file)) ? -1 : (int)syscall(SYS_fsync, file); }
 int fdatasync(int file) { return fails("sync", name_of(file)) ? -1 : (int)syscall(SYS_fdatasync, file); }
 int ftruncate(int file, off_t size) { return fails("truncate", name_of(file)) ? -1 : (int)syscall(SYS_ftruncate, file, size); }
