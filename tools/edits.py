@@ -1,14 +1,14 @@
 #!/usr/bin/env python3
 """Tries wrong bodies: each file crates/NAME/edits/*.edit must be refused by the prover, at the function that it names.
 
-usage: tools/edits.py [--jobs N] [NAME..]    all of them, or those of some crates; as many side by side as there are processors
+usage: tools/edits.py [--as-built] [--jobs N] [NAME..]    all of them, or those of some crates, N side by side (as many as processors)
 
 An edit is as those in must-fail/: a line `file: PATH`, then pairs of lines `old: TEXT` and `new: TEXT`, each old text once in
 that file. Its first line is `function: PATH`, a function of the crate as a check names it. Only that function is checked, and
 what it calls, on a copy of the crate; an edit in must-fail/ has the whole crate checked. So dear crates have theirs here.
 
-The libraries below the crate are those in their out/ folders, which `rt ci` and `rt lib` leave there. Ends with 1 where an edit
-is not refused, or cannot be tried.
+The libraries below the crate are those in their out/ folders, where `rt ci` leaves them. One that is not there is built first;
+with --as-built the crate's edits are skipped, and a line says so. Ends with 1 where an edit is not refused, or cannot be tried.
 """
 import concurrent.futures
 import glob
@@ -93,12 +93,27 @@ def tried(crate, edit):
     return well, f"{crate.name}/{os.path.basename(edit)}: {why}"
 
 
+def edits_of(crate):
+    return sorted(glob.glob(f"{crate.folder}/edits/*.edit"))
+
+
+def is_ready(crate, as_built):
+    """Whether the libraries below the crate are there."""
+    lacking = [it for it in crate.below() if not os.path.isdir(it.rlib)]
+    if as_built and lacking:
+        print(f"edits: those of {crate.name} are skipped: the library {lacking[0].name} is not in its out/", flush=True)
+        return False
+    return not any(it.build_rlib(["--jobs", "1"], anew=False) for it in lacking)
+
+
 def main(words):
+    as_built = words[:1] == ["--as-built"]
+    words = words[as_built:]
     jobs = os.cpu_count() or 1
     if words[:1] == ["--jobs"]:
         jobs, words = int(words[1]), words[2:]
-    crates = [it for it in rtlib.crates_below(TOP) if not words or it.name in words]
-    tasks = [(crate, edit) for crate in crates for edit in sorted(glob.glob(f"{crate.folder}/edits/*.edit"))]
+    crates = [it for it in rtlib.crates_below(TOP) if (not words or it.name in words) and edits_of(it)]
+    tasks = [(crate, edit) for crate in crates if is_ready(crate, as_built) for edit in edits_of(crate)]
     failed = 0
     with concurrent.futures.ThreadPoolExecutor(jobs) as pool:
         for well, line in pool.map(lambda it: tried(*it), tasks):
