@@ -127,7 +127,7 @@ note_rows =
     ∷ record (asking (kind.Comma ∷ []) (kind.Semicolon ∷ []) (codes "a semicolon stands between two groups of names, as in a: int; b: char."))
     { not_these = kind.End ∷ [] }
     ∷ record (asking (kind.Semicolon ∷ []) (kind.Comma ∷ []) (codes "a comma stands between two arguments, and ')' after the last one."))
-    { inside = kind.Open ∷ kind.OpenBracket ∷ [] }
+    { inside = kind.Open ∷ kind.OpenBracket ∷ []; not_these = kind.Colon ∷ [] }
     ∷ record (asking (kind.Close ∷ []) [] (codes "a heading or a call without parameters has no parentheses.")) { last = kind.Open ∷ [] }
     ∷ record (asking (kind.Else ∷ kind.Also ∷ []) [] (codes "one 'end' stands after the last branch, and none before 'else' or 'also'."))
     { last = kind.End ∷ [] }
@@ -136,7 +136,8 @@ note_rows =
     ∷ asking (kind.End_of_text ∷ []) (kind.End ∷ []) (codes "each 'begin', 'if', 'while', 'when' and 'cobegin' has an 'end' of its own.")
     ∷ asking [] (kind.End_of_text ∷ [])
     (codes "the program is one procedure, which has ended here; the other procedures stand in it, before its 'begin'.")
-    ∷ asking (kind.Colon ∷ []) (kind.Equal ∷ []) (codes "a constant has no type of its own, as in const c = 1.")
+    ∷ record (asking (kind.Colon ∷ []) (kind.Equal ∷ []) (codes "a constant has no type of its own, as in const c = 1."))
+    { not_these = kind.Plus ∷ [] }
     ∷ record (asking (kind.Array ∷ kind.Enum ∷ kind.Record ∷ kind.Set ∷ []) (kind.Name ∷ [])
     (codes "here stands the name of a type that is declared before, as in array t [1:10] (int).")) { last = kind.Colon ∷ [] }
     ∷ record (asking [] (kind.Colon ∷ []) (codes "the bounds of an array stand as in [1:10].")) { inside = kind.OpenBracket ∷ [] }
