@@ -71,7 +71,7 @@ def judged(function, status, said):
     last = said[-1] if said else ""
     if status == 0:
         return False, "NOT REFUSED: the function is still proved"
-    refused = [it for it in said if re.match(rf"fn \S*{re.escape(function)}: not proved", it)]
+    refused = [it for it in said if re.match(rf"fn \S*{re.escape(function)}: (not proved|no proof)", it)]
     if status != 1 or not re.match(r"only=\d+ proved=\d+", last) or not refused:
         return False, f"BAD EDIT: the prover has not refused {function}: {last[:200]}"
     return True, "refused, as it must be"
