@@ -1,0 +1,2 @@
+mod Explored
+mod Reading

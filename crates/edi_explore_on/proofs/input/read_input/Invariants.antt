@@ -1,0 +1,11 @@
+use Rattle.std.proofs.Common.{◌≡◌, ◌≤◌, length}
+use Rattle.edi_told.specs.Told.{WhereTold}
+use Rattle.edi_explore_on.specs.Told.{HasTaken}
+use Rattle.edi_explore_on.proofs.input.read_input.Given as goal
+
+abbrev pub invariant-loop-count : goal.invariant-loop-count
+invariant-loop-count g l = record {
+  told : WhereTold (g.S.Source.left l.fn.source) (g.S.Source.left l.source) (HasTaken l.bytes.items);
+  count : length l.bytes.items ≡ l._count;
+  later : g.S.Source.faults l.fn.source ≤ g.S.Source.faults l.source;
+}

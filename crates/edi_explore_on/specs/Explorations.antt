@@ -1,0 +1,96 @@
+-- Definition. THE EXPLORATION OF A TEXT: the endings that choices bring about, and whether these are all. Said of the executions of the text
+-- on a system with an input, without disk and files.
+use Rattle.std.specs.Prelude.{◌≡◌, ℕ, ◌≤◌, List, [], ◌∷◌, length, slice_get, Contains, Some, ⊤}
+use Rattle.edi_calls.specs.Choice.{listed}
+use Rattle.edi_calls.specs.Outcome as outcome
+use Rattle.edi_calls.specs.Outcome.{Ending, Outcome}
+use Rattle.edi_unit.specs.Tree.{ProgramUnit}
+use Rattle.edi_texts.specs.Run.{IsRunOf}
+use Rattle.edi_texts.specs.Texts.{IsUnit}
+use Rattle.edi_explored.specs.Reached.{AreAll, AreAllBelow}
+use Rattle.edi_explore.specs.declared.ends.Verdict.{Verdict}
+use Rattle.edi_explore.specs.declared.ends.Verdict.TheVariants as verdict
+use Rattle.edi_explore.specs.Offline.{offline}
+
+-- ---- what is found
+
+-- an ending, with choices that bring it about and the turns that this takes
+pub record Reached : Type 0 where
+  pub ending : Ending
+  pub choices : List ℕ
+  pub turns : ℕ
+
+-- the endings in the order in which they were found, whether these are all, and how many states were met
+pub record Findings : Type 0 where
+  pub endings : List Reached
+  pub verdict : Verdict
+  pub states : ℕ
+
+abbrev pub endings_in : List Reached → List Ending
+endings_in [] = []
+endings_in (one ∷ found) = one.ending ∷ endings_in found
+
+-- the turns that an execution may have which is recorded, and its choices
+abbrev pub most_turns : ℕ
+most_turns = 1000000000
+
+abbrev pub most_choices : ℕ
+most_choices = 65536
+
+-- An ending that is found: no bound has cut the execution, and no instruction was without a meaning.
+abbrev pub IsFound : Ending → Type 0
+IsFound outcome.done = ⊤
+IsFound (outcome.halted line) = ⊤
+IsFound (outcome.failed why line) = ⊤
+IsFound outcome.turns = ⊥
+IsFound outcome.standstill = ⊤
+IsFound (outcome.bad address) = ⊥
+
+-- THESE CHOICES BRING IT ABOUT: the execution of the text that they select ends so, after so many turns. After the end of the list each choice
+-- is 0.
+pub record IsReachedBy (text input : List ℕ) (one : Reached) : Type 0 where
+  pub outcome : Outcome
+  pub run : IsRunOf text (offline input) most_turns (listed one.choices) outcome
+  pub ending_is : outcome.ending ≡ one.ending
+  pub turns_is : outcome.turns ≡ one.turns
+  pub found : IsFound one.ending
+  pub few : length one.choices ≤ most_choices
+
+-- no ending is found twice
+abbrev pub AreDistinct : List Reached → Type 0
+AreDistinct found = (i j : ℕ) (a b : Reached) → slice_get found i ≡ Some a → slice_get found j ≡ Some b → a.ending ≡ b.ending → i ≡ j
+
+-- ---- whether they are all
+
+-- THESE ARE ALL ENDINGS of the text: whatever the choices are, and whatever the bound on the turns, its execution ends in one of these ways, or
+-- the bound cuts it. An execution that goes on for ever is cut by each bound: that there is none is not said.
+pub record AreAllOf (text input : List ℕ) (endings : List Ending) : Type 0 where
+  pub unit : ProgramUnit
+  pub unit_is : IsUnit text unit
+  pub all : AreAll unit (offline input) endings
+
+-- These are all endings of the executions that have fewer moves.
+pub record AreAllOfBelow (moves : ℕ) (text input : List ℕ) (endings : List Ending) : Type 0 where
+  pub unit : ProgramUnit
+  pub unit_is : IsUnit text unit
+  pub below : AreAllBelow moves unit (offline input) endings
+
+-- what a verdict says
+abbrev pub Says : Verdict → (text input : List ℕ) → List Ending → Type 0
+Says verdict.All text input endings = AreAllOf text input endings
+Says (verdict.Full moves) text input endings = AreAllOfBelow moves text input endings
+Says (verdict.Cut moves) text input endings = AreAllOfBelow moves text input endings
+Says (verdict.Unrecorded moves) text input endings = AreAllOfBelow moves text input endings
+Says (verdict.NoMemory moves) text input endings = AreAllOfBelow moves text input endings
+
+-- `Full` is answered only where at least so many states were met.
+abbrev pub IsFullOnlyAt : (most : ℕ) → Verdict → (states : ℕ) → Type 0
+IsFullOnlyAt most (verdict.Full moves) states = most ≤ states
+IsFullOnlyAt most _ states = ⊤
+
+-- THE EXPLORATION: what was found of a text with an input, where so many states may be kept
+pub record IsExplorationOf (text input : List ℕ) (most_states : ℕ) (findings : Findings) : Type 0 where
+  pub reached : (one : Reached) → Contains findings.endings one → IsReachedBy text input one
+  pub distinct : AreDistinct findings.endings
+  pub says : Says findings.verdict text input (endings_in findings.endings)
+  pub full : IsFullOnlyAt most_states findings.verdict findings.states

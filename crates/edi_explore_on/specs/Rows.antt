@@ -1,0 +1,99 @@
+-- Computed rows. Lines that are shown of explorations, and the statuses by which they are told.
+use Rattle.std.specs.Prelude.{◌≡◌, ℕ, List, [], ◌∷◌, ◌++◌, codes, replicate, refl}
+use Rattle.std.specs.Fmt.{digits}
+use Rattle.edi_calls.specs.Outcome as outcome
+use Rattle.edi_calls.specs.Outcome.{Ending}
+use Rattle.edi_calls.specs.declared.kinds.Cause.TheVariants as cause
+use Rattle.edi_explore.specs.declared.ends.Verdict.{Verdict}
+use Rattle.edi_explore.specs.declared.ends.Verdict.TheVariants as verdict
+use Rattle.edi_explore_on.specs.declared.summary.Summary.TheVariants as summary
+use Rattle.edi_explore_on.specs.Explorations.{Findings, Reached}
+use Rattle.edi_explore_on.specs.Lines.{choices_text, ending_line, numbers_text, report_text, summary_of, verdict_line}
+
+abbrev pub reached : Ending → (choices : List ℕ) → (turns : ℕ) → Reached
+reached ending choices turns = record { ending = ending; choices = choices; turns = turns }
+
+abbrev pub found : List Reached → Verdict → (states : ℕ) → Findings
+found endings v states = record { endings = endings; verdict = v; states = states }
+
+-- ---- endings
+
+pub row_done : ending_line (reached outcome.done [] 13) ≡ codes "done after 13 turns: no choices\n"
+unfolding digits
+row_done = refl
+
+pub row_one_choice : ending_line (reached outcome.standstill (4 ∷ []) 1) ≡ codes "standstill after 1 turn: choices 4\n"
+unfolding digits
+row_one_choice = refl
+
+pub row_halted : ending_line (reached (outcome.halted 18) (230 ∷ 15 ∷ []) 1000) ≡ codes "line 18 halt after 1000 turns: choices 230 15\n"
+unfolding digits
+row_halted = refl
+
+pub row_failed : ending_line (reached (outcome.failed cause.Range 12) (4 ∷ 0 ∷ []) 57) ≡ codes "line 12 range after 57 turns: choices 4 0\n"
+unfolding digits
+row_failed = refl
+
+-- a hundred choices are shown whole
+pub row_hundred : choices_text (replicate 100 7) ≡ codes "choices" ++ numbers_text (replicate 100 7)
+row_hundred = refl
+
+-- and a hundred of more
+pub row_more : choices_text (replicate 100 7 ++ 8 ∷ []) ≡ codes "choices" ++ (numbers_text (replicate 100 7) ++ codes " .. (101 in all)")
+unfolding digits
+row_more = refl
+
+-- ---- whole reports
+
+pub row_both : report_text (found (reached outcome.standstill [] 62 ∷ reached outcome.done (4 ∷ 0 ∷ []) 81 ∷ []) verdict.All 45)
+    ≡ codes "standstill after 62 turns: no choices\ndone after 81 turns: choices 4 0\nthese are all endings: 45 states\n"
+unfolding digits
+row_both = refl
+
+pub row_only : report_text (found (reached outcome.done [] 2 ∷ []) verdict.All 1) ≡ codes "done after 2 turns: no choices\nthis is the only ending: 1 state\n"
+unfolding digits
+row_only = refl
+
+pub row_none : report_text (found [] verdict.All 2) ≡ codes "every execution goes on for ever: 2 states\n"
+unfolding digits
+row_none = refl
+
+pub row_full : verdict_line (found [] (verdict.Full 12) 1000001)
+    ≡ codes "not all, because --states allows no more; every execution of fewer than 12 moves was followed: 1000001 states\n"
+unfolding digits
+row_full = refl
+
+pub row_cut : verdict_line (found [] (verdict.Cut 1) 5)
+    ≡ codes "not all, because a process goes on for more turns than --turns allows; every execution of fewer than 1 move was followed: 5 states\n"
+unfolding digits
+row_cut = refl
+
+-- nothing is said of executions of fewer than no move
+pub row_cut_at_once : verdict_line (found [] (verdict.Cut 0) 1) ≡ codes "not all, because a process goes on for more turns than --turns allows: 1 state\n"
+unfolding digits
+row_cut_at_once = refl
+
+pub row_unrecorded : verdict_line (found [] (verdict.Unrecorded 0) 1) ≡ codes "not all, because an ending has no record: 1 state\n"
+unfolding digits
+row_unrecorded = refl
+
+pub row_no_memory : verdict_line (found [] (verdict.NoMemory 0) 1) ≡ codes "not all, because memory ran out: 1 state\n"
+unfolding digits
+row_no_memory = refl
+
+-- ---- statuses
+
+pub row_fine : summary_of (found (reached outcome.done [] 2 ∷ []) verdict.All 1) ≡ summary.Fine
+row_fine = refl
+
+-- where no execution ends, there is no fault to be told
+pub row_for_ever : summary_of (found [] verdict.All 2) ≡ summary.Fine
+row_for_ever = refl
+
+pub row_not_all : summary_of (found (reached outcome.done [] 2 ∷ []) (verdict.Full 3) 9) ≡ summary.NotAll
+row_not_all = refl
+
+-- other endings come first, whether they are all or not
+pub row_found : summary_of (found (reached outcome.standstill [] 2 ∷ reached outcome.done [] 3 ∷ reached (outcome.halted 1) [] 4 ∷ []) (verdict.Cut 3) 9)
+    ≡ summary.Found 2
+row_found = refl

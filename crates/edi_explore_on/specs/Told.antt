@@ -1,0 +1,31 @@
+-- Words of contracts. What a report of the search finds, as plain data; and what reading an input takes of it.
+use Rattle.std.specs.Prelude.{◌≡◌, ℕ, ◌<◌, ◌≤◌, List, [], ◌++◌, length, map, Result, Ok, Err}
+use Rattle.std.specs.Global.{Vec}
+use Rattle.edi_timeline.specs.Told.{meant}
+use Rattle.edi_explore.specs.declared.ends.Found as code_found
+use Rattle.edi_explore.specs.declared.ends.Report as code_report
+use Rattle.edi_explore_on.specs.declared.input.InputFault.{InputFault}
+use Rattle.edi_explore_on.specs.declared.input.InputFault.TheVariants as fault
+use Rattle.edi_explore_on.specs.Explorations.{Findings, Reached}
+use Rattle.edi_explore_on.specs.Input.{most_input}
+
+abbrev pub reached_of : code_found.Found → Reached
+reached_of f = record { ending = meant f.ending; choices = f.choices.items; turns = f.turns }
+
+abbrev pub findings_of : code_report.Report → Findings
+findings_of r = record { endings = map reached_of r.found.items; verdict = r.verdict; states = r.states }
+
+-- these first bytes of an input were taken
+abbrev pub HasTaken : (taken old new : List ℕ) → Type 0
+HasTaken taken old new = old ≡ taken ++ new
+
+-- some were
+abbrev pub HasTakenSome : (old new : List ℕ) → Type 0
+HasTakenSome old new = (taken : List ℕ) × HasTaken taken old new
+
+-- from the bytes that were left of an input before it was read to those left after
+abbrev pub Reads : Result (Vec ℕ) InputFault → List ℕ → List ℕ → Type 0
+Reads (Ok bytes) old new = (old ≡ bytes.items) × (new ≡ []) × (length old ≤ most_input)
+Reads (Err fault.TooLong) old new = (most_input < length old) × HasTakenSome old new
+Reads (Err fault.Failed) old new = HasTakenSome old new
+Reads (Err fault.NoMemory) old new = HasTakenSome old new

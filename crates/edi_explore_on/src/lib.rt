@@ -1,0 +1,14 @@
+//! A text that is explored: all its endings, in the words of the text; whether its program asks for input, and that input; and the lines that
+//! tell the report.
+#![tactic(auto)]
+
+mod input;
+mod lines;
+mod summary;
+mod text;
+mod words;
+
+pub use input::{InputFault, MOST_INPUT, names_accept, read_input};
+pub use lines::report_text;
+pub use summary::{Summary, sum_up};
+pub use text::explore_text;

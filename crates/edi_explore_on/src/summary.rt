@@ -1,0 +1,64 @@
+//! How a report is told by a status.
+
+ghost use Rattle.std.specs.Prelude.{◌≡◌, map};
+ghost use Rattle.edi_timeline.specs.Told.{meant};
+ghost use Rattle.edi_explore_on.specs.Lines as spec;
+ghost use Rattle.edi_explore_on.specs.Told.{findings_of, reached_of};
+
+use edi_explore::{Found, Report, Verdict};
+use edi_kernel::Ending;
+
+/// What was found, in short.
+#[derive(Clone, Copy, Debug, PartialEq, Eq, Drop)]
+pub enum Summary {
+    /// Each ending is `done`, and these are all.
+    Fine,
+    /// Each ending that was found is `done`, and these are perhaps not all.
+    NotAll,
+    /// There are so many other endings, whether they are all or not. The number is greater than 0.
+    Found(usize),
+}
+
+/// Whether an ending is `done`.
+fn is_done(ending: Ending) -> bool
+    ensures { result ≡ spec.is_done (meant ending) }
+{
+    match ending {
+        Ending::Done => true,
+        Ending::Halted(_)
+        | Ending::Failed(_, _)
+        | Ending::Turns
+        | Ending::Standstill
+        | Ending::Bad(_)
+        | Ending::Fault => false,
+    }
+}
+
+/// How many endings are not `done`.
+fn others_in(endings: &[Found]) -> usize
+    ensures { result ≡ spec.others_in (map reached_of endings.now) }
+{
+    let mut others: usize = 0;
+    for found in endings {
+        if !is_done(found.ending) {
+            others += 1;
+        }
+    }
+    others
+}
+
+/// A report in short.
+pub fn sum_up(report: &Report) -> Summary
+    ensures { result ≡ spec.summary_of (findings_of report.now) }
+{
+    let others = others_in(&report.found);
+    if others > 0 {
+        return Summary::Found(others);
+    }
+    match report.verdict {
+        Verdict::All => Summary::Fine,
+        Verdict::Full(_) | Verdict::Cut(_) | Verdict::Unrecorded(_) | Verdict::NoMemory(_) => {
+            Summary::NotAll
+        }
+    }
+}
