@@ -1,5 +1,5 @@
 -- What a search reports of the code of a text, in the words of the text.
-use Rattle.std.proofs.Common.{◌≡◌, ℕ, zero, suc, ◌≤◌, List, [], ◌∷◌, length, map, Contains, Some, refl, sym, ap, subst, ◌∙◌, arith}
+use Rattle.std.proofs.Common.{◌≡◌, ℕ, zero, suc, ◌≤◌, List, [], ◌∷◌, map, Contains, Some, refl, sym, ap, subst, ◌∙◌, arith}
 use Rattle.std.specs.Prelude.{slice_get}
 use Rattle.edi_calls.specs.Outcome as outcome
 use Rattle.edi_kernel.specs.declared.ends.Ending.{Ending}
@@ -20,7 +20,7 @@ use Rattle.edi_explore.specs.Offline.{offline}
 use Rattle.edi_explore.specs.Verdicts.{IsUpTo}
 use Rattle.edi_explore.proofs.Findings.{contains_at}
 use Rattle.edi_explore.proofs.Keying.{some_is}
-use Rattle.edi_explore_on.specs.Explorations.{AreDistinct, Findings, IsExplorationOf, IsFound, IsFullOnlyAt, IsReachedBy, Reached, Says, endings_in}
+use Rattle.edi_explore_on.specs.Explorations.{AreDistinct, IsExplorationOf, IsFound, IsFullOnlyAt, IsReachedBy, Reached, Says, endings_in}
 use Rattle.edi_explore_on.specs.Told.{reached_of}
 
 -- ---- endings
@@ -35,7 +35,7 @@ meant_is ending.Standstill end h = some_is h
 meant_is (ending.Bad at) end h = some_is h
 meant_is ending.Fault end h = absurd (cc)
 
-back : outcome.Ending → Ending
+abbrev back : outcome.Ending → Ending
 back outcome.done = ending.Done
 back (outcome.halted line) = ending.Halted line
 back (outcome.failed cause line) = ending.Failed cause line

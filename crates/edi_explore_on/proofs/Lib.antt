@@ -1,2 +1,3 @@
 mod Explored
 mod Reading
+mod Runs

@@ -1,6 +1,8 @@
 pub mod Explorations
 pub mod Input
+pub mod Laws
 pub mod Lines
+pub mod Records
+pub mod Rows
 pub mod Shown
 pub mod Told
-pub mod Rows
