@@ -55,26 +55,25 @@ abbrev pub ending_lines : List Reached → List ℕ
 ending_lines [] = []
 ending_lines (one ∷ found) = ending_line one ++ ending_lines found
 
--- where so many endings are all
-abbrev pub all_text : ℕ → List ℕ
+-- Where all executions were followed: none ends otherwise. That those of which an ending was found end is not said.
+abbrev pub all_text : (found : ℕ) → List ℕ
 all_text zero = codes "every execution goes on for ever"
-all_text (suc zero) = codes "this is the only ending"
-all_text (suc (suc n)) = codes "these are all endings"
+all_text (suc n) = codes "no execution ends otherwise"
 
--- where not all executions were followed, but those of fewer moves
+-- Where not all were followed there may be other endings: not of the executions of fewer moves.
 abbrev pub below_text : ℕ → List ℕ
 below_text n = if n == 0 then [] else codes "; every execution of fewer than " ++ (moves_text n ++ codes " was followed")
 
 abbrev pub verdict_text : Verdict → (found : ℕ) → List ℕ
 verdict_text verdict.All found = all_text found
-verdict_text (verdict.Full moves) found = codes "not all, because --states allows no more" ++ below_text moves
-verdict_text (verdict.Cut moves) found = codes "not all, because a process goes on for more turns than --turns allows" ++ below_text moves
-verdict_text (verdict.Unrecorded moves) found = codes "not all, because an ending has no record" ++ below_text moves
-verdict_text (verdict.NoMemory moves) found = codes "not all, because memory ran out" ++ below_text moves
+verdict_text (verdict.Full moves) found = codes "perhaps not all: --states allows no more" ++ below_text moves
+verdict_text (verdict.Cut moves) found = codes "perhaps not all: a process goes on for more turns than --turns allows" ++ below_text moves
+verdict_text (verdict.Unrecorded moves) found = codes "perhaps not all: an ending has no record" ++ below_text moves
+verdict_text (verdict.NoMemory moves) found = codes "perhaps not all: memory ran out" ++ below_text moves
 
 -- the last line
 abbrev pub verdict_line : Findings → List ℕ
-verdict_line f = verdict_text f.verdict (length f.endings) ++ (codes ": " ++ (states_text f.states ++ codes "\n"))
+verdict_line f = verdict_text f.verdict (length f.endings) ++ (codes "; " ++ (states_text f.states ++ codes "\n"))
 
 -- THE LINES
 abbrev pub report_text : Findings → List ℕ
@@ -91,14 +90,19 @@ abbrev pub others_in : List Reached → ℕ
 others_in [] = 0
 others_in (one ∷ found) = if is_done one.ending then others_in found else suc (others_in found)
 
-abbrev pub summary_without : Verdict → Summary
-summary_without verdict.All = summary.Fine
-summary_without _ = summary.NotAll
+-- where all executions were followed, and so many endings were found
+abbrev pub summary_all : (found : ℕ) → Summary
+summary_all zero = summary.Endless
+summary_all (suc n) = summary.Fine
 
--- endings other than `done`, all or not; else whether all executions were followed
-abbrev pub summary_with : ℕ → Verdict → Summary
-summary_with zero v = summary_without v
-summary_with (suc n) v = summary.Found (suc n)
+abbrev pub summary_without : Verdict → (found : ℕ) → Summary
+summary_without verdict.All found = summary_all found
+summary_without _ found = summary.NotAll
+
+-- Endings other than `done` come first, all or not; then whether all executions were followed.
+abbrev pub summary_with : (others : ℕ) → Verdict → (found : ℕ) → Summary
+summary_with zero v found = summary_without v found
+summary_with (suc n) v found = summary.Found (suc n)
 
 abbrev pub summary_of : Findings → Summary
-summary_of f = summary_with (others_in f.endings) f.verdict
+summary_of f = summary_with (others_in f.endings) f.verdict (length f.endings)

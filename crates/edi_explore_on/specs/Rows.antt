@@ -46,38 +46,38 @@ row_more = refl
 -- ---- whole reports
 
 pub row_both : report_text (found (reached outcome.standstill [] 62 ∷ reached outcome.done (4 ∷ 0 ∷ []) 81 ∷ []) verdict.All 45)
-    ≡ codes "standstill after 62 turns: no choices\ndone after 81 turns: choices 4 0\nthese are all endings: 45 states\n"
+    ≡ codes "standstill after 62 turns: no choices\ndone after 81 turns: choices 4 0\nno execution ends otherwise; 45 states\n"
 unfolding digits
 row_both = refl
 
-pub row_only : report_text (found (reached outcome.done [] 2 ∷ []) verdict.All 1) ≡ codes "done after 2 turns: no choices\nthis is the only ending: 1 state\n"
+pub row_only : report_text (found (reached outcome.done [] 2 ∷ []) verdict.All 1) ≡ codes "done after 2 turns: no choices\nno execution ends otherwise; 1 state\n"
 unfolding digits
 row_only = refl
 
-pub row_none : report_text (found [] verdict.All 2) ≡ codes "every execution goes on for ever: 2 states\n"
+pub row_none : report_text (found [] verdict.All 2) ≡ codes "every execution goes on for ever; 2 states\n"
 unfolding digits
 row_none = refl
 
 pub row_full : verdict_line (found [] (verdict.Full 12) 1000001)
-    ≡ codes "not all, because --states allows no more; every execution of fewer than 12 moves was followed: 1000001 states\n"
+    ≡ codes "perhaps not all: --states allows no more; every execution of fewer than 12 moves was followed; 1000001 states\n"
 unfolding digits
 row_full = refl
 
 pub row_cut : verdict_line (found [] (verdict.Cut 1) 5)
-    ≡ codes "not all, because a process goes on for more turns than --turns allows; every execution of fewer than 1 move was followed: 5 states\n"
+    ≡ codes "perhaps not all: a process goes on for more turns than --turns allows; every execution of fewer than 1 move was followed; 5 states\n"
 unfolding digits
 row_cut = refl
 
 -- nothing is said of executions of fewer than no move
-pub row_cut_at_once : verdict_line (found [] (verdict.Cut 0) 1) ≡ codes "not all, because a process goes on for more turns than --turns allows: 1 state\n"
+pub row_cut_at_once : verdict_line (found [] (verdict.Cut 0) 1) ≡ codes "perhaps not all: a process goes on for more turns than --turns allows; 1 state\n"
 unfolding digits
 row_cut_at_once = refl
 
-pub row_unrecorded : verdict_line (found [] (verdict.Unrecorded 0) 1) ≡ codes "not all, because an ending has no record: 1 state\n"
+pub row_unrecorded : verdict_line (found [] (verdict.Unrecorded 0) 1) ≡ codes "perhaps not all: an ending has no record; 1 state\n"
 unfolding digits
 row_unrecorded = refl
 
-pub row_no_memory : verdict_line (found [] (verdict.NoMemory 0) 1) ≡ codes "not all, because memory ran out: 1 state\n"
+pub row_no_memory : verdict_line (found [] (verdict.NoMemory 0) 1) ≡ codes "perhaps not all: memory ran out; 1 state\n"
 unfolding digits
 row_no_memory = refl
 
@@ -86,9 +86,13 @@ row_no_memory = refl
 pub row_fine : summary_of (found (reached outcome.done [] 2 ∷ []) verdict.All 1) ≡ summary.Fine
 row_fine = refl
 
--- where no execution ends, there is no fault to be told
-pub row_for_ever : summary_of (found [] verdict.All 2) ≡ summary.Fine
+-- that no execution ends is told by a status of its own
+pub row_for_ever : summary_of (found [] verdict.All 2) ≡ summary.Endless
 row_for_ever = refl
+
+-- but not where they were not all followed
+pub row_nothing : summary_of (found [] (verdict.NoMemory 0) 2) ≡ summary.NotAll
+row_nothing = refl
 
 pub row_not_all : summary_of (found (reached outcome.done [] 2 ∷ []) (verdict.Full 3) 9) ≡ summary.NotAll
 row_not_all = refl

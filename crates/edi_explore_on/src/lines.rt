@@ -31,16 +31,15 @@ fn put_endings(out: &mut Vec<u8>, endings: &[Found]) -> Result<(), AllocError>
     Ok(())
 }
 
-// Puts which endings are all, where so many are.
+// Puts that no execution ends otherwise than in one of so many ways.
 fn put_all(out: &mut Vec<u8>, endings: usize) -> Result<(), AllocError>
     ensures exact { OnOk result (out.new.items ≡ out.old.items ++ spec.all_text endings) }
 {
-    let text: &[u8] = match endings {
-        0 => b"every execution goes on for ever",
-        1 => b"this is the only ending",
-        _ => b"these are all endings",
-    };
-    out.extend_from_slice(text)?;
+    if endings == 0 {
+        out.extend_from_slice(b"every execution goes on for ever")?;
+        return Ok(());
+    }
+    out.extend_from_slice(b"no execution ends otherwise")?;
     Ok(())
 }
 
@@ -58,24 +57,24 @@ fn put_below(out: &mut Vec<u8>, why: &[u8], moves: usize) -> Result<(), AllocErr
     Ok(())
 }
 
-// Puts whether so many endings are all.
+// Puts whether there are others than so many endings.
 fn put_verdict(out: &mut Vec<u8>, verdict: Verdict, endings: usize) -> Result<(), AllocError>
     ensures exact { OnOk result (out.new.items ≡ out.old.items ++ spec.verdict_text verdict endings) }
 {
     match verdict {
         Verdict::All => put_all(out, endings),
         Verdict::Full(moves) => {
-            put_below(out, b"not all, because --states allows no more", moves)
+            put_below(out, b"perhaps not all: --states allows no more", moves)
         }
         Verdict::Cut(moves) => put_below(
             out,
-            b"not all, because a process goes on for more turns than --turns allows",
+            b"perhaps not all: a process goes on for more turns than --turns allows",
             moves,
         ),
         Verdict::Unrecorded(moves) => {
-            put_below(out, b"not all, because an ending has no record", moves)
+            put_below(out, b"perhaps not all: an ending has no record", moves)
         }
-        Verdict::NoMemory(moves) => put_below(out, b"not all, because memory ran out", moves),
+        Verdict::NoMemory(moves) => put_below(out, b"perhaps not all: memory ran out", moves),
     }
 }
 
@@ -84,14 +83,14 @@ fn put_end(out: &mut Vec<u8>, report: &Report) -> Result<(), AllocError>
     ensures exact { OnOk result (out.new.items ≡ out.old.items ++ spec.verdict_line (findings_of report.now)) }
 {
     put_verdict(out, report.verdict, report.found.len())?;
-    out.extend_from_slice(b": ")?;
+    out.extend_from_slice(b"; ")?;
     put_states(out, report.states as u64)?;
     out.extend_from_slice(b"\n")?;
     Ok(())
 }
 
 /// The lines of a report: one for each ending in the order in which they were found, as `line 12 range after 57 turns: choices 4 0`, and one
-/// that says whether these are all, as `these are all endings: 45 states`. The only error is want of memory.
+/// that says whether there are others, as `no execution ends otherwise; 45 states`. The only error is want of memory.
 pub fn report_text(alloc: Global, report: &Report) -> Result<Vec<u8>, AllocError>
     ensures exact { IfOk result (λ text. text.items ≡ spec.report_text (findings_of report.now)) }
 {

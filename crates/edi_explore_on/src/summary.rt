@@ -11,9 +11,11 @@ use edi_kernel::Ending;
 /// What was found, in short.
 #[derive(Clone, Copy, Debug, PartialEq, Eq, Drop)]
 pub enum Summary {
-    /// Each ending is `done`, and these are all.
+    /// Each execution that ends is `done`, and there is one. That each ends is not said.
     Fine,
-    /// Each ending that was found is `done`, and these are perhaps not all.
+    /// No execution ends.
+    Endless,
+    /// Each ending that was found is `done`, or none was found. There may be others.
     NotAll,
     /// There are so many other endings, whether they are all or not. The number is greater than 0.
     Found(usize),
@@ -47,6 +49,16 @@ fn others_in(endings: &[Found]) -> usize
     others
 }
 
+/// What is said where all executions were followed, and so many endings were found.
+fn sum_up_all(found: usize) -> Summary
+    ensures { result ≡ spec.summary_all found }
+{
+    if found == 0 {
+        return Summary::Endless;
+    }
+    Summary::Fine
+}
+
 /// A report in short.
 pub fn sum_up(report: &Report) -> Summary
     ensures { result ≡ spec.summary_of (findings_of report.now) }
@@ -56,7 +68,7 @@ pub fn sum_up(report: &Report) -> Summary
         return Summary::Found(others);
     }
     match report.verdict {
-        Verdict::All => Summary::Fine,
+        Verdict::All => sum_up_all(report.found.len()),
         Verdict::Full(_) | Verdict::Cut(_) | Verdict::Unrecorded(_) | Verdict::NoMemory(_) => {
             Summary::NotAll
         }

@@ -12,11 +12,11 @@ use edi_kernel::Kernel;
 use edi_target::Code;
 use std::alloc::{AllocError, Global};
 
-/// Finds every ending that any choices bring about, for a text with this input and no disk.
+/// Looks for every ending that any choices bring about, for a text with this input and no disk.
 ///
 /// The code is that of the text's unit: `front` gives the unit and `translate` the code. Each ending that is found has choices, which bring it
-/// about in so many turns. The verdict says whether these are all endings, or all of the executions of fewer moves than its number. An
-/// execution that goes on for ever has no ending.
+/// about in so many turns. The verdict says whether no execution ends otherwise, or none of fewer moves than its number. An execution that goes
+/// on for ever has no ending. The kernel holds what the last run has left.
 ///
 /// The only error is that memory ran out before the search: memory that runs out later is a verdict.
 pub fn explore_text(
