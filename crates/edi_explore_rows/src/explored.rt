@@ -11,13 +11,13 @@ use std::alloc::Global;
 use std::process::Abort;
 
 /// Limits that these programs do not reach, but for a stint without end.
-const WIDE: Limits = Limits {
+pub(crate) const WIDE: Limits = Limits {
     states: 1_000,
     turns: 1_000,
 };
 
 // The code of a text.
-fn code_of(rt: &impl Abort, alloc: Global, text: &str) -> Code {
+pub(crate) fn code_of(rt: &impl Abort, alloc: Global, text: &str) -> Code {
     match compile(alloc, text.as_bytes()) {
         Ok(code) => code,
         Err(refusal) => panic!(rt; "{text}: {refusal}"),

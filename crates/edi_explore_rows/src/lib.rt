@@ -4,4 +4,6 @@
 #[cfg(test)]
 mod explored;
 #[cfg(test)]
+mod shown;
+#[cfg(test)]
 mod texts;
