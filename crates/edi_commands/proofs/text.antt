@@ -1,3 +1,4 @@
 pub mod Checked
 pub mod Coded
+pub mod Explained
 pub mod Meaning

@@ -19,7 +19,7 @@ use edi_commands::code::list;
 use edi_commands::disk::{get, new_disk, new_disk_from, put};
 use edi_commands::run::Form::{Code, Text};
 use edi_commands::run::{demonstrate, run_file, walk_file, watch_file};
-use edi_commands::text::{check, compile_file};
+use edi_commands::text::{check, compile_file, explain_file};
 use edi_host::{Drive, Files, Sink, Source};
 use edi_kernel::Kernel;
 use edi_statuses::{Ended, Status, show_status};
@@ -133,6 +133,7 @@ fn perform<F: Files, D: Drive, S: Source, T: Sink, P: Sink>(
             kernel,
         ),
         Command::Check { file } => check(alloc, files, terminal, file),
+        Command::Explain { file } => explain_file(alloc, files, terminal, file),
         Command::Walk {
             file,
             choices,

@@ -8,19 +8,20 @@ use Rattle.edi_words.specs.Words as words
 use Rattle.edi_words.specs.Words.{Command, Options}
 use Rattle.edi_statuses.specs.declared.status.Status.{Status}
 use Rattle.edi_statuses.specs.declared.status.Status.TheVariants as status
-use Rattle.edi_statuses.specs.Outside.{Outside, seen, SameFiles, Lent}
-use Rattle.edi_statuses.specs.Steps.{AfterStep, goes, Ready}
+use Rattle.edi_statuses.specs.Outside.{Outside, seen, Lent}
+use Rattle.edi_statuses.specs.Steps.{AfterStep, goes, Fetches, Ready}
 use Rattle.edi_statuses.specs.Executions.{Runnable, text, code, BrokeRun}
 use Rattle.edi_statuses.specs.Sessions.{BootSteps, EndedUnkept, EndedWhole, HoldsSession}
 use Rattle.edi_statuses.specs.Commands.{Comes, Does, IsDone, IsNothing, OnlyKeeps, OnlyBlocks, OnlyShows, ShowsReport, KeepsCode, Runs, AreNew, AreMigrated, ArePut}
 use Rattle.edi_statuses.specs.Commands.{RunSteps, ExecSteps, WatchSteps, Watches, TextSteps, OldSteps, PutSteps, GetSteps, ListSteps, DemoSteps}
-use Rattle.edi_statuses.specs.Commands.{Demonstrates, OnItsOwn, with_own}
-use Rattle.edi_statuses.specs.Broken.{AtRecord, HasBegun, BrokeDemo, RanWhole, RanUnkept, IsOpen, ArePutInPart}
+use Rattle.edi_statuses.specs.Commands.{Demonstrates, Explains, OnItsOwn}
+use Rattle.edi_statuses.specs.Broken.{AtRecord, HasBegun, RanWhole, RanUnkept, IsOpen, ArePutInPart}
 use Rattle.edi_statuses.specs.Means.{ComesToBreak, Means, MeansOf, MeansRefused, Wants}
 use Rattle.edi_statuses.specs.Decided.{with_shown}
 use Rattle.edi_statuses.proofs.Terminal.{StillTold, asks_later, fetch_fails_later, run_later, exec_later, watch_later, text_later, old_later, put_later, get_later, nothing_later, begun_later}
 use Rattle.edi_statuses.proofs.Terminal.{drive_later, keeps_later, blocks_later, code_later, runs_later, whole_later, unkept_later, broke_later}
-use Rattle.edi_statuses.proofs.Terminal.{record_later, does_later, list_later, shows_later, front_later, demo_later}
+use Rattle.edi_statuses.proofs.Terminal.{record_later, does_later, list_later, shows_later, front_later, demo_later, fetches_later}
+use Rattle.edi_statuses.proofs.Demonstrated.{demonstrates_later, own_unkept, own_whole, broke_demo_later}
 use Rattle.edi_statuses.proofs.Watched.{watches_later, watched_wants, watched_broke}
 use Rattle.edi_statuses.proofs.Walked.{walks_later, walked_wants, walked_broke}
 use Rattle.edi_statuses.specs.Walked.{Walks}
@@ -136,66 +137,24 @@ module _ (b m : Outside) (y : Option (List ℕ)) (still : StillTold m.shown y) w
 
   -- ---- the demonstration
 
-  own_later : (P : Outside → Outside → Type 0)
-      → ((disk : List (List ℕ)) (left : List ℕ) → P (with_own [] [] before_) (with_own disk left m) → P (with_own [] [] seen_later) (with_own disk left later_))
-      → OnItsOwn P before_ m → OnItsOwn P seen_later later_
-  own_later P f h = record { disk = h.disk; left = h.left; is = f h.disk h.left h.is; blocks = h.blocks; input = h.input }
-
-  module _ (n bound : ℕ) (choices : Choices) (name : Option (List ℕ)) (kernel : Lent) where
-    abbrev program : Runnable
-    program = text (demo_text n)
-
-    own_runs : (s : Status) (shown : List ℕ) → OnItsOwn (λ a c. Runs program bound choices name s a c shown kernel) before_ m
-        → OnItsOwn (λ a c. Runs program bound choices name s a c shown kernel) seen_later later_
-    own_runs s shown =
-        own_later (λ a c. Runs program bound choices name s a c shown kernel)
-        (λ disk left. runs_later (with_own [] [] b) (with_own disk left m) y still program bound choices name s shown kernel)
-
-    own_whole : (shown : List ℕ) → OnItsOwn (λ a c. RanWhole program bound choices a c shown kernel) before_ m
-        → OnItsOwn (λ a c. RanWhole program bound choices a c shown kernel) seen_later later_
-    own_whole shown =
-        own_later (λ a c. RanWhole program bound choices a c shown kernel)
-        (λ disk left. whole_later (with_own [] [] b) (with_own disk left m) y still program bound choices shown kernel)
-
-    own_unkept : (shown : List ℕ) → OnItsOwn (λ a c. RanUnkept program bound choices a c shown kernel) before_ m
-        → OnItsOwn (λ a c. RanUnkept program bound choices a c shown kernel) seen_later later_
-    own_unkept shown =
-        own_later (λ a c. RanUnkept program bound choices a c shown kernel)
-        (λ disk left. unkept_later (with_own [] [] b) (with_own disk left m) y still program bound choices shown kernel)
-
-    own_broke : (shown : List ℕ) → OnItsOwn (λ a c. SameFiles a c × BrokeRun program bound choices a c shown) before_ m
-        → OnItsOwn (λ a c. SameFiles a c × BrokeRun program bound choices a c shown) seen_later later_
-    own_broke shown =
-        own_later (λ a c. SameFiles a c × BrokeRun program bound choices a c shown)
-        (λ disk left h. (h.0, broke_later (with_own [] [] b) (with_own disk left m) y still program bound choices shown h.1))
-
-    demonstrates_later : (s : Status) (shown : List ℕ) → Demonstrates n bound choices name s before_ m shown kernel
-        → Demonstrates n bound choices name s seen_later later_ shown kernel
-    demonstrates_later s shown h = record { by_program = h.by_program; shown_ = h.shown_; ran = own_runs s h.by_program h.ran }
-
-    broke_demo_later : (shown : List ℕ) → BrokeDemo n bound choices name before_ m shown kernel → BrokeDemo n bound choices name seen_later later_ shown kernel
-    broke_demo_later shown (inl h) = inl (own_broke shown h)
-    broke_demo_later shown (inr h) =
-        inr (record { by_program = h.by_program; line = h.line; front = h.front; shown_ = h.shown_; ran = own_runs status.Ok h.by_program h.ran })
-
   demo_is : (n : ℕ) (options : Options) (shown : List ℕ) (kernel : Lent) → Later (words.demo n options) shown kernel
   demo_is n options shown kernel =
       let steps = demo_later b m y still options.choices in
       record {
         comes = λ s. does_later b m y still (DemoSteps before_ options.choices) (DemoSteps seen_later options.choices)
             (λ v. Demonstrates n options.turns v options.record_file) (λ v. Demonstrates n options.turns v options.record_file) s shown kernel steps
-            (λ v. demonstrates_later n options.turns v options.record_file kernel s shown);
+            (λ v. demonstrates_later b m y still n options.turns v options.record_file kernel s shown);
         wants = wants_later options.record_file (DemoSteps before_ options.choices) (DemoSteps seen_later options.choices)
             (λ v. OnItsOwn (λ a c. RanUnkept (text (demo_text n)) options.turns v a c shown kernel) before_ m)
             (λ v. OnItsOwn (λ a c. RanUnkept (text (demo_text n)) options.turns v a c shown kernel) seen_later later_) shown kernel steps
-            (λ v. own_unkept n options.turns v options.record_file kernel shown);
+            (λ v. own_unkept b m y still n options.turns v options.record_file kernel shown);
         files = record_later b m y still options.record_file (DemoSteps before_ options.choices) (DemoSteps seen_later options.choices)
             (λ v. OnItsOwn (λ a c. RanWhole (text (demo_text n)) options.turns v a c shown kernel) before_ m)
             (λ v. OnItsOwn (λ a c. RanWhole (text (demo_text n)) options.turns v a c shown kernel) seen_later later_) steps
-            (λ v. own_whole n options.turns v options.record_file kernel shown);
+            (λ v. own_whole b m y still n options.turns v options.record_file kernel shown);
         drive = λ h. absurd h;
         input = λ h. absurd h;
-        output = λ h. (h.0, steps (goes h.0) h.1, broke_demo_later n options.turns h.0 options.record_file kernel shown h.2);
+        output = λ h. (h.0, steps (goes h.0) h.1, broke_demo_later b m y still n options.turns h.0 options.record_file kernel shown h.2);
       }
 
   -- ---- a session
@@ -303,6 +262,18 @@ module _ (b m : Outside) (y : Option (List ℕ)) (still : StillTold m.shown y) w
         (h.0, text_later b m y still file (goes h.0) h.1, (h.2.0, h.2.1, front_later b m y still h.2.0 shown kernel h.2.2));
   }
 
+  explain_is : (file shown : List ℕ) (kernel : Lent) → Later (words.explain file) shown kernel
+  explain_is file shown kernel = record {
+    comes = λ s. does_later b m y still (Fetches before_ file) (Fetches seen_later file) Explains Explains s shown kernel (fetches_later b m y still file)
+        (λ bytes h. (h.0, h.1, shows_later b m y still h.0 shown kernel h.2));
+    wants = nothing_later b m y still shown kernel;
+    files = λ h. absurd h;
+    drive = λ h. absurd h;
+    input = λ h. absurd h;
+    output = λ h.
+        (h.0, fetches_later b m y still file (goes h.0) h.1, (h.2.0, h.2.1, h.2.2, front_later b m y still h.2.1 shown kernel h.2.3));
+  }
+
   each_is : (c : Command) (shown : List ℕ) (kernel : Lent) → Later c shown kernel
   each_is (words.run file options) shown kernel = run_is file options shown kernel
   each_is (words.replay file choices turns) shown kernel = replay_is file choices turns shown kernel
@@ -315,6 +286,7 @@ module _ (b m : Outside) (y : Option (List ℕ)) (still : StillTold m.shown y) w
   each_is (words.demo n options) shown kernel = demo_is n options shown kernel
   each_is (words.boot options) shown kernel = boot_is options shown kernel
   each_is (words.check file) shown kernel = check_is file shown kernel
+  each_is (words.explain file) shown kernel = explain_is file shown kernel
   each_is (words.walk file choices turns) shown kernel = walk_is file choices turns shown kernel
   each_is (words.watch file points_file out options) shown kernel = watch_is file points_file out options shown kernel
 

@@ -9,5 +9,6 @@ pub mod Closing
 pub mod EachLeft
 pub mod Silent
 pub mod Causes
+pub mod Demonstrated
 pub mod Watched
 pub mod Walked

@@ -12,18 +12,21 @@ use Rattle.edi_texts.proofs.Executions.{one_outcome}
 use Rattle.edi_unit.specs.Fits.{Fits}
 use Rattle.edi_unit.specs.Tree.{ProgramUnit}
 use Rattle.edi_disjoint.proofs.One.{one_report}
+use Rattle.edi_explain.specs.told.Explained.{IsExplained}
+use Rattle.edi_explain.proofs.told.One.{one_explanation}
 use Rattle.edi_utils.specs.Demo.{demo_text}
 use Rattle.edi_utils.specs.Listing.{listing_of}
 use Rattle.edi_words.specs.Words as words
 use Rattle.edi_words.specs.Words.{ChoicesFrom, Command}
 use Rattle.edi_statuses.specs.declared.status.Status.{Status}
+use Rattle.edi_statuses.specs.declared.status.Status.TheVariants as status
 use Rattle.edi_statuses.specs.Outside.{Outside, Devices, devices_of, system_on, KernelLeft, Lent}
 use Rattle.edi_statuses.specs.Executions.{Runnable, text, code, HasOutcome, HasRun, Ran, status_of}
 use Rattle.edi_statuses.specs.Commands.{Comes, IsDone, OnlyBlocks, OnlyKeeps, OnlyShows, ShowsReport, KeepsCode, Runs, AreNew, AreMigrated, ArePut}
 use Rattle.edi_statuses.specs.Commands.{RunSteps, ExecSteps, WatchSteps, Watches, TextSteps, OldSteps, PutSteps, GetSteps, ListSteps, DemoSteps}
-use Rattle.edi_statuses.specs.Commands.{Demonstrates, size_shown, with_own}
-use Rattle.edi_statuses.specs.Steps.{goes, ◌>>=◌, Accepts, Ready}
-use Rattle.edi_statuses.specs.Walked.{HasWalked, Walks}
+use Rattle.edi_statuses.specs.Commands.{Demonstrates, Explains, IsShownOf, size_shown, with_own}
+use Rattle.edi_statuses.specs.Steps.{goes, ◌>>=◌, Accepts, Fetches, Ready}
+use Rattle.edi_statuses.specs.Walked.{Walks}
 use Rattle.edi_statuses.specs.Decided.{IsTold, OneStatus, is_session}
 use Rattle.edi_statuses.proofs.Walked.{walked_same}
 use Rattle.edi_statuses.proofs.StepLemmas.{IsOne, TextsAreOne, ready_one, then_one, tests_one, fetches_one, choices_one, accepts_one, mounts_one}
@@ -136,6 +139,23 @@ module _ (each : TextsAreOne) (before after behind : Outside) (is_told : IsTold 
   report_one unit fits s t shown bytes kernel other h k =
       (h.0 ∙ sym k.0, h.1.2.shown_ ∙ one_report unit fits h.1.0 k.1.0 h.1.1 k.1.1 ∙ sym k.1.2.shown_)
 
+  -- a text is accepted or refused, and refused so; it has one explanation
+  shown_of_one : (program : List ℕ) (s t : Status) (one other : List ℕ) → IsShownOf program s one → IsShownOf program t other → (s ≡ t) × (one ≡ other)
+  shown_of_one program status.Ok status.Ok one other h k = (refl, h.2 ∙ sym k.2)
+  shown_of_one program status.Ok (status.Refused kind line) one other h k = absurd (each.not_both program k.0.0 kind line h.0 k.0.1 h.1)
+  shown_of_one program (status.Refused kind line) status.Ok one other h k = absurd (each.not_both program h.0.0 kind line k.0 h.0.1 k.1)
+  shown_of_one program (status.Refused kind line) (status.Refused why at) one other h k =
+      let same = each.one_fault program h.0.0 k.0.0 kind why line at h.0.1 k.0.1 in
+      let so : IsExplained program why at one = subst (λ w. IsExplained program w at one) same.1 (subst (λ n. IsExplained program kind n one) same.2 h.1) in
+      ((λ i. status.Refused (same.1 i) (same.2 i)), one_explanation program why at one other so k.1)
+  shown_of_one program status.Ok t one other h k = absurd k
+  shown_of_one program (status.Refused kind line) t one other h k = absurd k
+  shown_of_one program s t one other h k = absurd h
+
+  explains_one : (program : List ℕ) → IsOneEffect before after behind (Explains program)
+  explains_one program s t shown bytes kernel other h k =
+      let same = shown_of_one program s t h.0 k.0 h.1 k.1 in (same.0, h.2.shown_ ∙ same.1 ∙ sym k.2.shown_)
+
   code_one : (out bytes_ : List ℕ) → IsOneEffect before after behind (IsDone (KeepsCode out bytes_))
   code_one out bytes_ s t shown bytes kernel other h k = (h.0 ∙ sym k.0, h.1.keeps.shown_ ∙ sym k.1.keeps.shown_)
 
@@ -222,6 +242,8 @@ module _ (each : TextsAreOne) (before after behind : Outside) (is_told : IsTold 
       (λ choices. Demonstrates n o.turns choices o.record_file) (demo_steps o.choices) (λ choices went. demo_one n o.turns choices o.record_file)
   comes_one (words.check file) no_session = does_one before after behind (TextSteps before file)
       (λ a. IsDone (ShowsReport a.1)) (compile_steps file) (λ a went. report_one a.1 (unit_fits file a went))
+  comes_one (words.explain file) no_session = does_one before after behind (Fetches before file) Explains
+      (fetches_one before is_told.files file) (λ bytes went. explains_one bytes)
   comes_one (words.boot o) no_session = absurd (true≢false no_session)
   comes_one (words.walk file choices turns) no_session = does_one before after behind (RunSteps before file (words.file choices))
       (λ a. Walks a.0 turns a.1) (text_steps file (words.file choices)) (λ a went. walks_one a.0 turns a.1)

@@ -66,6 +66,7 @@ wants_any (Some (words.get title file)) o kernel = nothing_seen o kernel
 wants_any (Some (words.list file)) o kernel = nothing_seen o kernel
 wants_any (Some (words.demo n options)) o kernel = inl (nothing_seen o kernel)
 wants_any (Some (words.check file)) o kernel = nothing_seen o kernel
+wants_any (Some (words.explain file)) o kernel = nothing_seen o kernel
 wants_any (Some (words.walk file choices turns)) o kernel = inl (nothing_seen o kernel)
 wants_any (Some (words.watch file points_file out options)) o kernel = inl (nothing_seen o kernel)
 

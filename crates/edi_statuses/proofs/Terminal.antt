@@ -90,7 +90,7 @@ module _ (b m : Outside) (y : Option (List ℕ)) (still : StillTold m.shown y) w
 
   -- ---- the steps
 
-  fetches_later : (name : List ℕ) (r : AfterStep (List ℕ)) → Fetches seen_then name r → Fetches seen_now name r
+  pub fetches_later : (name : List ℕ) (r : AfterStep (List ℕ)) → Fetches seen_then name r → Fetches seen_now name r
   fetches_later name (goes bytes) h = h
   fetches_later name (stops s) h = h
 

@@ -1,5 +1,5 @@
 -- What a status of `walk` means does not change where the terminal takes its line; and a walk has one ending and shows one thing.
-use Rattle.std.proofs.Common.{◌≡◌, ◌∙◌, ℕ, List, Option, refl, sym, ap, inl, inr}
+use Rattle.std.proofs.Common.{◌≡◌, ◌∙◌, ℕ, List, Option, sym, ap, inl, inr}
 use Rattle.std.proofs.lemmas.List.{append_cancel_left}
 use Rattle.std.specs.Prelude.{◌⊎◌}
 use Rattle.edi_calls.specs.Choice.{Choices}

@@ -1,5 +1,5 @@
 -- What a status of `watch` means does not change where the terminal takes its line.
-use Rattle.std.proofs.Common.{◌≡◌, ℕ, List, Option, inl, inr}
+use Rattle.std.proofs.Common.{ℕ, List, Option, inl, inr}
 use Rattle.std.specs.Prelude.{◌⊎◌}
 use Rattle.edi_calls.specs.Choice.{Choices}
 use Rattle.edi_debug.specs.stops.Stops.{Watched}
@@ -10,7 +10,7 @@ use Rattle.edi_statuses.specs.Outside.{Outside, seen, Lent, system_on}
 use Rattle.edi_statuses.specs.Steps.{goes}
 use Rattle.edi_statuses.specs.Executions.{text, BrokeRun, HasRun}
 use Rattle.edi_statuses.specs.Commands.{IsLog, IsNothing, Watches, WatchSteps}
-use Rattle.edi_statuses.specs.Broken.{HasBegun, KeepsLog, WatchedUnkept}
+use Rattle.edi_statuses.specs.Broken.{HasBegun, WatchedUnkept}
 use Rattle.edi_statuses.specs.Decided.{with_shown}
 use Rattle.edi_statuses.proofs.Terminal.{StillTold, broke_later, has_run_silent, nothing_later, told_later, watch_later, whole_later}
 

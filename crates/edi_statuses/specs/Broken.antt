@@ -9,12 +9,13 @@ use Rattle.edi_debug.specs.stops.Stops.{Watched}
 use Rattle.edi_disjoint.specs.Report.{IsReport}
 use Rattle.edi_utils.specs.Demo.{demo_text}
 use Rattle.edi_words.specs.Words.{ChoicesFrom}
+use Rattle.edi_statuses.specs.declared.status.Status.{Status}
 use Rattle.edi_statuses.specs.declared.status.Status.TheVariants as status
 use Rattle.edi_statuses.specs.Fronts.{IsFront}
 use Rattle.edi_statuses.specs.Outside.{Outside, Keeps, SameFiles, SameInput, SamePrinted, IsAsBefore, Lent}
 use Rattle.edi_statuses.specs.Steps.{AfterStep, goes, ◌>>=◌, Fetches, ReadsChoices, Accepts, Loads}
 use Rattle.edi_statuses.specs.Executions.{Runnable, text, Ran, BrokeRun}
-use Rattle.edi_statuses.specs.Commands.{Runs, OnItsOwn, IsLog, PointSteps, released, put_in, size_line}
+use Rattle.edi_statuses.specs.Commands.{Runs, OnItsOwn, IsLog, IsShownOf, PointSteps, released, put_in, size_line}
 
 -- ---- memory ran out
 
@@ -81,6 +82,11 @@ pub record ShowsFront (bytes : List ℕ) (before after : Outside) (shown : List 
 -- a first part of the report on the branches of a program was shown, and nothing else has changed
 abbrev pub ShowsReportFront : ProgramUnit → Outside → Outside → (shown : List ℕ) → Lent → Type 0
 ShowsReportFront unit before after shown kernel = (report : List ℕ) × IsReport unit report × ShowsFront report before after shown kernel
+
+-- a first part of what `explain` shows of a text was shown, and nothing else has changed
+abbrev pub ExplainsFront : (bytes : List ℕ) → Outside → Outside → (shown : List ℕ) → Lent → Type 0
+ExplainsFront bytes before after shown kernel =
+    (s : Status) × (told : List ℕ) × IsShownOf bytes s told × ShowsFront told before after shown kernel
 
 -- behind a format or a migration that the drive broke off nothing is known of its blocks
 abbrev pub IsOpen : List (List ℕ) → List (List ℕ) → Type 0

@@ -26,6 +26,8 @@ use Rattle.edi_disjoint.specs.Report.{IsReport}
 use Rattle.edi_utils.specs.Demo.{demo_text, demo_line}
 use Rattle.edi_utils.specs.Listing.{listing_of}
 use Rattle.edi_texts.specs.Run.{IsCodeFor}
+use Rattle.edi_texts.specs.Texts.{IsRefused, IsUnit}
+use Rattle.edi_explain.specs.told.Explained.{IsExplained, accepted_text}
 use Rattle.edi_words.specs.Words as words
 use Rattle.edi_words.specs.Words.{ChoicesFrom, Command}
 use Rattle.edi_statuses.specs.declared.status.Status.{Status}
@@ -63,7 +65,7 @@ PointSteps o file points_file from =
 abbrev pub WatchSteps : Outside → (file points_file : List ℕ) → ChoicesFrom → AfterStep (List ℕ × Choices × List Watched) → Type 0
 WatchSteps o file points_file from = PointSteps o file points_file from >>= λ a. Mounts o >>= λ done. Ready a
 
--- `compile FILE OUT` and `check FILE`: fetches the text, reads it
+-- `compile FILE OUT` and `check FILE`: fetches the text, reads it. `explain FILE` only fetches it, since it has an effect on every text.
 abbrev pub TextSteps : Outside → (file : List ℕ) → AfterStep (List ℕ × ProgramUnit) → Type 0
 TextSteps o file = Fetches o file >>= λ bytes. Accepts bytes >>= λ unit. Ready (bytes, unit)
 
@@ -155,6 +157,16 @@ pub record OnlyShows (bytes : List ℕ) (before after : Outside) (shown : List �
 -- the report on the branches of a program is shown, and nothing else is changed
 abbrev pub ShowsReport : ProgramUnit → Outside → Outside → (shown : List ℕ) → Lent → Type 0
 ShowsReport unit before after shown kernel = (report : List ℕ) × IsReport unit report × OnlyShows report before after shown kernel
+
+-- What `explain` shows of a text, by its status: that the text is accepted; or what is wrong with it, where the status tells its first fault.
+abbrev pub IsShownOf : (bytes : List ℕ) → Status → (told : List ℕ) → Type 0
+IsShownOf bytes status.Ok told = (unit : ProgramUnit) × IsUnit bytes unit × (told ≡ accepted_text)
+IsShownOf bytes (status.Refused kind line) told = IsRefused bytes kind line × IsExplained bytes kind line told
+IsShownOf bytes s told = ⊥
+
+-- that is shown, and nothing else is changed
+abbrev pub Explains : (bytes : List ℕ) → CommandEffect
+Explains bytes s before after shown kernel = (told : List ℕ) × IsShownOf bytes s told × OnlyShows told before after shown kernel
 
 -- A program is run to its ending, which the status tells, and the record of its choices is kept.
 pub record Runs (program : Runnable) (bound : ℕ) (choices : Choices) (record_file : Option (List ℕ)) (s : Status)
@@ -278,6 +290,7 @@ Comes (words.demo n o) s before after shown kernel =
     Does (DemoSteps before o.choices) (λ choices. Demonstrates n o.turns choices o.record_file) s before after shown kernel
 Comes (words.check file) s before after shown kernel =
     Does (TextSteps before file) (λ a. IsDone (ShowsReport a.1)) s before after shown kernel
+Comes (words.explain file) s before after shown kernel = Does (Fetches before file) Explains s before after shown kernel
 Comes (words.walk file choices turns) s before after shown kernel =
     Does (RunSteps before file (words.file choices)) (λ a. Walks a.0 turns a.1) s before after shown kernel
 Comes (words.watch file points_file out o) s before after shown kernel =

@@ -92,7 +92,8 @@ is_before_format (status.BadImage broken) = true
 is_before_format status.DiskFull = true
 is_before_format s = false
 
--- A command with this status has come to no object but the files. One that asks the drive first has always come to it.
+-- A command with this status has come to no object but the files; only `explain` shows why a text is refused. One that asks the drive first has
+-- always come to it.
 abbrev pub stops_by : DriveUse → Status → Bool
 stops_by leaves_drive s = is_before_drive s
 stops_by mounts_last s = is_before_drive s

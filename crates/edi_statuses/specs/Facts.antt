@@ -11,7 +11,8 @@ use Rattle.edi_statuses.specs.Steps.{AfterStep, ◌>>=◌, Fetches, ReadsChoices
 use Rattle.edi_statuses.specs.Executions.{Runnable, text, code, BrokeRun}
 use Rattle.edi_statuses.specs.Sessions.{BootSteps, BrokeSession, EndedUnkept, EndedWhole}
 use Rattle.edi_statuses.specs.Commands.{IsNothing, OnItsOwn, RunSteps, ExecSteps, WatchSteps, TextSteps, OldSteps, PutSteps, GetSteps, ListSteps, DemoSteps}
-use Rattle.edi_statuses.specs.Broken.{RanWhole, RanUnkept, AtRecord, HasNotBegun, ChangesDrive, ArePutInPart, ShowsFront, ShowsReportFront, IsOpen, BrokeDemo}
+use Rattle.edi_statuses.specs.Broken.{RanWhole, RanUnkept, AtRecord, HasNotBegun, ChangesDrive, ArePutInPart, IsOpen, BrokeDemo}
+use Rattle.edi_statuses.specs.Broken.{ShowsFront, ShowsReportFront, ExplainsFront}
 use Rattle.edi_statuses.specs.Broken.{HasBegun, WentOn, RunAsks, ExecAsks, WatchAsks, WatchedUnkept}
 use Rattle.edi_statuses.specs.Walked.{BrokeWalk}
 
@@ -207,6 +208,11 @@ facts_of (words.check file) = record plain {
   silent = false;
   fetches = file_named file;
   output_failed = λ before after shown kernel. HasBegun (TextSteps before file) (λ a. ShowsReportFront a.1 before after shown kernel);
+}
+facts_of (words.explain file) = record plain {
+  silent = false;
+  fetches = file_named file;
+  output_failed = λ before after shown kernel. HasBegun (Fetches before file) (λ bytes. ExplainsFront bytes before after shown kernel);
 }
 facts_of (words.walk file choices turns) =
     let broken : Left = λ before after shown kernel.

@@ -38,6 +38,7 @@ view (command.Get title file) = words.get title.now file.now
 view (command.List file) = words.list file.now
 view (command.Demo n options) = words.demo n (options_of options)
 view (command.Check file) = words.check file.now
+view (command.Explain file) = words.explain file.now
 view (command.Walk file choices turns) = words.walk file.now choices.now turns
 view (command.Watch file stops out options) = words.watch file.now stops.now out.now (options_of options)
 

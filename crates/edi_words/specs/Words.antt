@@ -36,6 +36,7 @@ pub data Command : Type 0 where
   list : (file : List ℕ) → Command
   demo : (n : ℕ) → Options → Command
   check : (file : List ℕ) → Command
+  explain : (file : List ℕ) → Command
   walk : (file choices : List ℕ) → (turns : ℕ) → Command
   watch : (file stops out : List ℕ) → Options → Command
 
@@ -200,7 +201,7 @@ bare_run operands g = if_takes 1 1 0 g (option_and_then (λ none. options_in g) 
 abbrev pub guided_run : List Text → Given → Option ((Text × Text) × ℕ)
 guided_run operands g = if_takes 1 0 0 g (option_and_then (with_turns g) (two_operands operands))
 
--- `list CODEFILE` and `check FILE`: a file
+-- `list CODEFILE`, `check FILE` and `explain FILE`: a file
 abbrev pub only_file : List Text → Given → Option Text
 only_file operands g = if_takes 0 0 0 g (one_operand operands)
 
@@ -242,9 +243,10 @@ named_more name operands g =
     else (if bytes_eq name (codes "list") then option_map list (only_file operands g)
     else (if bytes_eq name (codes "demo") then option_map (λ p. demo p.0 p.1) (sized_run operands g)
     else (if bytes_eq name (codes "check") then option_map check (only_file operands g)
+    else (if bytes_eq name (codes "explain") then option_map explain (only_file operands g)
     else (if bytes_eq name (codes "walk") then option_map (λ p. walk p.0.0 p.0.1 p.1) (guided_run operands g)
     else (if bytes_eq name (codes "watch") then option_map (λ p. watch p.0.0 p.0.1 p.0.2 p.1) (watched_run operands g)
-    else None))))))
+    else None)))))))
 
 -- the command of this name
 abbrev pub named : Text → List Text → Given → Option Command

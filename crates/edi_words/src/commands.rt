@@ -78,6 +78,10 @@ pub enum Command<'a> {
     Check {
         file: &'a str,
     },
+    /// `explain FILE`: shows what is wrong with a text, or that it is accepted.
+    Explain {
+        file: &'a str,
+    },
     /// `walk FILE CHOICES`: runs a text step by step by the order of a file.
     Walk {
         file: &'a str,

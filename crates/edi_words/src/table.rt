@@ -71,7 +71,7 @@ fn guided_run<'a>(operands: &[&'a str], given: &Given<'_, 'a>) -> Option<(&'a st
     Some((file, choices, turns))
 }
 
-/// `list CODEFILE` and `check FILE`.
+/// `list CODEFILE`, `check FILE` and `explain FILE`.
 fn only_file<'a>(operands: &[&'a str], given: &Given<'_, 'a>) -> Option<&'a str>
     ensures { option_map (λ text. text.now) result ≡ words.only_file (texts operands.now) (given_view given.now) }
 {
@@ -273,6 +273,15 @@ fn check<'a>(operands: &[&'a str], given: &Given<'_, 'a>) -> Option<Command<'a>>
     Some(Command::Check { file })
 }
 
+/// The command `explain`.
+fn explain<'a>(operands: &[&'a str], given: &Given<'_, 'a>) -> Option<Command<'a>>
+    ensures exact { option_map view result ≡ option_map words.explain (words.only_file (texts operands.now) (given_view given.now)) }
+    ensures range { IfSome result IsInRange }
+{
+    let file = only_file(operands, given)?;
+    Some(Command::Explain { file })
+}
+
 /// The command `walk`.
 fn walk<'a>(operands: &[&'a str], given: &Given<'_, 'a>) -> Option<Command<'a>>
     ensures exact { option_map view result ≡ option_map (λ p. words.walk p.0.0 p.0.1 p.1) (words.guided_run (texts operands.now) (given_view given.now)) }
@@ -319,6 +328,9 @@ fn named_more<'a>(name: &str, operands: &[&'a str], given: &Given<'_, 'a>) -> Op
     }
     if name == "check" {
         return check(operands, given);
+    }
+    if name == "explain" {
+        return explain(operands, given);
     }
     if name == "walk" {
         return walk(operands, given);

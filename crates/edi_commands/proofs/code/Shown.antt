@@ -2,6 +2,7 @@
 use Rattle.std.proofs.Common.{◌∙◌, inl, inr, ℕ, List, [], refl, sym, subst}
 use Rattle.edi_words.specs.Words as words
 use Rattle.edi_statuses.specs.declared.status.Status.{Status}
+use Rattle.edi_statuses.specs.declared.status.Status.TheVariants as status
 use Rattle.edi_statuses.specs.Counts.{Counts, HasCause}
 use Rattle.edi_statuses.specs.Outside.{Lent, Outside}
 use Rattle.edi_statuses.specs.Commands.{IsNothing, ListSteps}
@@ -23,7 +24,7 @@ module _ (file : List ℕ) where
   no_fault s o had has (inl a) = subst (λ t. HasCause t had has) (sym a.0) tt
   no_fault s o had has (inr l) = subst (λ t. HasCause t had has) (sym l.2.1) tt
 
-  pub list_shows : ShowsOf (words.list file) file (λ o. ListSteps o file) IsListing
+  pub list_shows : ShowsOf (words.list file) file (λ o. ListSteps o file) IsListing status.Ok
   list_shows = record {
     stopped = step_means;
     no_memory = λ before after kernel nothing. nothing;

@@ -18,24 +18,39 @@ use Rattle.edi_statuses.proofs.Due.{due_then}
 use Rattle.edi_statuses.proofs.EachLeft.{each_same}
 use Rattle.edi_statuses.proofs.Told.{same_told, shows_nothing, still}
 use Rattle.edi_commands.specs.steps.OnFiles.{files_only}
-use Rattle.edi_commands.specs.steps.OnTerminal.{CameShowing, GivesBytes, HasCauseShown}
+use Rattle.edi_commands.specs.steps.OnTerminal.{CameShowing, EndsShowing, GivesBytes, HasCauseShown, ShowsTo}
 
--- What is known of such a command: what its statuses mean, by its steps, which look at the files alone, and by what its bytes are.
-pub record ShowsOf {A : Type 0} (c : Command) (name : List ℕ) (steps : Outside → AfterStep A → Type 0) (Is : A → List ℕ → Type 0) : Type 0 where
+-- What is known of such a command, which ends with this status where it has shown its bytes: what its statuses mean, by its steps, which look
+-- at the files alone, and by what its bytes are.
+pub record ShowsOf {A : Type 0} (c : Command) (name : List ℕ) (steps : Outside → AfterStep A → Type 0) (Is : A → List ℕ → Type 0) (ends : Status)
+    : Type 0 where
   pub stopped : (s : Status) (before after : Outside) (kernel : Lent) → steps (files_only before.files) (stops s) → IsNothing before after [] kernel
       → MeansOf s c before after [] kernel
   pub no_memory : (before after : Outside) (kernel : Lent) → IsNothing before after [] kernel → MeansOf status.NoMemory c before after [] kernel
   pub not_fetched : (before after : Outside) (kernel : Lent) → IsSomeFile (files_only before.files) name → SameFiles before after
       → HasNotBegun before after [] kernel → MeansOf status.FileFault c before after [] kernel
   pub has_shown : (before after : Outside) (kernel : Lent) (a : A) (bytes : List ℕ) → steps (files_only before.files) (goes a) → Is a bytes
-      → OnlyShows bytes before after bytes kernel → MeansOf status.Ok c before after bytes kernel
+      → OnlyShows bytes before after bytes kernel → MeansOf ends c before after bytes kernel
   pub cut_short : (before after : Outside) (kernel : Lent) (a : A) (bytes front : List ℕ) → steps (files_only before.files) (goes a) → Is a bytes
       → ShowsFront bytes before after front kernel → SameFiles before after → MeansOf status.OutputFault c before after front kernel
   -- a status of a step tells no fault
   pub no_fault : (s : Status) (o : Outside) (had has : Counts) → steps o (stops s) → HasCause s had has
 
-module _ {A : Type 0} (c : Command) (name : List ℕ) (steps : Outside → AfterStep A → Type 0) (Is : A → List ℕ → Type 0)
-    (shows : ShowsOf c name steps Is) where
+-- ---- bytes that were shown
+
+ends_done : (s : Status) (front all : List ℕ) → ShowsFar s front all → ShowsTo status.Ok s front all
+ends_done status.Ok front all far = inl (refl, far)
+ends_done status.OutputFault front all far = inr (refl, far)
+ends_done s front all far = absurd far
+
+pub shows_done : (all : List ℕ) (ended : Ended) (taken takes : Option (List ℕ)) → ShowsBytes all false ended taken takes
+    → EndsShowing status.Ok all ended taken takes
+shows_done all ended taken takes h = (h.0, ends_done ended.status h.0 all h.1, h.2, h.3)
+
+-- ---- how the command came to its status
+
+module _ {A : Type 0} (c : Command) (name : List ℕ) (steps : Outside → AfterStep A → Type 0) (Is : A → List ℕ → Type 0) (ends : Status)
+    (shows : ShowsOf c name steps Is ends) where
   -- whatever the other objects and the kernel are
   module _ (old new : Option Contents) (same : WhereTold old new (λ x y. y ≡ x)) (taken takes : Option (List ℕ))
       (blocks : Option (List (List ℕ))) (input printed : Option (List ℕ)) (kernel : KernelLeft) where
@@ -75,15 +90,16 @@ module _ {A : Type 0} (c : Command) (name : List ℕ) (steps : Outside → After
 
     -- it has shown bytes
     shown_means : (a : A) (bytes : List ℕ) → steps (files_only (still_told old new)) (goes a) → Is a bytes → (s : Status) (front : List ℕ)
-        → ShowsFar s front bytes → MeansHere s front
-    shown_means a bytes went is status.Ok front far =
-        subst (λ b. MeansHere status.Ok b) (sym far)
+        → ShowsTo ends s front bytes → MeansHere s front
+    shown_means a bytes went is s front (inl whole) =
+        subst (λ t. MeansHere t front) (sym whole.0)
+        (subst (λ b. MeansHere ends b) (sym whole.1)
         (shows.has_shown (seen before after) after (idle kernel) a bytes went is
-        (record { shown_ = refl; same = as_before; kernel_same = refl }))
-    shown_means a bytes went is status.OutputFault front far =
-        shows.cut_short (seen before after) after (idle kernel) a bytes front went is
-        (record { front = far; same = as_before; kernel_same = refl }) as_before.files
-    shown_means a bytes went is s front far = absurd far
+        (record { shown_ = refl; same = as_before; kernel_same = refl })))
+    shown_means a bytes went is s front (inr cut) =
+        subst (λ t. MeansHere t front) (sym cut.0)
+        (shows.cut_short (seen before after) after (idle kernel) a bytes front went is
+        (record { front = cut.1; same = as_before; kernel_same = refl }) as_before.files)
 
   module _ {V : Type 0} (items : V → List ℕ) where
     pub stopped : (old new : Option Contents) (taken : Option (List ℕ)) (s : Status) → WhereTold old new (λ x y. y ≡ x)
@@ -97,7 +113,7 @@ module _ {A : Type 0} (c : Command) (name : List ℕ) (steps : Outside → After
     }
 
     pub shown : (old new : Option Contents) (taken takes : Option (List ℕ)) (v : V) (ended : Ended) → WhereTold old new (λ x y. y ≡ x)
-        → GivesBytes items steps Is (files_only (still_told old new)) name (Ok v) → ShowsBytes (items v) false ended taken takes
+        → GivesBytes items steps Is (files_only (still_told old new)) name (Ok v) → EndsShowing ends (items v) ended taken takes
         → CameShowing c ended.status ended.due old new taken takes
     shown old new taken takes v ended same l h = λ blocks input printed kernel. record {
       shown = h.0;
@@ -120,3 +136,11 @@ pub shown_cause : (s : Status) (front all : List ℕ) (had has had_shown has_sho
 shown_cause status.Ok front all had has had_shown has_shown far rose = λ drive input printer. tt
 shown_cause status.OutputFault front all had has had_shown has_shown far rose = λ drive input printer. inl (rose refl)
 shown_cause s front all had has had_shown has_shown far rose = absurd far
+
+-- so where the command ends with a status that tells no fault
+pub ends_cause : (ends s : Status) (had has had_shown has_shown : ℕ) → ((before after : Counts) → HasCause ends before after)
+    → (s ≡ ends) ⊎ ((s ≡ status.OutputFault) × CountRose had_shown has_shown) → HasCauseShown s had has had_shown has_shown
+ends_cause ends s had has had_shown has_shown none (inl same) = λ drive input printer. subst
+    (λ t. HasCause t (counts_with had drive input had_shown printer) (counts_with has drive input has_shown printer)) (sym same) (none _ _)
+ends_cause ends s had has had_shown has_shown none (inr failed) = λ drive input printer. subst
+    (λ t. HasCause t (counts_with had drive input had_shown printer) (counts_with has drive input has_shown printer)) (sym failed.0) (inl failed.1)

@@ -12,6 +12,7 @@ use Rattle.edi_texts.specs.Texts.{IsRefused}
 use Rattle.edi_texts.proofs.Same.{fetched_bytes_decide}
 use Rattle.edi_words.specs.Words.{check}
 use Rattle.edi_statuses.specs.declared.status.Status.{Status}
+use Rattle.edi_statuses.specs.declared.status.Status.TheVariants as status
 use Rattle.edi_statuses.specs.Counts.{Counts, HasCause}
 use Rattle.edi_statuses.specs.Outside.{Lent, Outside}
 use Rattle.edi_statuses.specs.Commands.{IsNothing, TextSteps}
@@ -75,7 +76,7 @@ module _ (file : List ℕ) where
     | inr r ↦ absurd r.2
   ]
 
-  pub check_shows : ShowsOf (check file) file (λ o. TextSteps o file) IsReportOf
+  pub check_shows : ShowsOf (check file) file (λ o. TextSteps o file) IsReportOf status.Ok
   check_shows = record {
     stopped = step_means;
     no_memory = λ before after kernel nothing. nothing;

@@ -1,11 +1,15 @@
 -- Words of contracts. What a command answers that touches the files and the terminal alone: it makes bytes of a file and shows them.
-use Rattle.std.specs.Prelude.{◌≡◌, ◌⊎◌, ℕ, Bool, List, Option, Some, Result, Ok, Err}
+use Rattle.std.specs.Prelude.{◌≡◌, ◌⊎◌, ℕ, Bool, false, List, ◌++◌, Option, Some, Result, Ok, Err}
+use Rattle.edi_told.specs.Told.{WhereTold}
 use Rattle.edi_host.specs.Contents.{Contents}
 use Rattle.edi_words.specs.Words.{Command}
+use Rattle.edi_statuses.specs.declared.ended.Ended.{Ended}
 use Rattle.edi_statuses.specs.declared.status.Status.{Status}
 use Rattle.edi_statuses.specs.declared.status.Status.TheVariants as status
 use Rattle.edi_statuses.specs.Counts.{HasCause, counts_with}
+use Rattle.edi_statuses.specs.Fronts.{IsFront}
 use Rattle.edi_statuses.specs.Outside.{Outside, IsSomeFile, KernelLeft, idle, outside_with}
+use Rattle.edi_statuses.specs.Showing.{due_behind}
 use Rattle.edi_statuses.specs.Steps.{AfterStep, goes, stops}
 use Rattle.edi_statuses.specs.Decided.{Came}
 
@@ -25,9 +29,19 @@ HasCauseShown s had has had_shown has_shown =
 
 -- ---- for the functions below
 
--- The steps on the file of this name lead to something of which the bytes are made, or stop the command. Memory may run out at any file, and
--- one that is there may fail.
-abbrev pub GivesBytes : {A V : Type 0} → (V → List ℕ) → (steps : Outside → AfterStep A → Type 0) → (Is : A → List ℕ → Type 0) → Outside
+-- All the bytes were shown, and this is the status; or a first part of them, where the output has failed.
+abbrev pub ShowsTo : (ends s : Status) → (front all : List ℕ) → Type 0
+ShowsTo ends s front all = ((s ≡ ends) × (front ≡ all)) ⊎ ((s ≡ status.OutputFault) × IsFront front all)
+
+-- the terminal has taken them, and a line feed is due behind them, or not
+abbrev pub EndsShowing : (ends : Status) → (all : List ℕ) → Ended → (taken takes : Option (List ℕ)) → Type 0
+EndsShowing ends all ended taken takes =
+    (front : List ℕ) × ShowsTo ends ended.status front all × WhereTold taken takes (λ old new. new ≡ old ++ front)
+    × (ended.due ≡ due_behind false front)
+
+-- The steps on the file of this name lead to something of which the bytes are made, with a status or without one; or they stop the command.
+-- Memory may run out at any file, and one that is there may fail.
+abbrev pub GivesBytes : {A B V : Type 0} → (V → B) → (steps : Outside → AfterStep A → Type 0) → (Is : A → B → Type 0) → Outside
     → (name : List ℕ) → Result V Status → Type 0
 GivesBytes items steps Is o name (Ok v) = (a : _) × steps o (goes a) × Is a (items v)
 GivesBytes items steps Is o name (Err s) = (s ≡ status.NoMemory) ⊎ (((s ≡ status.FileFault) × IsSomeFile o name) ⊎ steps o (stops s))

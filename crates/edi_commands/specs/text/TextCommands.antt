@@ -11,7 +11,7 @@ use Rattle.edi_statuses.specs.declared.status.Status.{Status}
 use Rattle.edi_statuses.specs.declared.status.Status.TheVariants as status
 use Rattle.edi_statuses.specs.Outside.{Outside, IsSomeFile}
 use Rattle.edi_statuses.specs.Steps.{goes, stops, Fetches}
-use Rattle.edi_statuses.specs.Commands.{TextSteps}
+use Rattle.edi_statuses.specs.Commands.{IsShownOf, TextSteps}
 use Rattle.edi_commands.specs.steps.OnTerminal.{GivesBytes}
 
 -- ---- `compile`
@@ -43,3 +43,18 @@ IsReportOf a bytes = IsReport a.1 bytes
 -- so of the text in a file
 abbrev pub ReportsFile : {V : Type 0} → (V → List ℕ) → Outside → (name : List ℕ) → Result V Status → Type 0
 ReportsFile items o name result = GivesBytes items (λ o. TextSteps o name) IsReportOf o name result
+
+-- ---- `explain`
+
+-- What is shown of a text, and the status with which the command ends then. Memory may run out at any text.
+abbrev pub ExplainsText : {V : Type 0} → (ends : V → Status) → (items : V → List ℕ) → (text : List ℕ) → Result V Status → Type 0
+ExplainsText ends items text (Ok v) = IsShownOf text (ends v) (items v)
+ExplainsText ends items text (Err s) = s ≡ status.NoMemory
+
+-- such a status with such bytes
+abbrev pub IsShownWith : List ℕ → Status × List ℕ → Type 0
+IsShownWith text told = IsShownOf text told.0 told.1
+
+-- so of the text in a file
+abbrev pub ExplainsFile : {V : Type 0} → (ends : V → Status) → (items : V → List ℕ) → Outside → (name : List ℕ) → Result V Status → Type 0
+ExplainsFile ends items o name result = GivesBytes (λ v. (ends v, items v)) (λ o. Fetches o name) IsShownWith o name result

@@ -196,3 +196,18 @@ pub returns-in-Check-clause-untouched : goal.returns-in-Check-clause-untouched
 returns-in-Check-clause-untouched g c =
     untouched_so c.args.command (command.Check c.in-Check.file) c.check.result.status c.check.result.status _ _ c.in-Check.is refl
     (record { files = λ none. absurd (true≢false none); drive = λ e. refl; input = λ e. refl; printer = λ e. refl; kernel = λ e. refl })
+
+pub returns-in-Explain-clause-came : goal.returns-in-Explain-clause-came
+returns-in-Explain-clause-came g c =
+    obeyed_so c.args.command (command.Explain c.in-Explain.file) c.explain_file.result.status c.explain_file.result.due _ _ _ c.in-Explain.is
+    (c.explain_file.ensures.came (g.D.Drive.contents c.args.drive.now) (g.S.Source.left c.args.input.now) (g.P.Sink.taken c.args.printer.now)
+    (kernel_of c.args.kernel.now.store c.args.kernel.now.used))
+
+pub returns-in-Explain-clause-cause : goal.returns-in-Explain-clause-cause
+returns-in-Explain-clause-cause g c =
+    c.explain_file.ensures.cause (g.D.Drive.faults c.args.drive.now) (g.S.Source.faults c.args.input.now) (g.P.Sink.faults c.args.printer.now)
+
+pub returns-in-Explain-clause-untouched : goal.returns-in-Explain-clause-untouched
+returns-in-Explain-clause-untouched g c =
+    untouched_so c.args.command (command.Explain c.in-Explain.file) c.explain_file.result.status c.explain_file.result.status _ _ c.in-Explain.is refl
+    (record { files = λ none. absurd (true≢false none); drive = λ e. refl; input = λ e. refl; printer = λ e. refl; kernel = λ e. refl })
