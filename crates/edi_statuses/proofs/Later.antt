@@ -22,7 +22,7 @@ use Rattle.edi_statuses.proofs.Terminal.{StillTold, asks_later, fetch_fails_late
 use Rattle.edi_statuses.proofs.Terminal.{drive_later, keeps_later, blocks_later, code_later, runs_later, whole_later, unkept_later, broke_later}
 use Rattle.edi_statuses.proofs.Terminal.{record_later, does_later, list_later, shows_later, front_later, demo_later, fetches_later}
 use Rattle.edi_statuses.proofs.Demonstrated.{demonstrates_later, own_unkept, own_whole, broke_demo_later}
-use Rattle.edi_statuses.proofs.Watched.{watches_later, watched_wants, watched_broke}
+use Rattle.edi_statuses.proofs.Watched.{watches_later, watched_wants, watched_lost, watched_broke}
 use Rattle.edi_statuses.proofs.Walked.{walks_later, walked_wants, walked_broke}
 use Rattle.edi_statuses.specs.Walked.{Walks}
 use Rattle.edi_statuses.proofs.Terminal.{boot_later, holds_later, ended_later, broke_session_later}
@@ -115,7 +115,7 @@ module _ (b m : Outside) (y : Option (List ℕ)) (still : StillTold m.shown y) w
             (λ a. Watches a.0 a.2 options.turns a.1 out options.record_file) (λ a. Watches a.0 a.2 options.turns a.1 out options.record_file) s shown
             kernel steps (λ a. watches_later b m y still a.0 a.2 options.turns a.1 out options.record_file s shown kernel);
         wants = watched_wants b m y still file points_file out options shown kernel;
-        files = λ h. (h.0, steps (goes h.0) h.1, whole_later b m y still (text h.0.0) options.turns h.0.1 shown kernel h.2);
+        files = watched_lost b m y still file points_file out options shown kernel;
         drive = broke;
         input = broke;
         output = broke;

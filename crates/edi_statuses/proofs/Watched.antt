@@ -10,7 +10,7 @@ use Rattle.edi_statuses.specs.Outside.{Outside, seen, Lent, system_on}
 use Rattle.edi_statuses.specs.Steps.{goes}
 use Rattle.edi_statuses.specs.Executions.{text, BrokeRun, HasRun}
 use Rattle.edi_statuses.specs.Commands.{IsLog, IsNothing, Watches, WatchSteps}
-use Rattle.edi_statuses.specs.Broken.{HasBegun, WatchedUnkept}
+use Rattle.edi_statuses.specs.Broken.{HasBegun, WatchedLost, WatchedUnkept}
 use Rattle.edi_statuses.specs.Decided.{with_shown}
 use Rattle.edi_statuses.proofs.Terminal.{StillTold, broke_later, has_run_silent, nothing_later, told_later, watch_later, whole_later}
 
@@ -61,6 +61,22 @@ module _ (b m : Outside) (y : Option (List ℕ)) (still : StillTold m.shown y) w
     ],
   )
 
+  lost_later : (bytes : List ℕ) (points : List Watched) (bound : ℕ) (choices : Choices) (out : List ℕ) (name : Option (List ℕ)) (shown : List ℕ)
+      (kernel : Lent) → WatchedLost bytes points bound choices out name before_ m shown kernel
+      → WatchedLost bytes points bound choices out name seen_later later_ shown kernel
+  lost_later bytes points bound choices out name shown kernel h = (
+    whole_later b m y still (text bytes) bound choices shown kernel h.0,
+    elim h.1 [
+      | inl same ↦ inl same
+      | inr lost ↦ inr (record {
+        asked = lost.asked;
+        log = lost.log;
+        log_is = log_later bytes points bound choices lost.log lost.log_is;
+        files = lost.files;
+      })
+    ],
+  )
+
   pub watched_wants : (file points_file out : List ℕ) (o : Options) (shown : List ℕ) (kernel : Lent)
       → IsNothing before_ m shown kernel
       ⊎ HasBegun (WatchSteps before_ file points_file o.choices) (λ a. WatchedUnkept a.0 a.2 o.turns a.1 out o.record_file before_ m shown kernel)
@@ -69,6 +85,12 @@ module _ (b m : Outside) (y : Option (List ℕ)) (still : StillTold m.shown y) w
   watched_wants file points_file out o shown kernel (inl h) = inl (nothing_later b m y still shown kernel h)
   watched_wants file points_file out o shown kernel (inr h) =
       inr (h.0, watch_later b m y still file points_file o.choices (goes h.0) h.1, unkept_later h.0.0 h.0.2 o.turns h.0.1 out o.record_file shown kernel h.2)
+
+  pub watched_lost : (file points_file out : List ℕ) (o : Options) (shown : List ℕ) (kernel : Lent)
+      → HasBegun (WatchSteps before_ file points_file o.choices) (λ a. WatchedLost a.0 a.2 o.turns a.1 out o.record_file before_ m shown kernel)
+      → HasBegun (WatchSteps seen_later file points_file o.choices) (λ a. WatchedLost a.0 a.2 o.turns a.1 out o.record_file seen_later later_ shown kernel)
+  watched_lost file points_file out o shown kernel h =
+      (h.0, watch_later b m y still file points_file o.choices (goes h.0) h.1, lost_later h.0.0 h.0.2 o.turns h.0.1 out o.record_file shown kernel h.2)
 
   pub watched_broke : (file points_file : List ℕ) (from : ChoicesFrom) (bound : ℕ) (shown : List ℕ)
       → HasBegun (WatchSteps before_ file points_file from) (λ a. BrokeRun (text a.0) bound a.1 before_ m shown)

@@ -12,7 +12,7 @@ use Rattle.edi_words.specs.Words.{ChoicesFrom}
 use Rattle.edi_statuses.specs.declared.status.Status.{Status}
 use Rattle.edi_statuses.specs.declared.status.Status.TheVariants as status
 use Rattle.edi_statuses.specs.Fronts.{IsFront}
-use Rattle.edi_statuses.specs.Outside.{Outside, Keeps, SameFiles, SameInput, SamePrinted, IsAsBefore, Lent}
+use Rattle.edi_statuses.specs.Outside.{Outside, Keeps, SameBut, SameFiles, SameInput, SamePrinted, IsAsBefore, Lent, with_kept, without_names}
 use Rattle.edi_statuses.specs.Steps.{AfterStep, goes, ◌>>=◌, Fetches, ReadsChoices, Accepts, Loads}
 use Rattle.edi_statuses.specs.Executions.{Runnable, text, Ran, BrokeRun}
 use Rattle.edi_statuses.specs.Commands.{Runs, OnItsOwn, IsLog, IsShownOf, PointSteps, released, put_in, size_line}
@@ -96,6 +96,22 @@ IsOpen old new = ⊤
 abbrev pub names_in : Option (List ℕ) → List (List ℕ)
 names_in None = []
 names_in (Some name) = name ∷ []
+
+-- The files failed at the record, which was asked for. The log was kept before it, and of the record's file nothing is said.
+pub record LosesRecord (bytes : List ℕ) (points : List Watched) (bound : ℕ) (choices : Choices) (out : List ℕ) (record_file : Option (List ℕ))
+    (before after : Outside) : Type 0 where
+  pub asked : IsSome record_file
+  pub log : List ℕ
+  pub log_is : IsLog bytes points bound choices before after log
+  pub files : WhereTold before.files after.files
+      (λ old new. without_names (names_in record_file) new ≡ without_names (names_in record_file) (with_kept ((out, log) ∷ []) old))
+
+-- A program was watched to its ending, and the files failed: at the log, and then no record was kept; or at the record.
+abbrev pub WatchedLost : (bytes : List ℕ) → List Watched → (bound : ℕ) → Choices → (out : List ℕ) → (record_file : Option (List ℕ)) → Outside → Outside
+    → (shown : List ℕ) → Lent → Type 0
+WatchedLost bytes points bound choices out record_file before after shown kernel =
+    RanWhole (text bytes) bound choices before after shown kernel
+    × (SameBut (out ∷ []) before after ⊎ LosesRecord bytes points bound choices out record_file before after)
 
 -- the line of a demonstration was not shown whole; all else is as behind a whole one
 pub record CutsDemo (n bound : ℕ) (choices : Choices) (record_file : Option (List ℕ)) (before after : Outside) (shown : List ℕ) (kernel : Lent)

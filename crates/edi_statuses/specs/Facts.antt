@@ -13,7 +13,7 @@ use Rattle.edi_statuses.specs.Sessions.{BootSteps, BrokeSession, EndedUnkept, En
 use Rattle.edi_statuses.specs.Commands.{IsNothing, OnItsOwn, RunSteps, ExecSteps, WatchSteps, TextSteps, OldSteps, PutSteps, GetSteps, ListSteps, DemoSteps}
 use Rattle.edi_statuses.specs.Broken.{RanWhole, RanUnkept, AtRecord, HasNotBegun, ChangesDrive, ArePutInPart, IsOpen, BrokeDemo}
 use Rattle.edi_statuses.specs.Broken.{ShowsFront, ShowsReportFront, ExplainsFront}
-use Rattle.edi_statuses.specs.Broken.{HasBegun, WentOn, RunAsks, ExecAsks, WatchAsks, WatchedUnkept}
+use Rattle.edi_statuses.specs.Broken.{HasBegun, WentOn, RunAsks, ExecAsks, WatchAsks, WatchedLost, WatchedUnkept}
 use Rattle.edi_statuses.specs.Walked.{BrokeWalk}
 
 -- ---- facts
@@ -234,5 +234,6 @@ facts_of (words.watch file points_file out o) =
           ⊎ HasBegun (WatchSteps before file points_file o.choices)
           (λ a. WatchedUnkept a.0 a.2 o.turns a.1 out o.record_file before after shown kernel);
       files_failed = λ before after shown kernel.
-          HasBegun (WatchSteps before file points_file o.choices) (λ a. RanWhole (text a.0) o.turns a.1 before after shown kernel);
+          HasBegun (WatchSteps before file points_file o.choices)
+          (λ a. WatchedLost a.0 a.2 o.turns a.1 out o.record_file before after shown kernel);
     }
