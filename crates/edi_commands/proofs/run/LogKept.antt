@@ -1,5 +1,5 @@
 -- The log and the record that are kept one after another, or are not.
-use Rattle.std.proofs.Common.{◌≡◌, ◌∙◌, ◌⊎◌, ℕ, Bool, true, false, List, [], ◌∷◌, Option, Some, None, IsSome, Err, cond, refl, sym, ap, subst, inl, inr}
+use Rattle.std.proofs.Common.{◌≡◌, ◌∙◌, ◌⊎◌, ℕ, Bool, true, false, List, ◌∷◌, Option, Some, None, Err, cond, refl, sym, ap, subst, inl, inr}
 use Rattle.std.specs.Ordering.{nat_cmp, eq_by_cmp}
 use Rattle.std.specs.Cmp.Lexicographic.{slice_cmp}
 use Rattle.std.specs.FinMap as map
@@ -16,6 +16,7 @@ use Rattle.edi_statuses.specs.Counts.{Counts, HasCause}
 use Rattle.edi_statuses.specs.Outside.{with_kept, without_names}
 use Rattle.edi_statuses.specs.Executions.{record_of}
 use Rattle.edi_statuses.specs.Broken.{names_in}
+use Rattle.edi_statuses.proofs.Told.{told_so}
 use Rattle.edi_commands.specs.steps.OnFiles.{RecordEnd, RecordStep}
 use Rattle.edi_commands.specs.run.OnMounted.{DriveAsked}
 use Rattle.edi_commands.specs.run.OnWatched.{LogEnd, LogUnkept}
@@ -40,13 +41,19 @@ in_either_order files a b =
     ∙ sym (map.get-remove nat_list_cmp_total (map.remove files b) a q))
 
 -- the log was kept, and then the file of the record was lost
-both_gone : (out log : List ℕ) (name : Option (List ℕ)) (old mid new : Contents) → mid ≡ map.insert old out log
-    → without_names (names_in name) new ≡ without_names (names_in name) mid
+both_gone : (out log : List ℕ) (name : Option (List ℕ)) (old new : Contents)
+    → without_names (names_in name) new ≡ without_names (names_in name) (map.insert old out log)
     → without_names (out ∷ names_in name) new ≡ without_names (out ∷ names_in name) old
-both_gone out log None old mid new e f = ap (λ x. map.remove x out) (f ∙ e) ∙ kept_and_gone old out log
-both_gone out log (Some n) old mid new e f =
-    in_either_order new out n ∙ ap (λ x. map.remove x out) f ∙ in_either_order mid n out ∙ ap (λ x. map.remove (map.remove x out) n) e
+both_gone out log None old new f = ap (λ x. map.remove x out) f ∙ kept_and_gone old out log
+both_gone out log (Some n) old new f =
+    in_either_order new out n ∙ ap (λ x. map.remove x out) f ∙ in_either_order (map.insert old out log) n out
     ∙ ap (λ x. map.remove x n) (kept_and_gone old out log)
+
+-- either way all other files are as before
+pub lost_but : (out log : List ℕ) (name : Option (List ℕ)) (old new : Option Contents) → LogUnkept out log name status.FileFault old new
+    → WhereTold old new (λ a b. without_names (out ∷ names_in name) b ≡ without_names (out ∷ names_in name) a)
+lost_but out log name old new (inl h) = told_so _ _ old new (λ a b e. ap (without_names (names_in name)) e) h
+lost_but out log name old new (inr h) = told_so _ _ old new (λ a b e. both_gone out log name a b e) h.1
 
 -- ---- the ends
 
@@ -64,24 +71,14 @@ module _ (out log : List ℕ) (name : Option (List ℕ)) (choices : Drawn) (came
     where
       unkept : (s : Status) → RecordStep {A = Unit {0}} name choices (Err s) mid new → LogUnkept out log name s old new
       unkept status.NoMemory h = inr (h.0, told_then _ _ _ old mid new (λ a b c e f. f ∙ e) kept h.1)
-      unkept status.FileFault h = told_then _ _ _ old mid new (λ a b c e f. both_gone out log name a b c e f) kept h.1
+      unkept status.FileFault h =
+          inr (h.0, told_then _ _ _ old mid new (λ a b c e f. f ∙ ap (without_names (names_in name)) e) kept h.1)
       unkept s h = absurd h
 
   -- the log was not kept
-  fault_leaves : (old new : Contents) → map.remove new out ≡ map.remove old out
-      → without_names (out ∷ names_in name) new ≡ without_names (out ∷ names_in name) old
-  fault_leaves old new e = ap (without_names (names_in name)) e
-
   pub log_lost : (ends : Status) (old new : Option Contents) → ends ≡ status.FileFault → WhereTold old new (λ a b. map.remove b out ≡ map.remove a out)
       → LogEnd out log name choices came ends old new
-  log_lost ends old new is h =
-      inr (subst (λ s. LogUnkept out log name s old new) (sym is) (so old new h))
-    where
-      so : (old new : Option Contents) → WhereTold old new (λ a b. map.remove b out ≡ map.remove a out)
-          → WhereTold old new (λ a b. without_names (out ∷ names_in name) b ≡ without_names (out ∷ names_in name) a)
-      so old None k = tt
-      so None (Some b) k = absurd k
-      so (Some a) (Some b) k = fault_leaves a b k
+  log_lost ends old new is h = inr (subst (λ s. LogUnkept out log name s old new) (sym is) (inl h))
 
   pub log_wants : (ends : Status) (old new : Option Contents) → ends ≡ status.NoMemory → WhereTold old new (λ a b. b ≡ a)
       → LogEnd out log name choices came ends old new

@@ -1,17 +1,15 @@
 -- The exits of a watched run: the drive is not mounted, an object has failed, the log and the record are kept, or they are not.
-use Rattle.std.proofs.Common.{◌≡◌, ◌≤◌, ◌⊎◌, ℕ, Bool, false, List, [], ◌∷◌, Option, Some, None, IsSome, refl, sym, ap, subst, inl, inr, ◌∙◌}
+use Rattle.std.proofs.Common.{◌≡◌, ◌≤◌, ℕ, Bool, false, List, [], ◌∷◌, Option, Some, None, IsSome, refl, sym, subst, inl, inr, ◌∙◌}
 use Rattle.edi_told.specs.Told.{WhereTold}
 use Rattle.edi_calls.specs.declared.ends.Outside as failing
 use Rattle.edi_calls.specs.declared.ends.Outside.TheVariants as object
 use Rattle.edi_calls.specs.Choice.{Choices}
 use Rattle.edi_calls.specs.Outcome as outcome
-use Rattle.edi_host.specs.Contents.{Contents}
 use Rattle.edi_execute.specs.Objects as execute
 use Rattle.edi_execute.specs.Objects.{HasRun, StandsAtMoment}
 use Rattle.edi_image.specs.declared.faults.MountFault.{MountFault}
 use Rattle.edi_image.specs.declared.faults.MountFault.TheVariants as mount
 use Rattle.edi_kernel.specs.declared.ends.Ending.{Ending}
-use Rattle.edi_target.specs.Check.{CodeParts}
 use Rattle.edi_trace.specs.Drawn.{Drawn}
 use Rattle.edi_scheme.specs.Laws.{parts_of}
 use Rattle.edi_compile.proofs.Meant.{texts_do_as_meant}
@@ -22,20 +20,19 @@ use Rattle.edi_watch.specs.Watchable.{IsWatchable, IsWhole, program_in}
 use Rattle.edi_watch.proofs.Meant.{unit_is}
 use Rattle.edi_statuses.specs.declared.status.Status.{Status}
 use Rattle.edi_statuses.specs.declared.status.Status.TheVariants as status
-use Rattle.edi_statuses.specs.EachObject.{LeavesEach}
-use Rattle.edi_statuses.specs.Outside.{Outside, seen, system_on, with_kept, without_names, Keeps, SameFiles, SameBut, Lent, Shows}
-use Rattle.edi_statuses.specs.Steps.{goes, Mounts}
+use Rattle.edi_statuses.specs.Outside.{Outside, seen, system_on, with_kept, SameFiles, Lent}
 use Rattle.edi_statuses.specs.Executions.{text, HasCode, BrokeRun, record_of, status_of}
 use Rattle.edi_statuses.specs.Commands.{Runs, Watches, IsLog, IsNothing}
-use Rattle.edi_statuses.specs.Broken.{KeepsLog, RanWhole, names_in}
+use Rattle.edi_statuses.specs.Broken.{KeepsLog, LosesRecord, RanWhole}
 use Rattle.edi_statuses.proofs.EachLeft.{each_same}
 use Rattle.edi_statuses.proofs.Told.{same_told, still, shows_nothing}
 use Rattle.edi_commands.specs.steps.NotMounted.{mount_status}
-use Rattle.edi_commands.specs.run.CodeRan.{RanCode, ending_status, object_status}
+use Rattle.edi_commands.specs.run.CodeRan.{ending_status, object_status}
 use Rattle.edi_commands.specs.run.OnMounted.{OnMounted}
 use Rattle.edi_commands.specs.run.OnWatched.{LogEnd, LogUnkept, OnWatched, RanWatched, TextWatched}
 use Rattle.edi_commands.proofs.run.Endings.{broke_run, has_ran, status_is, whole}
-use Rattle.edi_commands.proofs.run.Left.{devices, devices_told, ending_of, told_by, IsNoFault}
+use Rattle.edi_commands.proofs.run.LogKept.{lost_but}
+use Rattle.edi_commands.proofs.run.Left.{devices_told, ending_of, told_by, IsNoFault}
 use Rattle.edi_commands.proofs.run.Mounting.{IsLeft, IsUnmounted, left_due, left_each, left_shows, mounts, shown_in, unmounted_by, unmounted_each}
 
 -- the code of the program may be made of each text of it
@@ -50,17 +47,17 @@ not_there None e there = absurd (cc)
 not_there (Some name) e there = absurd (cc)
 
 -- a drive that was not mounted
-unmounted_watched : (out : List ℕ) (name : Option (List ℕ)) (broken whole_ logged : Type 0) (comes comes' : Status → Type 0) (before after : Outside)
+unmounted_watched : (out : List ℕ) (name : Option (List ℕ)) (broken whole_ logged lost : Type 0) (comes comes' : Status → Type 0) (before after : Outside)
     (shown : List ℕ) (kernel : Lent) (why : MountFault) → OnMounted None broken whole_ comes (mount_status why) before after shown kernel
-    → OnWatched out name broken whole_ logged comes' (mount_status why) before after shown kernel
-unmounted_watched out name broken whole_ logged comes comes' before after shown kernel mount.Fault h = h
-unmounted_watched out name broken whole_ logged comes comes' before after shown kernel mount.NoMemory (inl h) = inl h
-unmounted_watched out name broken whole_ logged comes comes' before after shown kernel mount.NoMemory (inr h) = absurd (not_there None refl h.0)
-unmounted_watched out name broken whole_ logged comes comes' before after shown kernel mount.Short h = h
-unmounted_watched out name broken whole_ logged comes comes' before after shown kernel mount.Header h = h
-unmounted_watched out name broken whole_ logged comes comes' before after shown kernel (mount.Entry slot) h = h
-unmounted_watched out name broken whole_ logged comes comes' before after shown kernel (mount.Page slot block) h = h
-unmounted_watched out name broken whole_ logged comes comes' before after shown kernel (mount.Shared block) h = h
+    → OnWatched out name broken whole_ logged lost comes' (mount_status why) before after shown kernel
+unmounted_watched out name broken whole_ logged lost comes comes' before after shown kernel mount.Fault h = h
+unmounted_watched out name broken whole_ logged lost comes comes' before after shown kernel mount.NoMemory (inl h) = inl h
+unmounted_watched out name broken whole_ logged lost comes comes' before after shown kernel mount.NoMemory (inr h) = absurd (not_there None refl h.0)
+unmounted_watched out name broken whole_ logged lost comes comes' before after shown kernel mount.Short h = h
+unmounted_watched out name broken whole_ logged lost comes comes' before after shown kernel mount.Header h = h
+unmounted_watched out name broken whole_ logged lost comes comes' before after shown kernel (mount.Entry slot) h = h
+unmounted_watched out name broken whole_ logged lost comes comes' before after shown kernel (mount.Page slot block) h = h
+unmounted_watched out name broken whole_ logged lost comes comes' before after shown kernel (mount.Shared block) h = h
 
 module _ (w : Watchable) (points : List Watched) (bound : ℕ) (out : List ℕ) (name : Option (List ℕ)) (before after : Outside) where
   -- memory ran out before the drive was asked
@@ -85,7 +82,8 @@ module _ (w : Watchable) (points : List Watched) (bound : ℕ) (out : List ℕ) 
         let comes : Status → Type 0 = λ end. Runs (text bytes) bound choices None end x after [] kernel in
         let comes' : Status → Type 0 = λ end. Watches bytes points bound choices out name end x after [] kernel in
         subst (λ t. TextWatched bytes points bound choices out name t x after [] kernel) (sym is)
-        (unmounted_watched out name broken whole_ (KeepsLog bytes points bound choices out name x after) comes comes' x after [] kernel why
+        (unmounted_watched out name broken whole_ (KeepsLog bytes points bound choices out name x after)
+        (LosesRecord bytes points bound choices out name x after) comes comes' x after [] kernel why
         (unmounted_by before after kernel why h None broken whole_ comes));
     shows = shows_nothing before.shown after.shown h.shown;
     due_is = silent;
@@ -182,7 +180,22 @@ module _ (w : Watchable) (points : List Watched) (bound : ℕ) (out : List ℕ) 
                 }),
               ),
             )
-        watched_unkept status.FileFault h = (still _ before.files after.files h, mounts due before after left, whole_ran)
+        watched_unkept status.FileFault h = (
+          still _ before.files after.files (lost_but out log name before.files after.files h),
+          mounts due before after left,
+          (
+            whole_ran,
+            elim h [
+              | inl same ↦ inl (still _ before.files after.files same)
+              | inr kept ↦ inr (record {
+                asked = kept.0;
+                log = log;
+                log_is = log_is;
+                files = still _ before.files after.files kept.1;
+              })
+            ],
+          ),
+        )
         watched_unkept s h = absurd h
 
         watched_end : (s t : Status) → Some s ≡ ending_status e → new.source ≡ old.source → LogEnd out log name new s t before.files after.files

@@ -15,16 +15,17 @@ use Rattle.edi_statuses.specs.Lines.{is_due}
 use Rattle.edi_statuses.specs.Steps.{goes, stops, Mounts}
 use Rattle.edi_statuses.specs.Executions.{text, BrokeRun, record_of}
 use Rattle.edi_statuses.specs.Commands.{IsNothing, Watches}
-use Rattle.edi_statuses.specs.Broken.{HasNotBegun, KeepsLog, RanWhole, names_in}
+use Rattle.edi_statuses.specs.Broken.{HasNotBegun, KeepsLog, LosesRecord, RanWhole, names_in}
 
 -- ---- the files
 
--- The log was not kept, or behind it the record was not: memory ran out, or the files failed.
+-- The log was not kept, and then no record was; or the log was kept, and the record was not. Memory ran out, or the files failed.
 abbrev pub LogUnkept : (out log : List ℕ) → (name : Option (List ℕ)) → Status → (before after : Option Contents) → Type 0
 LogUnkept out log name status.NoMemory before after =
     WhereTold before after (λ old new. new ≡ old) ⊎ (IsSome name × WhereTold before after (λ old new. new ≡ with_kept ((out, log) ∷ []) old))
 LogUnkept out log name status.FileFault before after =
-    WhereTold before after (λ old new. without_names (out ∷ names_in name) new ≡ without_names (out ∷ names_in name) old)
+    WhereTold before after (λ old new. without_names (out ∷ []) new ≡ without_names (out ∷ []) old)
+    ⊎ (IsSome name × WhereTold before after (λ old new. without_names (names_in name) new ≡ without_names (names_in name) (with_kept ((out, log) ∷ []) old)))
 LogUnkept out log name s before after = ⊥
 
 -- A command that came to this status keeps its log, and then its record, and ends by it, or by the status that tells why they are not kept.
@@ -36,27 +37,28 @@ LogEnd out log name choices came ends before after =
 -- ---- all of it
 
 -- The drive was not mounted; or the run was `broken` off, for an object had failed; or it came to its end, `whole`, and then the log or the record
--- wanted memory, where the log may be `logged`, or the files failed; or both were kept, and the status says to which end it `comes`.
-abbrev pub OnWatched : (out : List ℕ) → (name : Option (List ℕ)) → (broken whole logged : Type 0) → (comes : Status → Type 0) → Status → Outside → Outside
-    → (shown : List ℕ) → Lent → Type 0
-OnWatched out name broken whole logged comes status.NoMemory before after shown kernel =
+-- wanted memory, where the log may be `logged`, or the files failed, where the record may be `lost`; or both were kept, and the status says to which
+-- end it `comes`.
+abbrev pub OnWatched : (out : List ℕ) → (name : Option (List ℕ)) → (broken whole logged lost : Type 0) → (comes : Status → Type 0) → Status → Outside
+    → Outside → (shown : List ℕ) → Lent → Type 0
+OnWatched out name broken whole logged lost comes status.NoMemory before after shown kernel =
     IsNothing before after shown kernel ⊎ (Mounts before (goes tt) × (whole × (SameFiles before after ⊎ logged)))
-OnWatched out name broken whole logged comes status.FileFault before after shown kernel =
-    SameBut (out ∷ names_in name) before after × Mounts before (goes tt) × whole
-OnWatched out name broken whole logged comes status.DriveFault before after shown kernel =
+OnWatched out name broken whole logged lost comes status.FileFault before after shown kernel =
+    SameBut (out ∷ names_in name) before after × Mounts before (goes tt) × (whole × (SameBut (out ∷ []) before after ⊎ lost))
+OnWatched out name broken whole logged lost comes status.DriveFault before after shown kernel =
     SameFiles before after × (HasNotBegun before after shown kernel ⊎ (Mounts before (goes tt) × broken))
-OnWatched out name broken whole logged comes status.InputFault before after shown kernel = SameFiles before after × Mounts before (goes tt) × broken
-OnWatched out name broken whole logged comes status.OutputFault before after shown kernel = SameFiles before after × Mounts before (goes tt) × broken
-OnWatched out name broken whole logged comes (status.BadImage fault) before after shown kernel =
+OnWatched out name broken whole logged lost comes status.InputFault before after shown kernel = SameFiles before after × Mounts before (goes tt) × broken
+OnWatched out name broken whole logged lost comes status.OutputFault before after shown kernel = SameFiles before after × Mounts before (goes tt) × broken
+OnWatched out name broken whole logged lost comes (status.BadImage fault) before after shown kernel =
     Mounts before (stops (status.BadImage fault)) × IsNothing before after shown kernel
-OnWatched out name broken whole logged comes s before after shown kernel = Mounts before (goes tt) × comes s
+OnWatched out name broken whole logged lost comes s before after shown kernel = Mounts before (goes tt) × comes s
 
 -- so of a text with these points
 abbrev pub TextWatched : (bytes : List ℕ) → List Watched → (bound : ℕ) → Choices → (out : List ℕ) → (record_file : Option (List ℕ)) → Status
     → Outside → Outside → (shown : List ℕ) → Lent → Type 0
 TextWatched bytes points bound choices out name s before after shown kernel =
     OnWatched out name (BrokeRun (text bytes) bound choices before after shown) (RanWhole (text bytes) bound choices before after shown kernel)
-    (KeepsLog bytes points bound choices out name before after)
+    (KeepsLog bytes points bound choices out name before after) (LosesRecord bytes points bound choices out name before after)
     (λ end. Watches bytes points bound choices out name end before after shown kernel) s before after shown kernel
 
 -- And so of every text of this program; a line feed is due before the line of the status, or not.
