@@ -136,12 +136,17 @@ call 6 watch f p log --record r
 shows a/file fault/
 none r
 files 4
-| proc main(proc display(value: char)) begin display('a') end
+| proc main(proc display(value: char))
+| var x: int
+| begin cobegin 1 do when x = 0 do display('a'); x := 1 end
+| also 2 do when true do display('b') end end end
 file f
+| 3 x
+|
 file p
 call 6 watch f p log --record r
-shows a/file fault/
-holds log
+shows ab/file fault/
+holds log turn 3 line 3 x 0/
 none r
 files 0
 terminal 0 0
