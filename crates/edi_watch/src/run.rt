@@ -73,7 +73,7 @@ pub fn watch_on<D: Drive, S: Source, T: Sink, P: Sink>(
     ensures not_mounted { IfErr result (λ why. WhereTold (D.contents drive.old) (D.contents drive.new)
         (λ old new. (new ≡ old) × IsFirst why (mount_fault_of old))) }
     ensures nothing_run { IfErr result (λ why. (input.new ≡ input.old) × (terminal.new ≡ terminal.old) × (printer.new ≡ printer.old)
-        × (kernel.new ≡ kernel.old) × (choices.new ≡ choices.old)) }
+        × (kernel.new ≡ kernel.old) × (choices.new ≡ choices.old) × (log.new ≡ log.old)) }
     ensures faults { IfErr result (IsOfCount (D.count drive.old)) }
     ensures cause { IfErr result (λ why. why ≡ MountFault.Fault → CountRose (D.faults drive.old) (D.faults drive.new)) }
     ensures source { choices.new.source ≡ choices.old.source }
