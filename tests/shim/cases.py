@@ -1,6 +1,7 @@
 """The commands that are played with faults, and what each does where nothing fails, as the manual has it."""
 
 import dataclasses
+import itertools
 
 TEXT, CODE = 1, 2
 
@@ -21,8 +22,8 @@ class About:
     disk: dict = dataclasses.field(default_factory=dict)
     # After a fault of the disk nothing is known of it.
     disk_is_lost: bool = False
-    # After a refused allocation a session may end otherwise: what it shows, and the files of its disk.
-    lines: tuple = ()
+    # If so many lines of a session have no memory: what it shows, and the files of its disk.
+    lines: list = dataclasses.field(default_factory=list)
 
 
 @dataclasses.dataclass
@@ -86,27 +87,40 @@ LISTING = b"      0 ENTRY 9 0 3 0 0\n      6 CONST 97\n      8 CALLP 0 5 1\n    
 # A session, and what it shows: each line after `> `, but for those of the entered text and of the editor.
 ENTERED = b"proc main(proc display(value: char))\nbegin display('a') end\n"
 SESSION = b"enter t\n" + ENTERED + b".\ncompile t c\nc\ncopy t u\nedit u\ni 1\nx\nw\ntype u\ndelete t\nhalt\n"
-HEAD, TAIL = b"> enter t\n> compile t c\n", b"> delete t\n> halt\n"
-EDITED = b"> copy t u\n> edit u\n"
-TYPED, AS_COPIED = b"> type u\nx\n" + ENTERED, b"> type u\n" + ENTERED
 
+# The files of its disk after enter, compile, copy, edit and delete.
 T, C, U = (TEXT, 0, ENTERED), (CODE, 0, COMPILED), (TEXT, 0, b"x\n" + ENTERED)
 MOMENTS = (
-    *(b"> enter t\n", {"t": T}, b"> compile t c\n", {"t": T, "c": C}, b"> c\na\n> copy t u\n", {"t": T, "c": C, "u": T}),
-    *(b"> edit u\n", {"t": T, "c": C, "u": U}, TYPED + b"> delete t\n", {"c": C, "u": U}, b"> halt\n"),
+    *(b"> enter t\n", {"t": T}, b"> compile t c\n", {"t": T, "c": C}),
+    *(b"> c\na\n> copy t u\n", {"t": T, "c": C, "u": T}, b"> edit u\n", {"t": T, "c": C, "u": U}),
+    *(b"> type u\nx\n" + ENTERED + b"> delete t\n", {"c": C, "u": U}, b"> halt\n"),
 )
 
-# One of its lines has no memory: compile, the execution, the beginning of the editing, its lines `i 1` and `w`. In the
-# third the lines of the editor are commands; in the last one the editing goes on, and what follows is no line of it.
-NO_MEMORY, RAN = b"no memory\n", HEAD + b"> c\na\n" + EDITED
-COMMANDS = b"> i 1\nbad command\n> x\nno file x\n> w\nno file w\n"
-WITHOUT = (
-    (HEAD + NO_MEMORY + b"> c\nno file c\n" + EDITED + TYPED + TAIL, {"u": U}),
-    (HEAD + b"> c\n" + NO_MEMORY + EDITED + TYPED + TAIL, {"c": C, "u": U}),
-    (RAN + NO_MEMORY + COMMANDS + AS_COPIED + TAIL, {"c": C, "u": T}),
-    (RAN + NO_MEMORY + AS_COPIED + TAIL, {"c": C, "u": T}),
-    (RAN + NO_MEMORY + b"bad edit\n" * 3, {"t": T, "c": C, "u": T}),
-)
+
+def session(without):
+    """What it shows and the files of its disk, if these of its lines have no memory."""
+    shown, disk = b"> enter t\n> compile t c\n", {"t": T}
+    if "compile" in without:
+        shown += NO_MEMORY + b"> c\nno file c\n"
+    else:
+        shown += b"> c\n" + (NO_MEMORY if "c" in without else b"a\n")
+        disk["c"] = C
+    shown, disk["u"] = shown + b"> copy t u\n> edit u\n", T
+    if "edit" in without:
+        # The lines of the editor are lines of the session then.
+        shown += NO_MEMORY + b"> i 1\nbad command\n> x\nno file x\n> w\nno file w\n"
+    else:
+        shown += NO_MEMORY if "i 1" in without else b""
+        if "w" in without:
+            # The editing goes on, and what follows is no line of it.
+            return shown + NO_MEMORY + b"bad edit\n" * 3, disk
+        disk["u"] = T if "i 1" in without else U
+    del disk["t"]
+    return shown + b"> type u\n" + disk["u"][2] + b"> delete t\n> halt\n", disk
+
+
+NO_MEMORY, TAKING = b"no memory\n", ("compile", "c", "edit", "i 1", "w")
+WITHOUT = [(n, *session(some)) for n in range(1, 6) for some in itertools.combinations(TAKING, n)]
 
 CASES = [
     # Seed 7 begins with 230 and 15: branch 1 arrives and goes on to its end, and then branch 2 is alone.
@@ -124,7 +138,10 @@ CASES = [
         files={"works": WORKS, "c": b"1\n", "old": b"o\n"}, before=(*WITH_OLD, "compile works code"), disk=OLD,
     ),
     # Its `display` stands on line 1.
-    About("compile", "compile hello code", (Kept("code", COMPILED.replace(b"\0\5\0\2", b"\0\5\0\1")),), files={"hello": HELLO}),
+    About(
+        "compile", "compile hello code", (Kept("code", COMPILED.replace(b"\0\5\0\2", b"\0\5\0\1")),),
+        files={"hello": HELLO},
+    ),
     About("refused", "compile cut code", (b"line 2 invalid syntax\n",), 2, files={"cut": b"proc\n"}),
     About("list", "list code", (LISTING,), files={"hello": HELLO}, before=("compile hello code",)),
     About("check", "check race", (b"line 3 branches 1 2 may share\n",), files={"race": RACE}),
@@ -144,7 +161,10 @@ CASES = [
         "from", "newdisk 64 --from blank", ({},), files={"old": b"o\n", "blank": BLANK},
         before=WITH_OLD, disk=OLD, disk_is_lost=True,
     ),
-    About("put", "put more old", ({"old": (TEXT, 0, LONG)},), files={"old": b"o\n", "more": LONG}, before=WITH_OLD, disk=OLD),
+    About(
+        "put", "put more old", ({"old": (TEXT, 0, LONG)},),
+        files={"old": b"o\n", "more": LONG}, before=WITH_OLD, disk=OLD,
+    ),
     # A protected file is released, and then replaced.
     About(
         "put_protected", "put more old", (OLD, {"old": (TEXT, 0, LONG)}), disk={"old": (TEXT, 1, b"o\n")},

@@ -9,7 +9,7 @@ def number(some):
 
 
 def files_of(disk):
-    """For each title its kind (1 text, 2 code), 1 if it is protected, and its bytes; or, as text, the first broken rule."""
+    """For each title the kind (1 text, 2 code), the protection (0 or 1) and the bytes; or, as text, a broken rule."""
     disk = disk or b""
     blocks = [disk[at : at + 512] for at in range(0, len(disk) // 512 * 512, 512)]
     if not blocks:

@@ -1,9 +1,9 @@
 // A library that is loaded before a program (LD_PRELOAD) and makes one of its calls of the host fail.
 //
-// SHIM_REFUSE=K    the K-th allocation is refused
-// SHIM_FAIL=K      the K-th call on a file fails with the number SHIM_ERROR; where SHIM_ERROR is `short`, that read or write
+// SHIM_REFUSE=K    the K-th allocation is refused; with SHIM_REST=1 all after it too
+// SHIM_FAIL=K      the K-th call on a file fails with the number SHIM_ERROR; where that is `short`, this read or write
 //                  moves half of its bytes, at least one
-// SHIM_LOG=FILE    what was called is written to FILE: a line for each call on a file, with the call and what it was on,
+// SHIM_LOG=FILE    what was called is written to FILE: a line for each call on a file, with the call and its file,
 //                  and at the end the number of allocations
 //
 // Calls are counted from 1, from the beginning of the program's own code on. It is for glibc on Linux.
@@ -25,7 +25,7 @@ extern void *__libc_calloc(size_t, size_t);
 extern void *__libc_realloc(void *, size_t);
 extern void *__libc_memalign(size_t, size_t);
 
-static int begun, is_short, error_number, log_file = -1;
+static int begun, is_short, is_rest, error_number, log_file = -1;
 static long allocations, calls, refused, failing;
 // What each number of a file stands for: the last part of the name with which it was opened.
 static char names[64][32] = {"stdin", "stdout", "stderr"};
@@ -42,6 +42,7 @@ static void put_log(const char *text) {
 __attribute__((constructor)) static void begin(void) {
   const char *error = getenv("SHIM_ERROR"), *log = getenv("SHIM_LOG");
   refused = number_in("SHIM_REFUSE");
+  is_rest = number_in("SHIM_REST") == 1;
   failing = number_in("SHIM_FAIL");
   is_short = error && strcmp(error, "short") == 0;
   error_number = error && !is_short ? atoi(error) : EIO;
@@ -64,7 +65,7 @@ __attribute__((destructor)) static void end(void) {
 // ---- allocations
 
 static int is_refused(void) {
-  if (!begun || ++allocations != refused) return 0;
+  if (!begun || ++allocations < refused || refused == 0 || (allocations > refused && !is_rest)) return 0;
   errno = ENOMEM;
   return 1;
 }
@@ -166,7 +167,9 @@ ssize_t readv(int file, const struct iovec *parts, int count) {
 int flock(int file, int how) { return fails("lock", name_of(file)) ? -1 : (int)syscall(SYS_flock, file, how); }
 int fsync(int file) { return fails("sync", name_of(file)) ? -1 : (int)syscall(SYS_fsync, file); }
 int fdatasync(int file) { return fails("sync", name_of(file)) ? -1 : (int)syscall(SYS_fdatasync, file); }
-int ftruncate(int file, off_t size) { return fails("truncate", name_of(file)) ? -1 : (int)syscall(SYS_ftruncate, file, size); }
+int ftruncate(int file, off_t size) {
+  return fails("truncate", name_of(file)) ? -1 : (int)syscall(SYS_ftruncate, file, size);
+}
 int ftruncate64(int file, off_t size) { return ftruncate(file, size); }
 
 int statx(int folder, const char *restrict path, int flags, unsigned mask, struct statx *restrict about) {
@@ -174,7 +177,9 @@ int statx(int folder, const char *restrict path, int flags, unsigned mask, struc
   return (int)syscall(SYS_statx, folder, path, flags, mask, about);
 }
 
-int rename(const char *from, const char *to) { return fails("rename", last_of(to)) ? -1 : (int)syscall(SYS_rename, from, to); }
+int rename(const char *from, const char *to) {
+  return fails("rename", last_of(to)) ? -1 : (int)syscall(SYS_rename, from, to);
+}
 
 int close(int file) {
   if (file >= 3 && file < 64) names[file][0] = 0;
