@@ -1,3 +1,4 @@
 mod Explored
+mod Keeping
 mod Reading
 mod Runs

@@ -1,5 +1,6 @@
 pub mod Explorations
 pub mod Input
+pub mod Keeping
 pub mod Laws
 pub mod Lines
 pub mod Records

@@ -12,6 +12,6 @@ mod words;
 
 pub use input::{InputFault, MOST_INPUT, names_accept, read_input};
 pub use lines::report_text;
-pub use records::record_name;
+pub use records::{keep_records, record_name};
 pub use summary::{Summary, sum_up};
 pub use text::explore_text;

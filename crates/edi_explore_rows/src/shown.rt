@@ -1,13 +1,14 @@
 //! What is shown of explorations; their inputs, and the names of their files.
 
-use crate::explored::{WIDE, code_of};
-use crate::texts::{ECHO, EITHER, FOREVER, LETTER, STANDS, WAITS};
+use crate::explored::{WIDE, code_of, explored};
+use crate::texts::{ECHO, EITHER, FOREVER, LETTER, LOST, STANDS, WAITS};
 use edi_compile::front;
 use edi_explore_on::{
     InputFault, Summary, explore_text, names_accept, read_input, record_name, report_text, sum_up,
 };
-use edi_host::MemorySource;
+use edi_host::{KeepEnd, MemoryFiles, MemorySource};
 use edi_kernel::Kernel;
+use edi_trace::read_choices;
 use std::alloc::Global;
 use std::process::Abort;
 
@@ -127,4 +128,31 @@ fn inputs_are_read_to_their_ends(rt: HostRuntime) {
 fn records_have_numbers(rt: HostRuntime) {
     let name = record_name(rt.alloc(), "p", 12).expect(&rt, "memory");
     assert!(rt; name.as_bytes() == "p.12".as_bytes());
+}
+
+// Whether a file has these choices.
+fn keeps(rt: &impl Abort, alloc: Global, files: &MemoryFiles, name: &str, choices: &[u8]) -> bool {
+    match files.get(name) {
+        Some(bytes) => match read_choices(alloc, bytes) {
+            Ok(values) => values.as_slice() == choices,
+            Err(_) => panic!(rt; "{name}"),
+        },
+        None => false,
+    }
+}
+
+// LOST has two endings. The second call of a keep fails.
+#[test]
+fn records_are_kept(rt: HostRuntime) {
+    let alloc = rt.alloc();
+    let report = explored(&rt, alloc, LOST, "", WIDE);
+    let mut files = MemoryFiles::new(alloc, &[]).expect(&rt, "memory");
+    assert!(rt; keep_records(alloc, &mut files, "p", &report) == KeepEnd::Ok);
+    assert_eq!(rt; report.found.len(), 2);
+    assert!(rt; keeps(&rt, alloc, &files, "p.1", &report.found[0].choices));
+    assert!(rt; keeps(&rt, alloc, &files, "p.2", &report.found[1].choices));
+    assert!(rt; files.get("p.3").is_none());
+    let mut failing = MemoryFiles::new(alloc, &[2]).expect(&rt, "memory");
+    assert!(rt; keep_records(alloc, &mut failing, "p", &report) == KeepEnd::Failed);
+    assert!(rt; keeps(&rt, alloc, &failing, "p.1", &report.found[0].choices));
 }
