@@ -25,7 +25,13 @@ pub(crate) fn code_of(rt: &impl Abort, alloc: Global, text: &str) -> Code {
 }
 
 // What is found of a text.
-pub(crate) fn explored(rt: &impl Abort, alloc: Global, text: &str, input: &str, limits: Limits) -> Report {
+pub(crate) fn explored(
+    rt: &impl Abort,
+    alloc: Global,
+    text: &str,
+    input: &str,
+    limits: Limits,
+) -> Report {
     let code = code_of(rt, alloc, text);
     let mut kernel = Kernel::new(alloc).expect(rt, "memory");
     explore(alloc, &mut kernel, &code, input.as_bytes(), limits).expect(rt, "memory")

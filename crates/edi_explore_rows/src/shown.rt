@@ -4,7 +4,8 @@ use crate::explored::{WIDE, code_of, explored};
 use crate::texts::{ECHO, EITHER, FOREVER, LETTER, LOST, STANDS, WAITS};
 use edi_compile::front;
 use edi_explore_on::{
-    InputFault, Summary, explore_text, names_accept, read_input, record_name, report_text, sum_up,
+    InputFault, Summary, explore_text, keep_records, names_accept, read_input, record_name,
+    report_text, sum_up,
 };
 use edi_host::{KeepEnd, MemoryFiles, MemorySource};
 use edi_kernel::Kernel;
