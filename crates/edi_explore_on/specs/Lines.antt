@@ -55,7 +55,7 @@ abbrev pub ending_lines : List Reached → List ℕ
 ending_lines [] = []
 ending_lines (one ∷ found) = ending_line one ++ ending_lines found
 
--- Where all executions were followed: none ends otherwise. That those of which an ending was found end is not said.
+-- Where all executions were followed. That one ends so does not say that each one ends.
 abbrev pub all_text : (found : ℕ) → List ℕ
 all_text zero = codes "every execution goes on for ever"
 all_text (suc n) = codes "no execution ends otherwise"
