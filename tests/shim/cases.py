@@ -122,6 +122,17 @@ def session(without):
 NO_MEMORY, TAKING = b"no memory\n", ("compile", "c", "edit", "i 1", "w")
 WITHOUT = [(n, *session(some)) for n in range(1, 6) for some in itertools.combinations(TAKING, n)]
 
+# Of an undeclared name, which stands after `begin `: edi_explain/specs/told, `name_text`.
+EXPLAINED = b"""2: begin f end
+         ^
+the name 'f' seems to mean nothing here
+A name of this line means nothing here. A name means something from its declaration to the end of
+the procedure, module or program round it. Look for another spelling, small and capital letters too;
+for a declaration that stands further down: 'pre proc' announces a procedure; for a name of a module
+that has no '*'; for a field that the record has not; for display or another call that the heading
+of the program does not name.
+"""
+
 CASES = [
     # Seed 7 begins with 230 and 15: branch 1 arrives and goes on to its end, and then branch 2 is alone.
     About(
@@ -144,6 +155,9 @@ CASES = [
     ),
     About("refused", "compile cut code", (b"line 2 invalid syntax\n",), 2, files={"cut": b"proc\n"}),
     About("list", "list code", (LISTING,), files={"hello": HELLO}, before=("compile hello code",)),
+    About(
+        "explain", "explain undeclared", (EXPLAINED, b"line 2 undeclared name\n"), 2, files={"undeclared": b"proc main\nbegin f end\n"},
+    ),
     About("check", "check race", (b"line 3 branches 1 2 may share\n",), files={"race": RACE}),
     About(
         "watch", "watch race both log --choices c --record r",
