@@ -126,7 +126,7 @@ pub record IsSyntaxText (text : List ℕ) (known : List Mark × ℕ) (shown : Li
 
 abbrev pub later_text : Option ℕ → List ℕ
 later_text None = []
-later_text (Some line) = codes "'proc' stands before this name further down, on line " ++ (decimal line ++ codes "\n")
+later_text (Some line) = codes "a procedure of this name is declared further down, on line " ++ (decimal line ++ codes "\n")
 
 -- the line with the caret at the one name that can be undeclared, and where a procedure of that name is declared after it; or the line alone
 abbrev pub name_text : List ℕ → List Mark → (line : ℕ) → Found → List ℕ

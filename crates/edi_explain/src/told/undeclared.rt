@@ -41,7 +41,7 @@ fn put_later(out: &mut Vec<u8>, line: Option<u16>) -> Result<(), AllocError>
         return Ok(());
     };
     let mut buffer = Buffer::new();
-    out.extend_from_slice(b"'proc' stands before this name further down, on line ")?;
+    out.extend_from_slice(b"a procedure of this name is declared further down, on line ")?;
     out.extend_from_slice(buffer.format(line).as_bytes())?;
     out.push(b'\n')?;
     Ok(())
