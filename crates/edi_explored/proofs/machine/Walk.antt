@@ -38,7 +38,7 @@ module _ (g : Coded) (lead : Bool) (from : ℕ) (fs : List Frame) (m : List ℕ)
   matches_linked (doing a position ∷ ws) pc d h = matches_linked ws h.3.0 d h.3.5
   matches_linked (loop_end cs position ∷ ws) pc d h = matches_linked ws h.3.2 d h.3.8
   matches_linked (procedure_end line ∷ ws) pc zero h = absurd h.3
-  matches_linked (procedure_end line ∷ ws) pc (suc e) h = one_more e h.3.1 h.3.3 (matches_linked ws h.3.1 e h.3.4)
+  matches_linked (procedure_end line ∷ ws) pc (suc e) h = one_more e h.3.1 h.3.3 (matches_linked ws h.3.1 e h.3.5)
   matches_linked (branch_end ∷ ws) pc d h = none_below d h.3.2
   matches_linked (program_entry ∷ ws) pc d h = absurd h.3
   matches_linked (program_end ∷ ws) pc d h = none_below d h.3.2

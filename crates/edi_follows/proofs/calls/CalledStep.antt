@@ -10,6 +10,7 @@ use Rattle.edi_unit.specs.Need.{callee_result}
 use Rattle.edi_unit.specs.Fits.{callee_heading, CalleeFits}
 use Rattle.edi_unit.specs.Headings.{heading_formals}
 use Rattle.edi_unit.specs.declared.expressions.Callee.{Callee}
+use Rattle.edi_unit.specs.declared.expressions.Callee.TheVariants as callee
 use Rattle.edi_meaning.specs.Store.{Cell, Store, Shape, shape, room, now, used, grown}
 use Rattle.edi_meaning.specs.Evaluation.{World, Evaluation, gives, ends, ◌>>=◌, fails, turn, turn_from}
 use Rattle.edi_meaning.specs.Whole.{meant, instance_of, system_call, levels_of}
@@ -22,7 +23,7 @@ use Rattle.edi_scheme.specs.Stands as code
 use Rattle.edi_follows.specs.values.Words.{ValuesAreLong, ZeroIsZeros}
 use Rattle.edi_follows.specs.places.Coded.{Coded, block, entry}
 use Rattle.edi_follows.specs.places.Spots.{frame_start, bottom, cells_words, IsOther}
-use Rattle.edi_follows.specs.places.Located.{Agrees}
+use Rattle.edi_follows.specs.places.Located.{IsCalledFrom, by_block, by_parameter, Agrees}
 use Rattle.edi_follows.specs.places.Walks.{Walker}
 use Rattle.edi_follows.specs.places.Scene.{Scene, Outer, alone, here, base_of, Stands, After, DoesSo, gets}
 use Rattle.edi_follows.specs.places.Claims.{Passed, Ran, SystemClaim}
@@ -111,6 +112,15 @@ module _ (g : Coded) (long : ValuesAreLong) (zeros : ZeroIsZeros) (s : Scene)
 
   -- ---- a block
 
+  -- the call itself is one instruction, in front of what follows it
+  from_call : IsCalledFrom g to line
+  from_call = called_from c st
+    where
+      called_from : (c : Callee) → code.AreInstructions g.fetched (call_code g.unit.types g.unit.blocks (entry g) (here g s F) c line) pc to
+          → IsCalledFrom g to line
+      called_from (callee.Block levels n) stands = by_block pc levels (entry g n) stands
+      called_from (callee.Formal levels v) stands = by_parameter pc levels _ stands
+
   module _ (y : ByBlock g s F w m h c line pc to (t + length (cells_words g s.first F cells)) 0 cells) where
     abbrev n : ℕ
     n = y.number
@@ -153,7 +163,7 @@ module _ (g : Coded) (long : ValuesAreLong) (zeros : ZeroIsZeros) (s : Scene)
         (alone s K now_mem bodied.body (bottom g s.first K p) (0 + function_flag B.result) out) cleared true there
         (gets_one g.fetched s.count (is_first p) (Outer s) start (alone s K now_mem bodied.body (bottom g s.first K p) (0 + function_flag B.result) out) true
         (entering.moves_there g long zeros s F w m h n y.parent cells y.called t to line pc 0 low few passed.words y.does free k i))))
-        (entered_work g long zeros s F w m h n y.parent cells y.called to line pc low few passed.words y.does free none left at)
+        (entered_work g long zeros s F w m h n y.parent cells y.called to line pc low few passed.words y.does free none left from_call at)
 
     tested : (full : Bool) → nat_lt (s.size p - used (F p)) B.need ≡ full →
         Follows g s store from r (if full then fails cause.VariableLimit line w else turn w

@@ -21,7 +21,7 @@ use Rattle.edi_scheme.specs.Stands as code
 use Rattle.edi_follows.specs.values.Words.{ValuesAreLong, ZeroIsZeros}
 use Rattle.edi_follows.specs.places.Coded.{Coded, block, entry, kept}
 use Rattle.edi_follows.specs.places.Spots.{frame_start, address, cells_words}
-use Rattle.edi_follows.specs.places.Located.{frame_of, Room, Links, Matches, Agrees}
+use Rattle.edi_follows.specs.places.Located.{frame_of, Room, Links, IsCalledFrom, Matches, Agrees}
 use Rattle.edi_follows.specs.places.Scene.{Scene, alone, base_of, Stands}
 use Rattle.edi_follows.specs.places.Steps.{work_at}
 use Rattle.edi_follows.proofs.places.Places.{start_within, roomy}
@@ -51,7 +51,7 @@ module _ (g : Coded) (long : ValuesAreLong) (zeros : ZeroIsZeros) (s : Scene) (F
     (does : effect_at g.fetched (g.fetched pc) s.count (is_first s.name) (alone s F m pc (base_of g s F + length (cells_words g s.first F cells)) 0 w).local
     ≡ enter (g.fetched (entry g n)) (address s.first F parent) to line (alone s F m pc (base_of g s F + length (cells_words g s.first F cells)) 0 w).local)
     (free : nat_lt (s.size s.name - used (F s.name)) (block g n).need ≡ false) (none : (block g n).result ≡ None) (left : List Work)
-    (at : work_at g s F m left to) where
+    (from_call : IsCalledFrom g to line) (at : work_at g s F m left to) where
   abbrev p : Name
   p = s.name
 
@@ -152,6 +152,7 @@ module _ (g : Coded) (long : ValuesAreLong) (zeros : ZeroIsZeros) (s : Scene) (F
           to,
           ap g.fetched refl ∙ bodied.returns ∙ ap (λ i. Some (i, bodied.after)) (returns_nothing g B none),
           links,
+          from_call,
           matches_kept g lead from (F p) (K p) m new_mem left to d agrees at,
         ),
       ))

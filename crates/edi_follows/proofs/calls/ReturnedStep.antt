@@ -178,4 +178,4 @@ returned_claim g s line left F pc w m h at = go (length (F s.name) - 1) refl at
     go : (d : ℕ) → d ≡ length (F s.name) - 1 → Matches g (is_first s.name) (s.first s.name) (F s.name) m (procedure_end line ∷ left) pc d →
         Follows g s w.store m (alone s F m pc (base_of g s F) 0 w) (turn_from w.turns w (λ x. gives (goes left) (record x { store = shrunk s.name x.store })))
     go zero e x = absurd x.3
-    go (suc d) e x = turned g s left F pc w m h d x.0 x.1 x.3.0 x.3.1 e x.2 x.3.2 x.3.3 x.3.4 w.turns refl
+    go (suc d) e x = turned g s left F pc w m h d x.0 x.1 x.3.0 x.3.1 e x.2 x.3.2 x.3.3 x.3.5 w.turns refl

@@ -58,8 +58,8 @@ module _ (g : Coded) where
   matches_kept lead from fs fs' m m' (procedure_end line ∷ ws) pc zero a h = absurd h.3
   matches_kept lead from fs fs' m m' (procedure_end line ∷ ws) pc (suc e) a h =
       let links = links_kept from fs fs' m m' e h.3.1 a h.3.3 in
-      let rest = matches_kept lead from fs fs' m m' ws h.3.1 e (agrees_less from fs fs' m m' (suc e) e (omega arith) a) h.3.4 in
-      (h.0, h.1, h.2, (h.3.0, h.3.1, h.3.2, links, rest))
+      let rest = matches_kept lead from fs fs' m m' ws h.3.1 e (agrees_less from fs fs' m m' (suc e) e (omega arith) a) h.3.5 in
+      (h.0, h.1, h.2, (h.3.0, h.3.1, h.3.2, links, h.3.4, rest))
   matches_kept lead from fs fs' m m' (branch_end ∷ ws) pc d a h = h
   matches_kept lead from fs fs' m m' (program_entry ∷ ws) pc d a h = absurd h.3
   matches_kept lead from fs fs' m m' (program_end ∷ ws) pc d a h = h

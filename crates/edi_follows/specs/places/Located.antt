@@ -47,6 +47,11 @@ module _ (g : Coded) where
     pub address : address_of_words (word m (from + frame_start fs (suc e) + 2)) (word m (from + frame_start fs (suc e) + 3)) ≡ back
     pub top : word m (from + frame_start fs (suc e) + 4) ≡ from + frame_start fs e + kept g (frame_of fs e).block
 
+  -- in front of this address stands a call that was written on this line
+  pub data IsCalledFrom (back line : ℕ) : Type 0 where
+    by_block : (at level target : ℕ) → code.InstructionStands g.fetched at (op.call level target line) back → IsCalledFrom back line
+    by_parameter : (at level offset : ℕ) → code.InstructionStands g.fetched at (op.call_p level offset line) back → IsCalledFrom back line
+
   -- one piece of work for the frame at depth d; `rest` says where what follows it stands; `lead` says whether this is the first
   -- process, which alone comes to the program's end
   abbrev pub Item : Bool → ℕ → List Frame → List ℕ → Work → ℕ → ℕ → (ℕ → ℕ → Type 0) → Type 0
@@ -62,7 +67,7 @@ module _ (g : Coded) where
       × Sited (frame_of fs d).block position (while_act cs) top × rest to d
   Item lead from fs m (procedure_end line) q zero rest = ⊥
   Item lead from fs m (procedure_end line) q (suc e) rest =
-      (next back : ℕ) × code.InstructionStands g.fetched q (op.return 0 0) next × Links from fs m e back × rest back e
+      (next back : ℕ) × code.InstructionStands g.fetched q (op.return 0 0) next × Links from fs m e back × IsCalledFrom back line × rest back e
   Item lead from fs m branch_end q d rest = (next : ℕ) × code.InstructionStands g.fetched q op.exit next × (d ≡ 0) × (lead ≡ false)
   Item lead from fs m program_entry q d rest = ⊥
   Item lead from fs m program_end q d rest = (next : ℕ) × code.InstructionStands g.fetched q (op.return 0 0) next × (d ≡ 0) × (lead ≡ true)
