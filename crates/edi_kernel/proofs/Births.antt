@@ -103,7 +103,7 @@ module _ (t u : Table) (n : Naming) (m k : Machine) (p c f j : ℕ) (x : Process
     pub forks_not_c : (i : ℕ) → (i ≡ c → ⊥) → now_named.forks i ≡ n.forks i
     forks_not_c i ne = ap (λ d. if d then 0 else n.forks i) (ne_eqb i c ne)
 
-    forks_c : (i : ℕ) → i ≡ c → now_named.forks i ≡ 0
+    pub forks_c : (i : ℕ) → i ≡ c → now_named.forks i ≡ 0
     forks_c i e = ap (λ d. if d then 0 else n.forks i) (eq-eqb i c e)
 
     pub was : (i : ℕ) → (i ≡ c → ⊥) → is_live u i ≡ true → is_live t i ≡ true

@@ -19,6 +19,7 @@ use Rattle.edi_kernel.specs.Table.{Withdraws, process_at, marked_at, ready_slots
 use Rattle.edi_kernel.specs.TableIsMachine.{IsTable, IsTaken, IsBetween, Naming, Awaits, Born, TableIsMachine, entry_of, is_child_of, children_of, marked_among}
 use Rattle.edi_kernel.specs.Kernel.{IsKernel, IsTakenIn, Holds}
 use Rattle.edi_kernel.specs.Runs.{PicksBy, Picks, Chooses}
+use Rattle.edi_kernel.specs.Named.{HoldsBy, ChoosesBy}
 use Rattle.edi_kernel.proofs.Counts.{where_same, marked_same}
 use Rattle.edi_kernel.proofs.Lists.{home_among, not_both, withdrawn_table}
 use Rattle.edi_kernel.proofs.Sharing.{none_twice, list_without, others_named}
@@ -170,3 +171,9 @@ module _ (old new : KernelState) (at x : ℕ) (before after : Drawn) (kernel : I
           is_ready = refl;
         };
       }
+
+  -- by the same names
+  pub chooses_by : (ready : ℕ) → ready ≡ length (ready_slots old.table) → at < ready → Picks ready before at after → before.drawn < 2 ^ 64 - 1 →
+      (n : Naming) (m : Machine) (names : List Name) → HoldsBy n old m None names → ChoosesBy n new m before after names
+  unfolding chooses
+  chooses_by ready e less pick drawn n m names h = (chooses ready e less pick drawn m names h.holds, h.by)

@@ -4,7 +4,7 @@ use Rattle.std.proofs.Common.{◌∷◌, ◌++◌, length, map, drop, Option, So
 use Rattle.std.specs.Prelude.{slice_get}
 use Rattle.std.specs.Option.{option_map}
 use Rattle.std.proofs.lemmas.Bool.{cases_eq, ne_eqb}
-use Rattle.std.proofs.lemmas.List.{append-nil}
+use Rattle.std.proofs.lemmas.List.{append-nil, length-append}
 use Rattle.edi_calls.specs.Names.{Name, with_at}
 use Rattle.edi_calls.specs.Ready.{child, children, has}
 use Rattle.edi_store.specs.Memory.{written}
@@ -20,6 +20,7 @@ use Rattle.edi_kernel.specs.declared.table.Table.{Table}
 use Rattle.edi_kernel.specs.Table.{Added, beginning, process_at, ready_slots, is_live, is_free_home, no_marks, no_process}
 use Rattle.edi_kernel.specs.TableIsMachine.{IsTable, Naming, Awaits, TableIsMachine, entry_of, children_of}
 use Rattle.edi_kernel.specs.Forks.{OneMore, HaveBegun, share_in}
+use Rattle.edi_kernel.specs.Named.{IsBorn}
 use Rattle.edi_calls.proofs.Names.{same_ends}
 use Rattle.edi_kernel.proofs.Counts.{map_same, map-append}
 use Rattle.edi_kernel.proofs.Lists.{home_among, not_both, live_of_home, put_home_here, put_home_there, put_here, put_there, unmarked_at}
@@ -40,6 +41,15 @@ drop_at (y ∷ xs) (suc i) x e = drop_at xs i x e
 pub drop_all : {A : Type 0} (xs : List A) → drop (length xs) xs ≡ []
 drop_all [] = refl
 drop_all (x ∷ xs) = drop_all xs
+
+get_front : {A : Type 0} (xs ys : List A) (i : ℕ) (x : A) → slice_get xs i ≡ Some x → slice_get (xs ++ ys) i ≡ Some x
+get_front [] ys i x e = let a : None ≡ Some x = e in absurd (cc)
+get_front (y ∷ xs) ys zero x e = e
+get_front (y ∷ xs) ys (suc i) x e = get_front xs ys i x e
+
+get_end : {A : Type 0} (xs : List A) (x : A) → slice_get (xs ++ x ∷ []) (length xs) ≡ Some x
+get_end [] x = refl
+get_end (y ∷ xs) x = get_end xs x
 
 children-push : (p : Name) (f k n : ℕ) → children p f k (suc n) ≡ children p f k n ++ child p f (k + n) ∷ []
 children-push p f k zero = ap (λ j. child p f j ∷ []) (omega arith)
@@ -121,6 +131,9 @@ module _ (slot : ℕ) (parent : Activity) (branches : List Branch) (store : List
     pub fork : f ≤ n.forks slot
     pub fresh : (i q : ℕ) → is_live t i ≡ true → n.name i ≡ child p f q → ⊥
 
+  abbrev others : ℕ
+  others = length (ready_slots t)
+
   -- after i children
   pub record Grown (i : ℕ) (words : List ℕ) (u : Table) : Type 0 where
     pub naming : Naming
@@ -132,6 +145,11 @@ module _ (slot : ℕ) (parent : Activity) (branches : List Branch) (store : List
     pub named : naming.name slot ≡ p
     pub fresh : (j q : ℕ) → i ≤ q → is_live u j ≡ true → naming.name j ≡ child p f q → ⊥
     pub ready : map naming.name (ready_slots u) ≡ map n.name (ready_slots t) ++ children p f 0 i
+    pub many : length (ready_slots u) ≡ others + i
+    pub lives : (j : ℕ) → is_live t j ≡ true → is_live u j ≡ true
+    pub names : (j : ℕ) → is_live t j ≡ true → naming.name j ≡ n.name j
+    pub forks : (j : ℕ) → is_live t j ≡ true → naming.forks j ≡ n.forks j
+    pub born : (j : ℕ) → is_live t j ≡ false → is_live u j ≡ true → IsBorn p f others u naming j
     pub turns : machine.turns ≡ m.turns
     pub system : machine.system ≡ m.system
     pub chain : with_children p f i parent.base (parent.end + i * share) share (drop i branches) machine ≡ with_children p f 0 parent.base parent.end share
@@ -149,6 +167,11 @@ module _ (slot : ℕ) (parent : Activity) (branches : List Branch) (store : List
       named = refl;
       fresh = λ j q _ l e. s.fresh j q l e;
       ready = sym (append-nil (map n.name (ready_slots t)));
+      many = omega arith;
+      lives = λ j l. l;
+      names = λ j l. refl;
+      forks = λ j l. refl;
+      born = λ j absent l. let a : false ≡ true = sym absent ∙ l in absurd (cc);
       turns = refl;
       system = refl;
       chain = ap (λ a. with_children p f 0 parent.base a share (drop 0 branches) m) (omega arith)
@@ -227,6 +250,35 @@ module _ (slot : ℕ) (parent : Activity) (branches : List Branch) (store : List
           ∙ append_assoc (map n.name (ready_slots t)) (children p f 0 i) (child p f i ∷ [])
           ∙ ap (λ qs. map n.name (ready_slots t) ++ qs) (ap (λ j. children p f 0 i ++ child p f j ∷ []) (omega arith) ∙ sym (children-push p f 0 i))
 
+      more_ready : ready_slots u ≡ ready_slots h.table_before ++ slot_i ∷ []
+      more_ready = added_ready slot h.child h.table_before u g.stood.table s.inside h.ordered h.added
+
+      -- who lived before the fork has another slot than the child
+      not_child : (j : ℕ) → is_live t j ≡ true → j ≡ slot_i → ⊥
+      not_child j l =
+          births.other h.table_before u g.naming g.machine machine_i slot slot_i f i (beginning slot h.child) begins j (g.lives j l)
+
+      born_i : (j : ℕ) → is_live t j ≡ false → is_live u j ≡ true → IsBorn p f others u naming_i j
+      born_i j absent l = elim (cases_eq j slot_i) [
+        | inl e ↦ record {
+          number = i;
+          at = ap (λ xs. slice_get xs (others + i)) more_ready ∙ ap (slice_get (ready_slots h.table_before ++ slot_i ∷ [])) (sym g.many)
+              ∙ get_end (ready_slots h.table_before) slot_i ∙ ap Some (sym e);
+          named = ap naming_i.name e ∙ name_new;
+          forks = births.forks_c h.table_before u g.naming g.machine machine_i slot slot_i f i (beginning slot h.child) begins j e;
+        }
+        | inr ne ↦
+            let b : IsBorn p f others h.table_before g.naming j =
+            g.born j absent (births.was h.table_before u g.naming g.machine machine_i slot slot_i f i (beginning slot h.child) begins j ne l) in
+            record {
+              number = b.number;
+              at = ap (λ xs. slice_get xs (others + b.number)) more_ready
+                  ∙ get_front (ready_slots h.table_before) (slot_i ∷ []) (others + b.number) j b.at;
+              named = name_other j ne ∙ b.named;
+              forks = births.forks_not_c h.table_before u g.naming g.machine machine_i slot slot_i f i (beginning slot h.child) begins j ne ∙ b.forks;
+            }
+      ]
+
       chain_i : with_children p f (suc i) parent.base (parent.end + suc i * share) share (drop (suc i) branches) machine_i ≡ with_children p f 0 parent.base
           parent.end share branches m
       chain_i =
@@ -258,6 +310,14 @@ module _ (slot : ℕ) (parent : Activity) (branches : List Branch) (store : List
         named = name_other slot not_slot ∙ g.named;
         fresh = fresh_i;
         ready = ready_i;
+        many = ap length more_ready ∙ length-append (ready_slots h.table_before) (slot_i ∷ []) ∙ omega (arith, g.many);
+        lives = λ j l.
+            births.still h.table_before u g.naming g.machine machine_i slot slot_i f i (beginning slot h.child) begins j (g.lives j l);
+        names = λ j l. name_other j (not_child j l) ∙ g.names j l;
+        forks = λ j l.
+            births.forks_not_c h.table_before u g.naming g.machine machine_i slot slot_i f i (beginning slot h.child) begins j (not_child j l)
+            ∙ g.forks j l;
+        born = born_i;
         turns = g.turns;
         system = g.system;
         chain = chain_i;

@@ -40,8 +40,9 @@ use Rattle.edi_kernel.specs.Stretch.{Paused, going, pausing, stopping, stretch, 
 use Rattle.edi_kernel.specs.Stints as stints
 use Rattle.edi_kernel.specs.Stints.{stint, stint_after}
 use Rattle.edi_kernel.specs.Forks.{HaveBegun, share_in}
-use Rattle.edi_kernel.specs.Kernel.{IsKernel, IsTakenIn, Holds, Switches, EndsRun, BreaksOff, StandsArrived, ForksInto, GoesTo, attempt_end, HandlesTurn}
+use Rattle.edi_kernel.specs.Kernel.{IsKernel, IsTakenIn, Holds, Switches, EndsRun, BreaksOff, StandsArrived, attempt_end, HandlesTurn}
 use Rattle.edi_kernel.specs.Kernel.{EndsAs, Handles, KeepsWords}
+use Rattle.edi_kernel.specs.Named.{HoldsBy, IsBorn, NamesGrow, GoesBy}
 use Rattle.edi_calls.proofs.Names.{child_not_first, same_ends}
 use Rattle.edi_kernel.proofs.Counts.{marked_few, map-append, where_same}
 use Rattle.edi_kernel.proofs.Changes.{length-names, one_changes, at_set_same, at_set_other}
@@ -111,6 +112,7 @@ module _ (words : List ℕ) (old mid new : KernelState) (slot left left1 used : 
     pub system : m.system ≡ s
     pub turns : m.turns ≡ left
     pub mid_table : mid.table ≡ (if cleared then unmarked old.table else old.table)
+    pub slot_is : old.taken ≡ Some slot
     pub none_taken : new.taken ≡ None
     pub spent : left - used ≡ left1
     pub ordered : IsOrdered a
@@ -152,6 +154,13 @@ module _ (words : List ℕ) (old mid new : KernelState) (slot left left1 used : 
         by_cleared true = refl
         by_cleared false = refl
 
+    same_live : (i : ℕ) → is_live mid.table i ≡ is_live old.table i
+    same_live i = ap (λ t. is_live t i) g.mid_table ∙ by_cleared cleared
+      where
+        by_cleared : (b : Bool) → is_live (if b then unmarked old.table else old.table) i ≡ is_live old.table i
+        by_cleared true = refl
+        by_cleared false = refl
+
     -- ---- an arrival, and an attempt that marks nobody
 
     left_standing : (k : Machine) (b : mach.Activity) (ms : List Name) (r : Running) → now ≡ r → new.arrived ≡ Some a →
@@ -171,26 +180,29 @@ module _ (words : List ℕ) (old mid new : KernelState) (slot left left1 used : 
     arrived : (k : Machine) (b : mach.Activity) (ms : List Name) (r : Running) (steps rest : ℕ) → Follows m k p (n.forks slot) ms b → now ≡ r →
         stint (fetch words) steps m p others ≡ stints.switched (back k p (activity_of r.local b.forks mach.at_when) [] r) (p ∷ []) →
         PutsProcess 0 slot (at_its_when (process_at mid.table slot) a) (unmarked mid.table) new.table → new.store ≡ mid.store → new.arrived ≡ Some a →
-        (h : Switches words (left - used) new t m p others) × StandsArrived new h.machine p
+        GoesBy words (stint_end.Arrived used) left old n new t m p others
     arrived k b ms r steps rest f e is put same arrival = (
-      record {
-        steps = steps;
-        machine = back k p (activity_of r.local b.forks mach.at_when) [] r;
-        joined = p ∷ [];
-        is = is;
-        holds = record {
-          naming = n;
-          stands = stood (unmarked mid.table) new.table slot a at_clear.table at_clear.taken put n (record m { marks = [] }) k b [] ms r mid.store
-              at_clear.stands (follows_marks m k p (n.forks slot) ms [] b f) refl (sym (ap (λ x. x.local) e));
-          memory = sym (ap (λ x. x.local.memory) e) ∙ sym same;
-          is_taken = sym (ap (option_map n.name) g.none_taken);
-          is_ready = sym (ap (map n.name) (stood_ready (unmarked mid.table) new.table slot a at_clear.table at_clear.taken put)
-              ∙ map-append n.name (ready_slots mid.table) (slot ∷ []) ∙ ap (λ xs. map n.name xs ++ p ∷ []) same_ready);
-        };
-        system = sym (ap (λ x. x.system) e);
-        turns = sym (ap (λ x. x.turns) e) ∙ sym g.spent;
-      },
-      left_standing k b [] r e arrival,
+      (
+        record {
+          steps = steps;
+          machine = back k p (activity_of r.local b.forks mach.at_when) [] r;
+          joined = p ∷ [];
+          is = is;
+          holds = record {
+            naming = n;
+            stands = stood (unmarked mid.table) new.table slot a at_clear.table at_clear.taken put n (record m { marks = [] }) k b [] ms r mid.store
+                at_clear.stands (follows_marks m k p (n.forks slot) ms [] b f) refl (sym (ap (λ x. x.local) e));
+            memory = sym (ap (λ x. x.local.memory) e) ∙ sym same;
+            is_taken = sym (ap (option_map n.name) g.none_taken);
+            is_ready = sym (ap (map n.name) (stood_ready (unmarked mid.table) new.table slot a at_clear.table at_clear.taken put)
+                ∙ map-append n.name (ready_slots mid.table) (slot ∷ []) ∙ ap (λ xs. map n.name xs ++ p ∷ []) same_ready);
+          };
+          system = sym (ap (λ x. x.system) e);
+          turns = sym (ap (λ x. x.turns) e) ∙ sym g.spent;
+        },
+        left_standing k b [] r e arrival,
+      ),
+      refl,
     )
 
     -- ---- an attempt that marks its process
@@ -199,10 +211,10 @@ module _ (words : List ℕ) (old mid new : KernelState) (slot left left1 used : 
         (marks_after (fetch words) m p others (n.forks slot) cleared) b → now ≡ r →
         stint (fetch words) steps m p others ≡ stint_after (λ m. stint (fetch words) rest m p others) (at_turn k p others b (again true) r) →
         PutsProcess 0 slot (at_its_when (process_at mid.table slot) a) (marked_with mid.table slot) new.table → new.store ≡ mid.store →
-        result ≡ attempt_end (marks_with mid.table slot == length (ready_slots new.table)) used → new.arrived ≡ Some a → GoesTo words result left new t m p
-        others
+        result ≡ attempt_end (marks_with mid.table slot == length (ready_slots new.table)) used → new.arrived ≡ Some a →
+        GoesBy words result left old n new t m p others
     marked_attempt k b r steps rest result f e is put same ends arrival =
-        subst (λ x. GoesTo words x left new t m p others) (sym ends) (by_marks (marks_with mid.table slot == length (ready_slots new.table)) refl)
+        subst (λ x. GoesBy words x left old n new t m p others) (sym ends) (by_marks (marks_with mid.table slot == length (ready_slots new.table)) refl)
       where
         marked : At (marked_with mid.table slot) n (record m { marks = p ∷ marks_after (fetch words) m p others (n.forks slot) cleared }) slot
         marked = marked_at_slot mid.table n (record m { marks = marks_after (fetch words) m p others (n.forks slot) cleared }) slot at_mid
@@ -228,7 +240,8 @@ module _ (words : List ℕ) (old mid new : KernelState) (slot left left1 used : 
             (if y then ended outcome.standstill (back k p (activity_of r.local b.forks mach.at_when) (p ∷ k.marks) r) else went
             (back k p (activity_of r.local b.forks mach.at_when) (p ∷ k.marks) r) (joins (p ∷ [])))) h
 
-        by_marks : (x : Bool) → (marks_with mid.table slot == length (ready_slots new.table)) ≡ x → GoesTo words (attempt_end x used) left new t m p others
+        by_marks : (x : Bool) → (marks_with mid.table slot == length (ready_slots new.table)) ≡ x →
+            GoesBy words (attempt_end x used) left old n new t m p others
         by_marks true h = (
           record {
             steps = steps;
@@ -244,55 +257,60 @@ module _ (words : List ℕ) (old mid new : KernelState) (slot left left1 used : 
           sym (ap (λ x. x.local.memory) e) ∙ sym same,
         )
         by_marks false h = (
-          record {
-            steps = steps;
-            machine = back k p (activity_of r.local b.forks mach.at_when) (p ∷ k.marks) r;
-            joined = p ∷ [];
-            is = comes_to false (sym tested ∙ h);
-            holds = record {
-              naming = n;
-              stands =
-                  stood (marked_with mid.table slot) new.table slot a marked.table marked.taken put n
-                  (record m { marks = p ∷ marks_after (fetch words) m p others (n.forks slot) cleared }) k b (p ∷ k.marks)
-                  (marks_after (fetch words) m p others (n.forks slot) cleared) r mid.store marked.stands
-                  (follows_marks m k p (n.forks slot) (marks_after (fetch words) m p others (n.forks slot) cleared)
-                  (p ∷ marks_after (fetch words) m p others (n.forks slot) cleared) b f) (ap (λ ms. p ∷ ms) f.marks_are) (sym (ap (λ x. x.local) e));
-              memory = sym (ap (λ x. x.local.memory) e) ∙ sym same;
-              is_taken = sym (ap (option_map n.name) g.none_taken);
-              is_ready = sym (ap (map n.name) ready ∙ map-append n.name (ready_slots mid.table) (slot ∷ []) ∙ ap (λ xs. map n.name xs ++ p ∷ []) same_ready);
-            };
-            system = sym (ap (λ x. x.system) e);
-            turns = sym (ap (λ x. x.turns) e) ∙ sym g.spent;
-          },
-          left_standing k b (p ∷ k.marks) r e arrival,
+          (
+            record {
+              steps = steps;
+              machine = back k p (activity_of r.local b.forks mach.at_when) (p ∷ k.marks) r;
+              joined = p ∷ [];
+              is = comes_to false (sym tested ∙ h);
+              holds = record {
+                naming = n;
+                stands =
+                    stood (marked_with mid.table slot) new.table slot a marked.table marked.taken put n
+                    (record m { marks = p ∷ marks_after (fetch words) m p others (n.forks slot) cleared }) k b (p ∷ k.marks)
+                    (marks_after (fetch words) m p others (n.forks slot) cleared) r mid.store marked.stands
+                    (follows_marks m k p (n.forks slot) (marks_after (fetch words) m p others (n.forks slot) cleared)
+                    (p ∷ marks_after (fetch words) m p others (n.forks slot) cleared) b f) (ap (λ ms. p ∷ ms) f.marks_are) (sym (ap (λ x. x.local) e));
+                memory = sym (ap (λ x. x.local.memory) e) ∙ sym same;
+                is_taken = sym (ap (option_map n.name) g.none_taken);
+                is_ready = sym (ap (map n.name) ready ∙ map-append n.name (ready_slots mid.table) (slot ∷ []) ∙ ap (λ xs. map n.name xs ++ p ∷ []) same_ready);
+              };
+              system = sym (ap (λ x. x.system) e);
+              turns = sym (ap (λ x. x.turns) e) ∙ sym g.spent;
+            },
+            left_standing k b (p ∷ k.marks) r e arrival,
+          ),
+          refl,
         )
 
     -- ---- the end of a branch
 
     gone : (k : Machine) (b : mach.Activity) (ms : List Name) (r : Running) (steps rest : ℕ) → Follows m k p (n.forks slot) ms b → now ≡ r → 0 < slot →
         stint (fetch words) steps m p others ≡ stint_after (λ m. stint (fetch words) rest m p others) (exited k p r) →
-        Removed slot (unmarked mid.table) new.table → new.store ≡ mid.store → (h : Switches words (left - used) new t m p others)
-        × (find h.machine.activities p ≡ None)
+        Removed slot (unmarked mid.table) new.table → new.store ≡ mid.store → GoesBy words (stint_end.Exited used) left old n new t m p others
     gone k b ms r steps rest f e pos is removed same =
         let x : Exited new.table n (map n.name (ready_slots (unmarked mid.table))) (map n.name (ready_slots new.table)) (exited k p r) =
         exits (unmarked mid.table) new.table n (record m { marks = [] }) k slot b ms r removed at_clear pos (follows_marks m k p (n.forks slot) ms [] b f)
         refl in (
-          record {
-            steps = steps;
-            machine = x.machine;
-            joined = x.joined;
-            is = is ∙ ap (stint_after (λ m. stint (fetch words) rest m p others)) x.is;
-            holds = record {
-              naming = n;
-              stands = x.stands;
-              memory = kept (λ m. m.memory) (λ m es. refl) k p r x.machine x.joined x.is ∙ sym (ap (λ x. x.local.memory) e) ∙ sym same;
-              is_taken = sym (ap (option_map n.name) g.none_taken);
-              is_ready = sym (x.ready ∙ ap (λ xs. map n.name xs ++ x.joined) same_ready);
-            };
-            system = kept (λ m. m.system) (λ m es. refl) k p r x.machine x.joined x.is ∙ sym (ap (λ x. x.system) e);
-            turns = kept (λ m. m.turns) (λ m es. refl) k p r x.machine x.joined x.is ∙ sym (ap (λ x. x.turns) e) ∙ sym g.spent;
-          },
-          none_left k p r x.machine x.joined x.is,
+          (
+            record {
+              steps = steps;
+              machine = x.machine;
+              joined = x.joined;
+              is = is ∙ ap (stint_after (λ m. stint (fetch words) rest m p others)) x.is;
+              holds = record {
+                naming = n;
+                stands = x.stands;
+                memory = kept (λ m. m.memory) (λ m es. refl) k p r x.machine x.joined x.is ∙ sym (ap (λ x. x.local.memory) e) ∙ sym same;
+                is_taken = sym (ap (option_map n.name) g.none_taken);
+                is_ready = sym (x.ready ∙ ap (λ xs. map n.name xs ++ x.joined) same_ready);
+              };
+              system = kept (λ m. m.system) (λ m es. refl) k p r x.machine x.joined x.is ∙ sym (ap (λ x. x.system) e);
+              turns = kept (λ m. m.turns) (λ m es. refl) k p r x.machine x.joined x.is ∙ sym (ap (λ x. x.turns) e) ∙ sym g.spent;
+            },
+            none_left k p r x.machine x.joined x.is,
+          ),
+          refl,
         )
 
     -- ---- a fork
@@ -392,44 +410,61 @@ module _ (words : List ℕ) (old mid new : KernelState) (slot left left1 used : 
             | inr ne ↦ ap (λ y. y.parent) (at_set_other mid.table.processes slot i waits ne)
           ]
 
+      -- the names behind the fork
+      grows : (words : List ℕ) (x : Grown slot a branches mid.store table_now naming_now machine_now fork_number (length branches) words new.table) →
+          NamesGrow fork_number old.taken old.table new.table n x.naming
+      grows words x = record {
+        slot = slot;
+        was = g.slot_is;
+        next = ap suc f.forked;
+        forked = x.forks slot (taken_live (unmarked mid.table) slot at_clear.taken) ∙ forks_here ∙ sym (ap suc f.forked);
+        lives = λ i l. x.lives i (same_live i ∙ l);
+        names = λ i l. x.names i (same_live i ∙ l);
+        forks = λ i l ne. x.forks i (same_live i ∙ l) ∙ ap (λ b. if b then suc (n.forks slot) else n.forks i) (ne_eqb i slot ne);
+        born = λ i absent l. subst (λ c. IsBorn p fork_number c new.table x.naming i) (ap length same_ready) (x.born i (same_live i ∙ absent) l);
+      }
+
       forks : (steps rest : ℕ) → stint (fetch words) steps m p others ≡ stint_after (λ m. stint (fetch words) rest m p others)
           (at_turn k p others b (forking branches) now) →
           HaveBegun slot a branches mid.store table_now (length branches) new.store new.table → 0 < length branches →
-          (h : Switches words (left - used) new t m p others) × ForksInto p h.joined
+          GoesBy words (stint_end.Forked used) left old n new t m p others
       forks steps rest is begun some =
           let x : Grown slot a branches mid.store table_now naming_now machine_now fork_number (length branches) new.store new.table =
           grown slot a branches mid.store table_now naming_now machine_now fork_number begins (length branches) new.store new.table (omega arith) begun in
           let chain : x.machine ≡ with_children p fork_number 0 a.base a.end (share_in a branches) branches machine_now =
           ap (λ bs. with_children p fork_number (length branches) a.base (a.end + length branches * share_in a branches) (share_in a branches) bs x.machine)
           (sym (drop_all branches)) ∙ x.chain in (
-            record {
-              steps = steps;
-              machine = x.machine;
-              joined = children p fork_number 0 (length branches);
-              is = is ∙ ap (λ z. stints.switched z (children p fork_number 0 (length branches))) (sym chain);
-              holds = record {
-                naming = x.naming;
-                stands = x.stood.stands;
-                memory = x.stood.memory;
-                is_taken = sym (ap (option_map x.naming.name) g.none_taken);
-                is_ready = sym (x.ready ∙ ap (λ xs. map n.name xs ++ children p fork_number 0 (length branches)) same_ready);
-              };
-              system = x.system;
-              turns = x.turns ∙ sym g.spent;
-            },
-            record { fork = fork_number; number = length branches; some = some; are = refl },
+            (
+              record {
+                steps = steps;
+                machine = x.machine;
+                joined = children p fork_number 0 (length branches);
+                is = is ∙ ap (λ z. stints.switched z (children p fork_number 0 (length branches))) (sym chain);
+                holds = record {
+                  naming = x.naming;
+                  stands = x.stood.stands;
+                  memory = x.stood.memory;
+                  is_taken = sym (ap (option_map x.naming.name) g.none_taken);
+                  is_ready = sym (x.ready ∙ ap (λ xs. map n.name xs ++ children p fork_number 0 (length branches)) same_ready);
+                };
+                system = x.system;
+                turns = x.turns ∙ sym g.spent;
+              },
+              record { fork = fork_number; number = length branches; some = some; are = refl },
+            ),
+            grows new.store x,
           )
 
     -- ---- all pauses
 
     at_turns : (kd : TurnKind) (steps : ℕ) (end : Paused) (result : StintEnd) (l : Local) → Comes (fetch words) m p others (n.forks slot) steps m end
         → Pauses words end (pause.At kd) now cleared →
-        Allows (Some (pause.At kd)) words live (slot == 0) l → HandlesTurn kd words slot used a mid new result → GoesTo words result left new t m p others
+        Allows (Some (pause.At kd)) words live (slot == 0) l → HandlesTurn kd words slot used a mid new result → GoesBy words result left old n new t m p others
     at_turns kind.Arrive steps (pausing arriving r c) result l w h allowed d =
-        subst (λ x. GoesTo words x left new t m p others) (sym d.2)
+        subst (λ x. GoesBy words x left old n new t m p others) (sym d.2)
         (arrived w.machine w.activity (marks_after (fetch words) m p others (n.forks slot) c) r steps w.rest w.follows h.1 w.is d.0 d.1 d.3)
     at_turns (kind.Again false) steps (pausing (again marks) r c) result l w h allowed d =
-        subst (λ x. GoesTo words x left new t m p others) (sym d.2)
+        subst (λ x. GoesBy words x left old n new t m p others) (sym d.2)
         (arrived w.machine w.activity (marks_after (fetch words) m p others (n.forks slot) c) r steps w.rest w.follows h.1
         (subst (λ x. stint (fetch words) steps m p others ≡ stint_after (λ m. stint (fetch words) w.rest m p others)
         (at_turn w.machine p others w.activity (again x) r)) (sym h.0) w.is) d.0 d.1 d.3)
@@ -439,14 +474,14 @@ module _ (words : List ℕ) (old mid new : KernelState) (slot left left1 used : 
         (subst (λ x. stint (fetch words) steps m p others ≡ stint_after (λ m. stint (fetch words) w.rest m p others)
         (at_turn w.machine p others w.activity (again x) r)) (sym h.0) w.is) d.0 d.1 d.2 d.3
     at_turns (kind.Fork at) steps (pausing (forking branches) r c) result l w h allowed d =
-        subst (λ x. GoesTo words x left new t m p others) (sym d.1)
+        subst (λ x. GoesBy words x left old n new t m p others) (sym d.1)
         (forks w.machine w.activity (marks_after (fetch words) m p others (n.forks slot) c) w.follows (branches_at words at) steps w.rest
         (subst (λ x. stint (fetch words) steps m p others ≡ stint_after (λ m. stint (fetch words) w.rest m p others)
         (at_turn w.machine p others w.activity (forking (branches_at words at)) x)) (sym h.1)
         (subst (λ x. stint (fetch words) steps m p others ≡ stint_after (λ m. stint (fetch words) w.rest m p others)
         (at_turn w.machine p others w.activity (forking x) r)) (sym h.0) w.is)) d.0 allowed.0.some)
     at_turns kind.Exit steps (pausing exiting r c) result l w h allowed d =
-        subst (λ x. GoesTo words x left new t m p others) (sym d.2)
+        subst (λ x. GoesBy words x left old n new t m p others) (sym d.2)
         (gone w.machine w.activity (marks_after (fetch words) m p others (n.forks slot) c) r steps w.rest w.follows h.1 (later_slot allowed) w.is d.0 d.1)
       where
         later_slot : (slot == 0) ≡ false → 0 < slot
@@ -525,8 +560,8 @@ module _ (words : List ℕ) (old mid new : KernelState) (slot left left1 used : 
     overs e steps (stopping (outcome.bad address) r c) w h kept_words = absurd h
     overs e steps going w h kept_words = absurd h
 
-    no_standstill : (end : Paused) → Pauses words end (pause.Over ending.Standstill) now cleared → GoesTo words (stint_end.Over used ending.Standstill) left
-        new t m p others
+    no_standstill : (end : Paused) → Pauses words end (pause.Over ending.Standstill) now cleared → GoesBy words (stint_end.Over used ending.Standstill) left
+        old n new t m p others
     no_standstill end h = absurd (never end h)
       where
         never : (end : Paused) → Pauses words end (pause.Over ending.Standstill) now cleared → ⊥
@@ -591,18 +626,18 @@ module _ (words : List ℕ) (old mid new : KernelState) (slot left left1 used : 
 
     pub goes : (pause : Pause) (result : StintEnd) (l : Local) → Stretches words live (slot == 0) start false pause now cleared
         → Allows (Some pause) words live (slot == 0) l →
-        Handles pause words slot used a mid new result → GoesTo words result left new t m p others
-    goes (pause.Over ending.Fault) result l h allowed d = subst (λ x. GoesTo words x left new t m p others) (sym d.2) (broken h)
-    goes (pause.Over ending.Done) result l h allowed d = subst (λ x. GoesTo words x left new t m p others) (sym d.2)
+        Handles pause words slot used a mid new result → GoesBy words result left old n new t m p others
+    goes (pause.Over ending.Fault) result l h allowed d = subst (λ x. GoesBy words x left old n new t m p others) (sym d.2) (broken h)
+    goes (pause.Over ending.Done) result l h allowed d = subst (λ x. GoesBy words x left old n new t m p others) (sym d.2)
         (overs ending.Done h.steps h.end (came h.steps h.end h.is) h.pauses d.1)
-    goes (pause.Over (ending.Halted at)) result l h allowed d = subst (λ x. GoesTo words x left new t m p others) (sym d.2)
+    goes (pause.Over (ending.Halted at)) result l h allowed d = subst (λ x. GoesBy words x left old n new t m p others) (sym d.2)
         (overs (ending.Halted at) h.steps h.end (came h.steps h.end h.is) h.pauses d.1)
-    goes (pause.Over (ending.Failed cause at)) result l h allowed d = subst (λ x. GoesTo words x left new t m p others) (sym d.2)
+    goes (pause.Over (ending.Failed cause at)) result l h allowed d = subst (λ x. GoesBy words x left old n new t m p others) (sym d.2)
         (overs (ending.Failed cause at) h.steps h.end (came h.steps h.end h.is) h.pauses d.1)
-    goes (pause.Over ending.Turns) result l h allowed d = subst (λ x. GoesTo words x left new t m p others) (sym d.2)
+    goes (pause.Over ending.Turns) result l h allowed d = subst (λ x. GoesBy words x left old n new t m p others) (sym d.2)
         (overs ending.Turns h.steps h.end (came h.steps h.end h.is) h.pauses d.1)
-    goes (pause.Over ending.Standstill) result l h allowed d = subst (λ x. GoesTo words x left new t m p others) (sym d.2) (no_standstill h.end h.pauses)
-    goes (pause.Over (ending.Bad at)) result l h allowed d = subst (λ x. GoesTo words x left new t m p others) (sym d.2)
+    goes (pause.Over ending.Standstill) result l h allowed d = subst (λ x. GoesBy words x left old n new t m p others) (sym d.2) (no_standstill h.end h.pauses)
+    goes (pause.Over (ending.Bad at)) result l h allowed d = subst (λ x. GoesBy words x left old n new t m p others) (sym d.2)
         (overs (ending.Bad at) h.steps h.end (came h.steps h.end h.is) h.pauses d.1)
     goes (pause.At kd) result l h allowed d = at_turns kd h.steps h.end result l (came h.steps h.end h.is) h.pauses allowed d
 
@@ -641,27 +676,30 @@ module _ (words : List ℕ) (old mid new : KernelState) (slot left left1 : ℕ) 
 
   pub goes_all : (s t : State) → Stretches words (32 - length (free_slots old.table)) (slot == 0)
       (running_in old.store (resumed (process_at old.table slot)) s left) false pause (running_in mid.store a t left1) cleared →
-      (m : Machine) (p : Name) (others : List Name) → Holds old m (Some p) others → m.system ≡ s → m.turns ≡ left → GoesTo words result left new t m p others
-  goes_all s t h m p others holds system turns =
-      subst (λ q. GoesTo words result left new t m q others) (sym p_is)
-      (subst (λ qs. GoesTo words result left new t m (holds.naming.name slot) qs) (sym holds.is_ready)
-      (goes words old mid new slot left left1 (left - left1) s t holds.naming m a cleared
+      (m : Machine) (p : Name) (others : List Name) (n : Naming) → HoldsBy n old m (Some p) others → m.system ≡ s → m.turns ≡ left →
+      GoesBy words result left old n new t m p others
+  goes_all s t h m p others n by system turns =
+      subst (λ y. GoesBy words result left old y new t m p others) by.by
+      (subst (λ q. GoesBy words result left old by.holds.naming new t m q others) (sym p_is)
+      (subst (λ qs. GoesBy words result left old by.holds.naming new t m (by.holds.naming.name slot) qs) (sym by.holds.is_ready)
+      (goes words old mid new slot left left1 (left - left1) s t by.holds.naming m a cleared
       (record {
         table = kernel.table;
         taken = taken_at old slot kernel taken;
-        stands = holds.stands;
-        memory = holds.memory;
+        stands = by.holds.stands;
+        memory = by.holds.memory;
         system = system;
         turns = turns;
         mid_table = m_is.is;
+        slot_is = taken;
         none_taken = none;
         spent = omega (arith, less);
         ordered = ordered;
       })
-      pause result l h allowed handles))
+      pause result l h allowed handles)))
     where
-      p_is : p ≡ holds.naming.name slot
-      p_is = some (holds.is_taken ∙ ap (option_map holds.naming.name) taken)
+      p_is : p ≡ by.holds.naming.name slot
+      p_is = some (by.holds.is_taken ∙ ap (option_map by.holds.naming.name) taken)
         where
           some : {x y : Name} → Some x ≡ Some y → x ≡ y
           some e = cc

@@ -21,6 +21,8 @@ pub mod Choosing
 pub mod Starting
 pub mod Moments
 pub mod Rounds
+pub mod Named
+pub mod Endings
 pub mod Stinting
 pub mod Machines
 pub mod Passed

@@ -203,6 +203,12 @@ holds_same k new m taken ready e f g h = record {
   is_ready = h.is_ready ∙ sym (ap (λ t. map h.naming.name (ready_slots t)) f);
 }
 
+-- by the same names
+pub same_naming : (k new : KernelState) (m : Machine) (taken : Option Name) (ready : List Name) (e : new.store ≡ k.store) (f : new.table ≡ k.table)
+    (g : new.taken ≡ k.taken) (h : Holds k m taken ready) → (holds_same k new m taken ready e f g h).naming ≡ h.naming
+unfolding holds_same
+same_naming k new m taken ready e f g h = refl
+
 -- ---- the rounds of a whole run
 
 -- the run has come to this machine

@@ -15,8 +15,11 @@ use Rattle.edi_kernel.specs.declared.ends.StintEnd.TheVariants as stint_end
 use Rattle.edi_kernel.specs.declared.state.KernelState.{KernelState}
 use Rattle.edi_kernel.specs.Kernel.{Holds, KeepsWords, Switches, EndsRun, StandsArrived, GoesTo, later_by}
 use Rattle.edi_kernel.specs.Runs.{IsAtBy, IsAt}
+use Rattle.edi_kernel.specs.TableIsMachine.{Naming}
+use Rattle.edi_kernel.specs.Named.{HoldsBy, NamesGrow, GoesBy}
 use Rattle.edi_kernel.proofs.Starting.{Enters, enters}
-use Rattle.edi_kernel.proofs.Rounds.{AnyStint, holds_same}
+use Rattle.edi_kernel.proofs.Rounds.{AnyStint, holds_same, same_naming}
+use Rattle.edi_kernel.proofs.Named.{AnyNamed}
 
 -- so many turns before the stint, and what is kept beside the processes and the memory is free
 module _ (words : List ℕ) (k new : KernelState) (left n : ℕ) (store : new.store ≡ k.store) (table : new.table ≡ k.table) (taken : new.taken ≡ k.taken)
@@ -67,6 +70,28 @@ module _ (words : List ℕ) (k new : KernelState) (left n : ℕ) (store : new.st
   goes_later (stint_end.Over used ending.Fault) t m p others h =
       record { steps = h.steps; machine = h.machine; is = h.is; fails = h.fails; turns = h.turns ∙ less used }
 
+  switches_named : (used : ℕ) (t : State) (m : Machine) (p : Name) (others : List Name) (h : Switches words (left - n - used) k t m p others) →
+      (switches used t m p others h).holds.naming ≡ h.holds.naming
+  unfolding switches
+  switches_named used t m p others h = same_naming k new h.machine None (others ++ h.joined) store table taken h.holds
+
+  -- by the same names, where these have grown from one table or from an equal one
+  pub goes_by_later : (old mid : KernelState) → mid.table ≡ old.table → mid.taken ≡ old.taken → (end : StintEnd) (t : State) (m : Machine) (p : Name)
+      (others : List Name) (names : Naming) → GoesBy words end (left - n) mid names k t m p others → GoesBy words (later_by n end) left old names new t m p others
+  unfolding goes_later
+  goes_by_later old mid e f (stint_end.Arrived used) t m p others names h =
+      (goes_later (stint_end.Arrived used) t m p others h.0, switches_named used t m p others h.0.0 ∙ h.1)
+  goes_by_later old mid e f (stint_end.Exited used) t m p others names h =
+      (goes_later (stint_end.Exited used) t m p others h.0, switches_named used t m p others h.0.0 ∙ h.1)
+  goes_by_later old mid e f (stint_end.Forked used) t m p others names h = (
+    goes_later (stint_end.Forked used) t m p others h.0,
+    subst (NamesGrow h.0.1.fork old.taken old.table new.table names) (sym (switches_named used t m p others h.0.0))
+        (subst (λ x. NamesGrow h.0.1.fork old.taken old.table x names h.0.0.holds.naming) (sym table)
+        (subst (λ x. NamesGrow h.0.1.fork old.taken x k.table names h.0.0.holds.naming) e
+        (subst (λ x. NamesGrow h.0.1.fork x mid.table k.table names h.0.0.holds.naming) f h.1))),
+  )
+  goes_by_later old mid e f (stint_end.Over used x) t m p others names h = goes_later (stint_end.Over used x) t m p others h
+
 -- the machine behind the entry's turn
 module _ (code : CodeParts) (k mid : KernelState) (left n : ℕ) (store : mid.store ≡ k.store) (table : mid.table ≡ k.table) (taken : mid.taken ≡ k.taken) where
   -- what the kernel is when the process goes on
@@ -110,3 +135,27 @@ module _ (code : CodeParts) (k mid after new : KernelState) (left n : ℕ) (end 
       by_end s t m p others f r =
           subst (λ x. GoesTo code.words x left new t m p others) (sym is)
           (goes_later code.words after new left n store' table' taken' arrived' end t m p others (f m p others r.holds r.system r.turns))
+
+  abbrev NamedFrom : State → State → Type 0
+  NamedFrom s t =
+      (m : Machine) (p : Name) (others : List Name) (names : Naming) → IsAt code k s left m p others → HoldsBy names k m (Some p) others →
+      GoesBy code.words result left k names new t m p others
+
+  pub told_names : n ≡ (if k.entering then 1 else 0) → n ≤ left → WhereTold before later (AnyNamed code.words end (left - n) mid after)
+      → WhereTold before later NamedFrom
+  told_names e le h = WhereTold-map (AnyNamed code.words end (left - n) mid after) NamedFrom before later
+      (λ s t f m p others names at by. by_end s t m p others names f by (ready_by code k mid left n store table taken k.entering e le s m p others at)) h
+    where
+      held : (m : Machine) (p : Name) (others : List Name) (names : Naming) → HoldsBy names k m (Some p) others → HoldsBy names mid m (Some p) others
+      held m p others names h = record {
+        holds = holds_same k mid m (Some p) others store table taken h.holds;
+        by = same_naming k mid m (Some p) others store table taken h.holds ∙ h.by;
+      }
+
+      by_end : (s t : State) (m : Machine) (p : Name) (others : List Name) (names : Naming) → AnyNamed code.words end (left - n) mid after s t
+          → HoldsBy names k m (Some p) others → Ready code k mid left n store table taken s m p others
+          → GoesBy code.words result left k names new t m p others
+      by_end s t m p others names f by r =
+          subst (λ x. GoesBy code.words x left k names new t m p others) (sym is)
+          (goes_by_later code.words after new left n store' table' taken' arrived' k mid table taken end t m p others names
+          (f m p others names (held m p others names by) r.system r.turns))

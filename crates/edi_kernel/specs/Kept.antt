@@ -6,11 +6,13 @@ use Rattle.edi_calls.specs.Ready.{has}
 use Rattle.edi_calls.specs.State.{State}
 use Rattle.edi_store.specs.Memory.{words_at}
 use Rattle.edi_target.specs.Memory.{word}
+use Rattle.edi_target.specs.Op.{address_of_words}
 use Rattle.edi_target.specs.Mach as mach
 use Rattle.edi_target.specs.Mach.{Machine}
 use Rattle.edi_ring.specs.Lists.{home_of, IsSound}
 use Rattle.edi_machine.specs.declared.activity.Activity.{Activity}
 use Rattle.edi_machine.specs.Activities.{IsOrdered}
+use Rattle.edi_kernel.specs.declared.frames.Below.{Below}
 use Rattle.edi_kernel.specs.declared.kept.Kept.{Kept}
 use Rattle.edi_kernel.specs.declared.table.Process.{Process}
 use Rattle.edi_kernel.specs.declared.table.Table.{Table}
@@ -26,6 +28,13 @@ use Rattle.edi_kernel.specs.Kernel.{IsKernel, Holds}
 -- stands in the memory.
 abbrev pub leads_down : (first base x t : ℕ) → Bool
 leads_down first base x t = nat_le first x && nat_le (x + 5) t && nat_le t base
+
+-- the frame below the one at `base`, and where the code goes on in it
+abbrev pub below_of : List ℕ → (first base : ℕ) → Option Below
+below_of m first base =
+    if leads_down first base (word m (base + 1)) (word m (base + 4))
+    then Some (record { base = word m (base + 1); top = word m (base + 4); back = address_of_words (word m (base + 2)) (word m (base + 3)) })
+    else None
 
 -- the words of the frame at `base` up to `top`, and then those of at most so many frames below it
 abbrev pub kept_words : ℕ → List ℕ → (first base top : ℕ) → List ℕ

@@ -62,6 +62,16 @@ EndsAs outcome.standstill ending.Standstill = ⊤
 EndsAs (outcome.bad address) (ending.Bad at) = at ≡ address
 EndsAs _ _ = ⊥
 
+-- an ending of the kernel as one of the definition; a fault of an object outside is none
+abbrev pub ending_of : Ending → Option outcome.Ending
+ending_of ending.Done = Some outcome.done
+ending_of (ending.Halted line) = Some (outcome.halted line)
+ending_of (ending.Failed cause line) = Some (outcome.failed cause line)
+ending_of ending.Turns = Some outcome.turns
+ending_of ending.Standstill = Some outcome.standstill
+ending_of (ending.Bad address) = Some (outcome.bad address)
+ending_of ending.Fault = None
+
 -- after these endings the words of the memory are those of the machine
 abbrev pub KeepsWords : Ending → (machine kept : List ℕ) → Type 0
 KeepsWords ending.Done machine kept = machine ≡ kept

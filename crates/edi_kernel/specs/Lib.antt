@@ -6,6 +6,7 @@ pub mod Forks
 pub mod Kernel
 pub mod Moments
 pub mod Runs
+pub mod Named
 pub mod Passed
 pub mod Kept
 pub mod Frames

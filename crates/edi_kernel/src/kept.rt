@@ -63,7 +63,7 @@ pub struct Kept {
 }
 
 /// Whether a link of the frame at `base` leads to a frame below it, at `x` up to `t`, in the segment from `first`.
-fn leads_down(first: u32, base: u32, x: u32, t: u32) -> bool
+pub(crate) fn leads_down(first: u32, base: u32, x: u32, t: u32) -> bool
     requires small { x < 2 ^ 16 }
     ensures { result ≡ leads_down first base x t }
 {
@@ -71,7 +71,7 @@ fn leads_down(first: u32, base: u32, x: u32, t: u32) -> bool
 }
 
 /// Where the links of the frame at `base` say that the frame below it begins, and up to where it was in use.
-fn below(store: &Store, base: u32) -> (u32, u32)
+pub(crate) fn below(store: &Store, base: u32) -> (u32, u32)
     requires { base + 5 ≤ 2 ^ 16 }
     ensures base { result.0 ≡ word store.now (base + 1) }
     ensures top { result.1 ≡ word store.now (base + 4) }

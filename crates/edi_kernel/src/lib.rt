@@ -3,6 +3,7 @@
 
 mod ends;
 mod fork;
+mod frames;
 mod kept;
 pub mod laws;
 mod run;
@@ -10,7 +11,7 @@ mod state;
 mod stretch;
 mod table;
 
-ghost use Rattle.std.specs.Prelude.{◌≡◌, ◌≤◌, ◌<◌, ◌+◌, ◌-◌, ◌^◌, min, length, slice_get, slice_index, [], None, Some, IsSome, IfOk, ℕ, List, true, false, ◌↔◌, IsTrue};
+ghost use Rattle.std.specs.Prelude.{◌≡◌, ◌≤◌, ◌<◌, ◌+◌, ◌-◌, ◌^◌, min, length, slice_get, slice_index, [], None, Some, IsSome, IfOk, IfSome, ℕ, List, true, false, ◌↔◌, IsTrue};
 ghost use Rattle.edi_told.specs.Told.{WhereTold};
 ghost use Rattle.edi_store.specs.Memory.{zero_memory};
 ghost use Rattle.edi_store.specs.Copied.{IsMemory};
@@ -22,7 +23,9 @@ ghost use Rattle.edi_target.specs.Mach.{Machine};
 ghost use Rattle.edi_kernel.specs.Table.{first_home, is_live, is_waiting, no_marks, process_at, ready_slots};
 ghost use Rattle.edi_kernel.specs.Stretch.{Blamed};
 ghost use Rattle.edi_kernel.specs.Kernel.{GoesTo, Holds, IsKernel, StandsAfter, StandsAtEnd, fault_of, faulted, is_over, used_in};
-ghost use Rattle.edi_kernel.specs.Kept.{IsCleared, IsKeptOf, IsMarkCount, IsWhole, LinesUp, PutsBack, TakesAt};
+ghost use Rattle.edi_kernel.specs.Kept.{IsCleared, IsKeptOf, IsMarkCount, IsWhole, LinesUp, PutsBack, TakesAt, below_of};
+ghost use Rattle.edi_kernel.specs.TableIsMachine.{Naming};
+ghost use Rattle.edi_kernel.specs.Named.{ChoosesBy, GoesBy, HoldsBy};
 ghost use Rattle.edi_kernel.specs.Runs.{Chooses, IsAt, RunsTo, Started, TakesNext};
 
 use edi_calls::Calls;
@@ -31,6 +34,8 @@ use edi_store::{Segment, Store};
 use edi_target::Code;
 use edi_trace::Choices;
 pub use ends::{Ending, StintEnd};
+pub use frames::Below;
+use frames::frame_below;
 pub use kept::Kept;
 use state::KernelState;
 use std::alloc::{AllocError, Global};
@@ -106,6 +111,14 @@ impl Kernel {
         self.state.taken.is_some()
     }
 
+    /// The slot of the process that is taken, if one is.
+    pub fn taken(&self) -> Option<usize>
+        ensures exact { result ≡ self.now.taken }
+        ensures inside { IfSome result (λ slot. slot < 32) }
+    {
+        self.state.taken
+    }
+
     /// The number of processes that are ready, at most 32. The one that is taken is none of them.
     pub fn ready(&self) -> usize
         ensures { result ≡ length (ready_slots self.now.table) }
@@ -120,11 +133,16 @@ impl Kernel {
     /// The end is that of the machine's definition, from each machine that the kernel is, where the state of the system
     /// is told. `Fault` comes only where an object outside failed in this call: by the definition the process then stands at
     /// a system call that was to be answered, after as many turns, and the state of the system is one that it may leave.
+    ///
+    /// Names stay: each process that lives on keeps its slot and its name, and children have names of their own.
     pub fn stint<C: Calls>(&mut self, code: &Code, calls: &mut C, turns_left: u64) -> StintEnd
         requires taken { IsSome self.old.taken }
         requires working { C.failed calls.old None }
         ensures exact { WhereTold (C.state calls.old) (C.state calls.new) (λ s t. (m : Machine) (p : Name) (others : List Name) →
             IsAt code.now self.old s turns_left m p others → GoesTo code.now.words result turns_left self.new t m p others) }
+        ensures names { WhereTold (C.state calls.old) (C.state calls.new) (λ s t. (m : Machine) (p : Name) (others : List Name) (n : Naming) →
+            IsAt code.now self.old s turns_left m p others → HoldsBy n self.old m (Some p) others →
+            GoesBy code.now.words result turns_left self.old n self.new t m p others) }
         ensures entry { self.old.entering ≡ true → turns_left ≡ 0 → result ≡ StintEnd.Over 0 Ending.Turns }
         ensures untouched { self.old.entering ≡ true → turns_left ≡ 0 → calls.new ≡ calls.old }
         ensures free { is_over result ≡ false → self.new.taken ≡ None }
@@ -150,12 +168,15 @@ impl Kernel {
         requires some { 0 < length (ready_slots self.old.table) }
         ensures exact { choices.old.drawn < 2 ^ 64 - 1 → (m : Machine) (ready : List Name) →
             Holds self.old m None ready → Chooses self.new m choices.old choices.new ready }
+        ensures names { choices.old.drawn < 2 ^ 64 - 1 → (n : Naming) (m : Machine) (ready : List Name) →
+            HoldsBy n self.old m None ready → ChoosesBy n self.new m choices.old choices.new ready }
         ensures takes { TakesNext self.old self.new choices.old choices.new }
         ensures taken { IsSome self.new.taken }
         ensures source { choices.new.source ≡ choices.old.source }
         ensures drawn { choices.new.drawn ≤ choices.old.drawn + 1 }
         ensures entering { self.new.entering ≡ self.old.entering }
         ensures turns { self.new.used ≡ self.old.used }
+        ensures kernel { IsKernel self.new }
     {
         self.state.choose(choices);
     }
@@ -284,6 +305,16 @@ impl Kernel {
         ensures { result ≡ self.now.arrived }
     {
         self.state.arrived
+    }
+
+    /// The frame below the one at `base`, in the segment that begins at `first`; none below the lowest.
+    pub fn below(&self, first: u32, base: u32) -> Option<Below>
+        requires within { base + 5 ≤ 2 ^ 16 }
+        ensures exact { result ≡ below_of self.now.store first base }
+        ensures within { IfSome result (λ frame. frame.base + 5 ≤ 2 ^ 16) }
+        ensures lower { IfSome result (λ frame. frame.base < base) }
+    {
+        frame_below(&self.state.store, first, base)
     }
 
     /// The word of the memory at `at`.

@@ -11,6 +11,8 @@ ghost use Rattle.edi_kernel.specs.Table.{ready_slots};
 ghost use Rattle.edi_calls.specs.Ends.{CallsLast};
 ghost use Rattle.edi_kernel.specs.Stretch.{Blamed};
 ghost use Rattle.edi_kernel.specs.Kernel.{GoesTo, Holds, IsKernel, ended_by, fault_of, faulted, is_over, later_by, used_in, StandsAfter, StandsAtEnd};
+ghost use Rattle.edi_kernel.specs.TableIsMachine.{Naming};
+ghost use Rattle.edi_kernel.specs.Named.{ChoosesBy, GoesBy, HoldsBy};
 ghost use Rattle.edi_kernel.specs.Runs.{Chooses, EndsUnready, IsAt, Picks, Proceeds, Rounds, RunsTo, Started, TakesNext};
 
 use crate::ends::{Ending, StintEnd};
@@ -102,6 +104,8 @@ impl KernelState {
         requires some { 0 < length (ready_slots self.old.table) }
         ensures exact { choices.old.drawn < 2 ^ 64 - 1 → (m : Machine) (ready : List Name) → Holds self.old m None ready → Chooses self.new m choices.old
             choices.new ready }
+        ensures names { choices.old.drawn < 2 ^ 64 - 1 → (n : Naming) (m : Machine) (ready : List Name) →
+            HoldsBy n self.old m None ready → ChoosesBy n self.new m choices.old choices.new ready }
         ensures takes { TakesNext self.old self.new choices.old choices.new }
         ensures kernel { IsKernel self.new }
         ensures taken { IsSome self.new.taken }
@@ -217,6 +221,9 @@ impl KernelState {
         requires working { C.failed calls.old None }
         ensures exact { WhereTold (C.state calls.old) (C.state calls.new) (λ s t. (m : Machine) (p : Name) (others : List Name) →
             IsAt code.now self.old s turns_left m p others → GoesTo code.now.words result turns_left self.new t m p others) }
+        ensures names { WhereTold (C.state calls.old) (C.state calls.new) (λ s t. (m : Machine) (p : Name) (others : List Name) (n : Naming) →
+            IsAt code.now self.old s turns_left m p others → HoldsBy n self.old m (Some p) others →
+            GoesBy code.now.words result turns_left self.old n self.new t m p others) }
         ensures entry { self.old.entering ≡ true → turns_left ≡ 0 → result ≡ StintEnd.Over 0 Ending.Turns }
         ensures untouched { self.old.entering ≡ true → turns_left ≡ 0 → calls.new ≡ calls.old }
         ensures kernel { IsKernel self.new }

@@ -5,7 +5,7 @@ ghost use Rattle.edi_machine.specs.Activities.{IsOrdered, local_of};
 ghost use Rattle.edi_machine.specs.Starts.{IsFork, branches_at};
 ghost use Rattle.edi_kernel.specs.declared.table.Table.{Table};
 ghost use Rattle.edi_kernel.specs.Table.{process_at, free_slots, ready_slots, resumed};
-ghost use Rattle.edi_kernel.specs.TableIsMachine.{IsTable, IsTaken};
+ghost use Rattle.edi_kernel.specs.TableIsMachine.{IsTable, IsTaken, Naming};
 ghost use Rattle.edi_told.specs.Told.{WhereTold};
 ghost use Rattle.edi_calls.specs.Names.{Name};
 ghost use Rattle.edi_target.specs.Mach.{Machine};
@@ -13,10 +13,8 @@ ghost use Rattle.edi_machine.specs.declared.activity.Activity.{Activity};
 ghost use Rattle.edi_calls.specs.Ends.{CallsLast};
 ghost use Rattle.edi_kernel.specs.Stretch.{Allows, Blamed, Spends, Stretches, at_start, is_standstill, running_in};
 ghost use Rattle.edi_kernel.specs.Kernel.{
-  GoesTo,
   Handles,
   HandlesTurn,
-  Holds,
   IsForked,
   IsKernel,
   StandsAfter,
@@ -26,6 +24,7 @@ ghost use Rattle.edi_kernel.specs.Kernel.{
   is_over,
   used_in,
 };
+ghost use Rattle.edi_kernel.specs.Named.{GoesBy, HoldsBy};
 
 use crate::ends::{Ending, StintEnd};
 use crate::fork::{branch_count, fork};
@@ -204,8 +203,9 @@ impl KernelState {
         requires kernel { IsKernel self.old }
         requires taken { IsSome self.old.taken }
         requires working { C.failed calls.old None }
-        ensures exact { WhereTold (C.state calls.old) (C.state calls.new) (λ s t. (m : Machine) (p : Name) (others : List Name) →
-            Holds self.old m (Some p) others → m.system ≡ s → m.turns ≡ left → GoesTo code.now.words result left self.new t m p others) }
+        ensures exact { WhereTold (C.state calls.old) (C.state calls.new) (λ s t. (m : Machine) (p : Name) (others : List Name) (n : Naming) →
+            HoldsBy n self.old m (Some p) others → m.system ≡ s → m.turns ≡ left →
+            GoesBy code.now.words result left self.old n self.new t m p others) }
         ensures kernel { IsKernel self.new }
         ensures free { self.new.taken ≡ None }
         ensures standing { StandsAfter result self.old.taken (ready_slots self.old.table) self.new.table self.new.arrived }

@@ -1,7 +1,7 @@
 -- The next process is that of the rule.
 use Rattle.std.proofs.Common.{refl, subst, Some}
 use Rattle.edi_kernel.specs.Runs.{Picks}
-use Rattle.edi_kernel.proofs.Choosing.{chosen_kernel, chooses}
+use Rattle.edi_kernel.proofs.Choosing.{chosen_kernel, chooses, chooses_by}
 use Rattle.edi_kernel.proofs.state.KernelState.choose.Goals as goal
 
 pub returns-clause-exact : goal.returns-clause-exact
@@ -11,6 +11,14 @@ returns-clause-exact c =
     c.args.choices.now c.pick-at.new.choices
     c.requires.kernel c.requires.free c.next-slot.ensures.slot c.next-slot.ensures.was c.next-slot.ensures.taken refl refl c.ready.result
     c.ready.ensures.exact c.pick-at.ensures.inside c.pick-at.ensures.exact drawn m names h
+
+pub returns-clause-names : goal.returns-clause-names
+returns-clause-names c =
+    λ drawn n m names h.
+    chooses_by c.args.self.now (record c.args.self.now { table = c.next-slot.new.self; taken = Some c.next-slot.result }) c.pick-at.result c.next-slot.result
+    c.args.choices.now c.pick-at.new.choices
+    c.requires.kernel c.requires.free c.next-slot.ensures.slot c.next-slot.ensures.was c.next-slot.ensures.taken refl refl c.ready.result
+    c.ready.ensures.exact c.pick-at.ensures.inside c.pick-at.ensures.exact drawn n m names h
 
 pub returns-clause-kernel : goal.returns-clause-kernel
 returns-clause-kernel c =

@@ -1,5 +1,6 @@
 -- A round of the kernel is one of the machine.
 use Rattle.std.proofs.Common.{◌+◌, ◌-◌, ◌∙◌, sym, refl, arith}
+use Rattle.edi_kernel.proofs.Named.{told_goes_to}
 use Rattle.edi_kernel.proofs.Rounds.{told_round_ends, told_round_goes, holds_same}
 use Rattle.edi_kernel.proofs.Placing.{stands_at_end, stands_unready}
 use Rattle.edi_kernel.proofs.state.KernelState.round.Goals as goal
@@ -11,7 +12,7 @@ returns-in-Some-clause-exact g c =
     (record c.go-end.new.self { used = c.go-end.new.self.used + c.used_in.result }) c.args.choices.now
     (c.args.bound - c.args.self.now.used) c.go-end.result _ _
     (omega (arith, c.go-end.ensures.turns, c.used_in.ensures, c.go-end.ensures.used, c.requires.used)) refl c.in-Some.ending (sym c.in-Some.ensures)
-    c.go-end.ensures.exact
+    (told_goes_to _ _ _ _ _ _ _ c.go-end.ensures.exact)
 
 pub returns-clause-exact : goal.returns-clause-exact
 returns-clause-exact g c =
@@ -23,7 +24,7 @@ returns-clause-exact g c =
     (λ n names k.
     c.proceed.ensures.exact drawn n names
     (holds_same c.go-end.new.self (record c.go-end.new.self { used = c.go-end.new.self.used + c.used_in.result }) n _ names refl refl refl k))
-    c.go-end.ensures.exact
+    (told_goes_to _ _ _ _ _ _ _ c.go-end.ensures.exact)
 
 pub returns-in-Some-clause-standing : goal.returns-in-Some-clause-standing
 returns-in-Some-clause-standing g c = stands_at_end c.go-end.result c.in-Some.ending _ _ _ _ (sym c.in-Some.ensures) c.go-end.ensures.standing

@@ -1,0 +1,54 @@
+-- Words of contracts. Names that stay: by which names the kernel is a machine before a call of it, and by which after.
+use Rattle.std.specs.Prelude.{◌≡◌, ℕ, suc, ◌+◌, Bool, true, false, length, slice_get, List, Option, Some}
+use Rattle.edi_calls.specs.Names.{Name}
+use Rattle.edi_calls.specs.Ready.{child}
+use Rattle.edi_calls.specs.State.{State}
+use Rattle.edi_target.specs.Mach.{Machine}
+use Rattle.edi_trace.specs.Drawn.{Drawn}
+use Rattle.edi_kernel.specs.declared.ends.StintEnd.{StintEnd}
+use Rattle.edi_kernel.specs.declared.ends.StintEnd.TheVariants as stint_end
+use Rattle.edi_kernel.specs.declared.state.KernelState.{KernelState}
+use Rattle.edi_kernel.specs.declared.table.Table.{Table}
+use Rattle.edi_kernel.specs.Table.{is_live, ready_slots}
+use Rattle.edi_kernel.specs.TableIsMachine.{Naming}
+use Rattle.edi_kernel.specs.Kernel.{Holds, GoesTo}
+use Rattle.edi_kernel.specs.Runs.{Chooses}
+
+-- the kernel is this machine by these names
+pub record HoldsBy (n : Naming) (k : KernelState) (m : Machine) (taken : Option Name) (ready : List Name) : Type 0 where
+  pub holds : Holds k m taken ready
+  pub by : holds.naming ≡ n
+
+-- the process at this slot is a child of this fork and has not forked; it stands in the ready list by its number, after so many others
+pub record IsBorn (parent : Name) (fork others : ℕ) (t : Table) (n : Naming) (slot : ℕ) : Type 0 where
+  pub number : ℕ
+  pub at : slice_get (ready_slots t) (others + number) ≡ Some slot
+  pub named : n.name slot ≡ child parent fork number
+  pub forks : n.forks slot ≡ 0
+
+-- The process that was taken has forked once more. All that lived live on by their names, and have forked as often as before. Who did
+-- not live is a child of this fork.
+pub record NamesGrow (fork : ℕ) (taken : Option ℕ) (old new : Table) (before after : Naming) : Type 0 where
+  pub slot : ℕ
+  pub was : taken ≡ Some slot
+  pub next : fork ≡ suc (before.forks slot)
+  pub forked : after.forks slot ≡ fork
+  pub lives : (i : ℕ) → is_live old i ≡ true → is_live new i ≡ true
+  pub names : (i : ℕ) → is_live old i ≡ true → after.name i ≡ before.name i
+  pub forks : (i : ℕ) → is_live old i ≡ true → (i ≡ slot → ⊥) → after.forks i ≡ before.forks i
+  pub born : (i : ℕ) → is_live old i ≡ false → is_live new i ≡ true → IsBorn (before.name slot) fork (length (ready_slots old)) new after i
+
+-- How the stint of p ends, where the kernel was the machine by these names: after an arrival and after an end it is so by the same
+-- names, and after a fork by those that have grown.
+abbrev pub GoesBy : List ℕ → StintEnd → (left : ℕ) → (old : KernelState) → Naming → KernelState → State → Machine → Name → List Name → Type 0
+GoesBy words (stint_end.Arrived used) left old n k now m p others =
+    (g : GoesTo words (stint_end.Arrived used) left k now m p others) × (g.0.holds.naming ≡ n)
+GoesBy words (stint_end.Exited used) left old n k now m p others =
+    (g : GoesTo words (stint_end.Exited used) left k now m p others) × (g.0.holds.naming ≡ n)
+GoesBy words (stint_end.Forked used) left old n k now m p others =
+    (g : GoesTo words (stint_end.Forked used) left k now m p others) × NamesGrow g.1.fork old.taken old.table k.table n g.0.holds.naming
+GoesBy words (stint_end.Over used e) left old n k now m p others = GoesTo words (stint_end.Over used e) left k now m p others
+
+-- the next process is taken, by the same names
+abbrev pub ChoosesBy : Naming → KernelState → Machine → (old new : Drawn) → (ready : List Name) → Type 0
+ChoosesBy n k m old new ready = (c : Chooses k m old new ready) × (c.holds.naming ≡ n)
