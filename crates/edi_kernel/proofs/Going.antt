@@ -6,7 +6,7 @@ use Rattle.std.specs.Option.{option_map}
 use Rattle.std.proofs.lemmas.Bool.{cases_eq, ne_eqb, eqb-false}
 use Rattle.edi_calls.specs.State.{State}
 use Rattle.edi_calls.specs.Calls.{call}
-use Rattle.edi_calls.specs.Names.{Name, same, find}
+use Rattle.edi_calls.specs.Names.{Name, same}
 use Rattle.edi_calls.specs.Outcome as outcome
 use Rattle.edi_calls.specs.Ready.{child, children, all_marked, joins}
 use Rattle.edi_calls.proofs.Tables.{find-with_at-same, find-with_at-other}
@@ -40,7 +40,7 @@ use Rattle.edi_kernel.specs.Stretch.{Paused, going, pausing, stopping, stretch, 
 use Rattle.edi_kernel.specs.Stints as stints
 use Rattle.edi_kernel.specs.Stints.{stint, stint_after}
 use Rattle.edi_kernel.specs.Forks.{HaveBegun, share_in}
-use Rattle.edi_kernel.specs.Kernel.{IsKernel, IsTakenIn, Holds, Switches, EndsRun, BreaksOff, StandsArrived, attempt_end, HandlesTurn}
+use Rattle.edi_kernel.specs.Kernel.{IsKernel, IsTakenIn, EndsRun, BreaksOff, StandsArrived, attempt_end, HandlesTurn}
 use Rattle.edi_kernel.specs.Kernel.{EndsAs, Handles, KeepsWords}
 use Rattle.edi_kernel.specs.Named.{HoldsBy, IsBorn, NamesGrow, GoesBy}
 use Rattle.edi_calls.proofs.Names.{child_not_first, same_ends}

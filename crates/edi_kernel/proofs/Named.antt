@@ -9,7 +9,7 @@ use Rattle.edi_kernel.specs.declared.ends.StintEnd.{StintEnd}
 use Rattle.edi_kernel.specs.declared.ends.StintEnd.TheVariants as stint_end
 use Rattle.edi_kernel.specs.declared.state.KernelState.{KernelState}
 use Rattle.edi_kernel.specs.TableIsMachine.{Naming}
-use Rattle.edi_kernel.specs.Kernel.{Holds, GoesTo}
+use Rattle.edi_kernel.specs.Kernel.{GoesTo}
 use Rattle.edi_kernel.specs.Named.{HoldsBy, GoesBy}
 use Rattle.edi_kernel.proofs.Rounds.{AnyStint}
 

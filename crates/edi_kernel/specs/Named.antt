@@ -1,5 +1,5 @@
 -- Words of contracts. Names that stay: by which names the kernel is a machine before a call of it, and by which after.
-use Rattle.std.specs.Prelude.{◌≡◌, ℕ, suc, ◌+◌, Bool, true, false, length, slice_get, List, Option, Some}
+use Rattle.std.specs.Prelude.{◌≡◌, ℕ, suc, ◌+◌, true, false, length, slice_get, List, Option, Some}
 use Rattle.edi_calls.specs.Names.{Name}
 use Rattle.edi_calls.specs.Ready.{child}
 use Rattle.edi_calls.specs.State.{State}

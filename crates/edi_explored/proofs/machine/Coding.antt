@@ -29,6 +29,7 @@ use Rattle.edi_kernel.specs.declared.ends.Ending.{Ending}
 use Rattle.edi_kernel.specs.declared.ends.Ending.TheVariants as ending
 use Rattle.edi_kernel.specs.Kernel.{EndsAs}
 use Rattle.edi_kernel.specs.Runs.{RunsAs, RunsTo}
+use Rattle.edi_kernel.proofs.Endings.{ends_as}
 use Rattle.edi_kernel.proofs.Machines.{runs_are_the_machines}
 use Rattle.edi_explored.specs.Reached.{IsReached, IsShown}
 use Rattle.edi_explored.specs.machine.Kernels.{IsUnitCode, ReachesAs, ending_of}
@@ -111,18 +112,7 @@ run_shown unit c system bound choices o m uncut = shown unit system bound choice
 -- ---- what a run of the kernel reaches
 
 pub as_ending : (a : outcome.Ending) (e : Ending) → EndsAs a e → ending_of e ≡ Some a
-as_ending outcome.done ending.Done x = refl
-as_ending outcome.done e x = absurd x
-as_ending (outcome.halted l) (ending.Halted at) x = ap (λ n. Some (outcome.halted n)) x
-as_ending (outcome.halted l) e x = absurd x
-as_ending (outcome.failed c l) (ending.Failed cause at) x = λ i. Some (outcome.failed (x.0 i) (x.1 i))
-as_ending (outcome.failed c l) e x = absurd x
-as_ending outcome.turns ending.Turns x = refl
-as_ending outcome.turns e x = absurd x
-as_ending outcome.standstill ending.Standstill x = refl
-as_ending outcome.standstill e x = absurd x
-as_ending (outcome.bad l) (ending.Bad at) x = ap (λ n. Some (outcome.bad n)) x
-as_ending (outcome.bad l) e x = absurd x
+as_ending = ends_as
 
 module _ (unit : ProgramUnit) (c : CanBeCoded unit) (code : CodeParts) (is : IsUnitCode unit code) (system : State) (bound : ℕ) (choices : List ℕ)
     (old new : Drawn) (none : old.drawn ≡ 0) (source : old.source ≡ listed choices) where

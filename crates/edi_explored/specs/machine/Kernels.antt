@@ -16,6 +16,7 @@ use Rattle.edi_kernel.specs.declared.kept.Kept.{Kept}
 use Rattle.edi_kernel.specs.declared.state.KernelState.{KernelState}
 use Rattle.edi_kernel.specs.Table.{is_live, no_marks, ready_slots}
 use Rattle.edi_kernel.specs.Kernel.{IsKernel, Holds, EndsAs, GoesTo, is_over}
+pub use Rattle.edi_kernel.specs.Kernel.{ending_of}
 use Rattle.edi_kernel.specs.Kept.{IsKeptOf}
 use Rattle.edi_kernel.specs.Runs.{Started, IsAt}
 use Rattle.edi_unit.specs.Tree.{ProgramUnit}
@@ -53,16 +54,6 @@ pub record IsUnitCode (unit : ProgramUnit) (code : CodeParts) : Type 0 where
   pub words : code.words ≡ code_of unit
   pub entry : code.entry ≡ 0
   pub calls : code.calls ≡ unit.calls
-
--- an ending of the kernel's as one of the definition; a fault of an object is none
-abbrev pub ending_of : Ending → Option outcome.Ending
-ending_of ending.Done = Some outcome.done
-ending_of (ending.Halted line) = Some (outcome.halted line)
-ending_of (ending.Failed cause line) = Some (outcome.failed cause line)
-ending_of ending.Turns = Some outcome.turns
-ending_of ending.Standstill = Some outcome.standstill
-ending_of (ending.Bad address) = Some (outcome.bad address)
-ending_of ending.Fault = None
 
 -- these choices reach what this ending is, with all that is shown
 abbrev pub ReachesAs : ProgramUnit → State → (choices : List ℕ) → Ending → (shown : List ℕ) → Type 0
