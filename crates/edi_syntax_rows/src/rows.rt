@@ -1,12 +1,7 @@
 //! The examples, a file for each subject.
 
-mod expected;
-mod faults;
-mod lengths;
 mod lists;
-mod nests;
 mod pieces;
+mod places;
 mod printed;
-mod printing;
-mod symbol_faults;
-mod symbols;
+mod types;
