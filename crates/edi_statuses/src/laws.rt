@@ -2,7 +2,7 @@
 
 ghost use Rattle.edi_statuses.specs.Decided.{LinesEnd, OneStatus};
 
-/// Contents that are told decide the status of a command and what it shows before the line of the status, but for `boot`. So each
+/// Contents that are told decide the status of a command and what it shows before the line of the status, but for `boot` and `explore`. So each
 /// status comes exactly where its cause is there, unless an object fails or memory runs out; and where no refusal has its cause, the
 /// command has its effect.
 pub fn one_status()

@@ -34,6 +34,7 @@ fn is_option_name(word: &str) -> bool
         || word == "--seed"
         || word == "--record"
         || word == "--from"
+        || word == "--states"
 }
 
 /// Whether the words are operands and options, each with its value.
@@ -77,6 +78,7 @@ fn parser<'a>(alloc: Global) -> Result<clap::Command<'a>, AllocError>
         .arg(option_of(alloc, "seed"))?
         .arg(option_of(alloc, "record"))?
         .arg(option_of(alloc, "from"))?
+        .arg(option_of(alloc, "states"))?
         .arg(words)
 }
 
@@ -99,6 +101,7 @@ fn given<'m, 'a>(matches: &'m ArgMatches<'a>, none: &'m [&'a str]) -> Given<'m, 
         seeds: values(matches, none, "seed"),
         record_files: values(matches, none, "record"),
         old_disks: values(matches, none, "from"),
+        states: values(matches, none, "states"),
     }
 }
 
