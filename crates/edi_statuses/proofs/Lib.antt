@@ -12,3 +12,4 @@ pub mod Causes
 pub mod Demonstrated
 pub mod Watched
 pub mod Walked
+pub mod Explored

@@ -1,5 +1,5 @@
 -- Contents that are told decide the status of a command and what it shows before the line of the status.
-use Rattle.std.proofs.Common.{◌≡◌, ◌∙◌, ℕ, List, [], ◌∷◌, ◌++◌, Option, Some, None, IsSome, true≢false, false, refl, sym, ap, subst, inl, inr, rules}
+use Rattle.std.proofs.Common.{◌≡◌, ◌∙◌, ℕ, List, [], ◌∷◌, ◌++◌, Option, Some, None, IsSome, true≢false, true, refl, sym, ap, subst, inl, inr, rules}
 use Rattle.std.proofs.lemmas.List.{append_cancel_left}
 use Rattle.edi_told.specs.Told.{WhereTold}
 use Rattle.edi_calls.specs.Choice.{Choices}
@@ -27,7 +27,7 @@ use Rattle.edi_statuses.specs.Commands.{RunSteps, ExecSteps, WatchSteps, Watches
 use Rattle.edi_statuses.specs.Commands.{Demonstrates, Explains, IsShownOf, size_shown, with_own}
 use Rattle.edi_statuses.specs.Steps.{goes, ◌>>=◌, Accepts, Fetches, Ready}
 use Rattle.edi_statuses.specs.Walked.{Walks}
-use Rattle.edi_statuses.specs.Decided.{IsTold, OneStatus, is_session}
+use Rattle.edi_statuses.specs.Decided.{IsTold, OneStatus, is_decided}
 use Rattle.edi_statuses.proofs.Walked.{walked_same}
 use Rattle.edi_statuses.proofs.StepLemmas.{IsOne, TextsAreOne, ready_one, then_one, tests_one, fetches_one, choices_one, accepts_one, mounts_one}
 use Rattle.edi_statuses.proofs.StepLemmas.{loads_one, old_one, finds_one, has_place_one, reads_one, IsOneEffect, does_one}
@@ -219,39 +219,40 @@ module _ (each : TextsAreOne) (before after behind : Outside) (is_told : IsTold 
   demo_steps from = choices_one before is_told.files from
 
   -- each command has one status and shows one thing
-  comes_one : (c : Command) → is_session c ≡ false → IsOneEffect before after behind (Comes c)
-  comes_one (words.run file o) no_session = does_one before after behind (RunSteps before file o.choices)
+  comes_one : (c : Command) → is_decided c ≡ true → IsOneEffect before after behind (Comes c)
+  comes_one (words.run file o) decided = does_one before after behind (RunSteps before file o.choices)
       (λ a. Runs (text a.0) o.turns a.1 o.record_file) (text_steps file o.choices) (λ a went. runs_one (text a.0) o.turns a.1 o.record_file)
-  comes_one (words.replay file choices turns) no_session = does_one before after behind (RunSteps before file (words.file choices))
+  comes_one (words.replay file choices turns) decided = does_one before after behind (RunSteps before file (words.file choices))
       (λ a. Runs (text a.0) turns a.1 None) (text_steps file (words.file choices)) (λ a went. runs_one (text a.0) turns a.1 None)
-  comes_one (words.exec file o) no_session = does_one before after behind (ExecSteps before file o.choices)
+  comes_one (words.exec file o) decided = does_one before after behind (ExecSteps before file o.choices)
       (λ a. Runs (code a.0) o.turns a.1 o.record_file) (code_steps file o.choices) (λ a went. runs_one (code a.0) o.turns a.1 o.record_file)
-  comes_one (words.compile file out) no_session = does_one before after behind (TextSteps before file)
+  comes_one (words.compile file out) decided = does_one before after behind (TextSteps before file)
       (λ a. IsDone (KeepsCode out a.0)) (compile_steps file) (λ a went. code_one out a.0)
-  comes_one (words.newdisk blocks None) no_session = does_one before after behind (Ready blocks)
+  comes_one (words.newdisk blocks None) decided = does_one before after behind (Ready blocks)
       (λ n. IsDone (OnlyBlocks (AreNew n))) (ready_one blocks) (λ n went. blocks_one (AreNew n))
-  comes_one (words.newdisk blocks (Some file)) no_session = does_one before after behind (OldSteps before blocks file)
+  comes_one (words.newdisk blocks (Some file)) decided = does_one before after behind (OldSteps before blocks file)
       (λ old. IsDone (OnlyBlocks (AreMigrated blocks old))) (old_steps blocks file) (λ old went. blocks_one (AreMigrated blocks old))
-  comes_one (words.put file title) no_session = does_one before after behind (PutSteps before file title)
+  comes_one (words.put file title) decided = does_one before after behind (PutSteps before file title)
       (λ bytes. IsDone (OnlyBlocks (ArePut title bytes))) (put_steps file title) (λ bytes went. blocks_one (ArePut title bytes))
-  comes_one (words.get title file) no_session = does_one before after behind (GetSteps before title)
+  comes_one (words.get title file) decided = does_one before after behind (GetSteps before title)
       (λ bytes. IsDone (OnlyKeeps ((file, bytes) ∷ []))) (get_steps title) (λ bytes went. keeps_one ((file, bytes) ∷ []))
-  comes_one (words.list file) no_session = does_one before after behind (ListSteps before file)
+  comes_one (words.list file) decided = does_one before after behind (ListSteps before file)
       (λ parts. IsDone (OnlyShows (listing_of parts.words))) (list_steps file) (λ parts went. shows_one (listing_of parts.words))
-  comes_one (words.demo n o) no_session = does_one before after behind (DemoSteps before o.choices)
+  comes_one (words.demo n o) decided = does_one before after behind (DemoSteps before o.choices)
       (λ choices. Demonstrates n o.turns choices o.record_file) (demo_steps o.choices) (λ choices went. demo_one n o.turns choices o.record_file)
-  comes_one (words.check file) no_session = does_one before after behind (TextSteps before file)
+  comes_one (words.check file) decided = does_one before after behind (TextSteps before file)
       (λ a. IsDone (ShowsReport a.1)) (compile_steps file) (λ a went. report_one a.1 (unit_fits file a went))
-  comes_one (words.explain file) no_session = does_one before after behind (Fetches before file) Explains
+  comes_one (words.explain file) decided = does_one before after behind (Fetches before file) Explains
       (fetches_one before is_told.files file) (λ bytes went. explains_one bytes)
-  comes_one (words.boot o) no_session = absurd (true≢false no_session)
-  comes_one (words.walk file choices turns) no_session = does_one before after behind (RunSteps before file (words.file choices))
+  comes_one (words.boot o) decided = absurd (true≢false (sym decided))
+  comes_one (words.explore file o) decided = absurd (true≢false (sym decided))
+  comes_one (words.walk file choices turns) decided = does_one before after behind (RunSteps before file (words.file choices))
       (λ a. Walks a.0 turns a.1) (text_steps file (words.file choices)) (λ a went. walks_one a.0 turns a.1)
-  comes_one (words.watch file points_file out o) no_session = does_one before after behind (WatchSteps before file points_file o.choices)
+  comes_one (words.watch file points_file out o) decided = does_one before after behind (WatchSteps before file points_file o.choices)
       (λ a. Watches a.0 a.2 o.turns a.1 out o.record_file) (watch_steps file points_file o.choices)
       (λ a went. watches_one a.0 a.2 o.turns a.1 out o.record_file)
 
 -- THE LAW
 pub one_status : TextsAreOne → OneStatus
-one_status each s t c before after behind shown bytes kernel other no_session is_told after_told behind_told decisive decisive' h k =
-    comes_one each before after behind is_told after_told behind_told c no_session s t shown bytes kernel other h k
+one_status each s t c before after behind shown bytes kernel other decided is_told after_told behind_told decisive decisive' h k =
+    comes_one each before after behind is_told after_told behind_told c decided s t shown bytes kernel other h k
