@@ -61,7 +61,7 @@ module _ (b m : Outside) (y : Option (List ℕ)) (still : StillTold m.shown y) w
     shown_ = h.shown_;
     keeps = h.keeps;
   })
-  explores_later bytes unit o s shown kernel (inr h) = inr (h.0, h.1.0, only_later IsTooLong shown kernel h.1.1)
+  explores_later bytes unit o s shown kernel (inr h) = inr (h.0, (h.1.0, only_later IsTooLong shown kernel h.1.1))
 
   loses_later : (unit : ProgramUnit) (shown : List ℕ) (kernel : Lent) → LosesInput unit before_ m shown kernel
       → LosesInput unit seen_later later_ shown kernel
