@@ -3,6 +3,7 @@ pub mod Due
 pub mod Fronts
 pub mod StepLemmas
 pub mod OneStatus
+pub mod AcceptedTexts
 pub mod Terminal
 pub mod Later
 pub mod Closing

@@ -1,5 +1,5 @@
 -- Contents that are told decide the status of a command and what it shows before the line of the status.
-use Rattle.std.proofs.Common.{◌≡◌, ◌∙◌, ℕ, List, [], ◌∷◌, ◌++◌, Option, Some, None, IsSome, true≢false, true, refl, sym, ap, subst, inl, inr, rules}
+use Rattle.std.proofs.Common.{◌≡◌, ◌∙◌, ℕ, List, [], ◌∷◌, ◌++◌, Option, Some, None, IsSome, true≢false, false, true, refl, sym, ap, subst, inl, inr, rules}
 use Rattle.std.proofs.lemmas.List.{append_cancel_left}
 use Rattle.edi_told.specs.Told.{WhereTold}
 use Rattle.edi_calls.specs.Choice.{Choices}
@@ -16,8 +16,13 @@ use Rattle.edi_explain.specs.told.Explained.{IsExplained}
 use Rattle.edi_explain.proofs.told.One.{one_explanation}
 use Rattle.edi_utils.specs.Demo.{demo_text}
 use Rattle.edi_utils.specs.Listing.{listing_of}
+use Rattle.edi_session.specs.declared.end.SessionEnd.{SessionEnd}
+use Rattle.edi_session.specs.declared.end.SessionEnd.TheVariants as end
+use Rattle.edi_explore_on.specs.declared.summary.Summary.{Summary}
+use Rattle.edi_explore_on.specs.declared.summary.Summary.TheVariants as summary
+use Rattle.edi_explore_on.specs.Lines.{summary_of}
 use Rattle.edi_words.specs.Words as words
-use Rattle.edi_words.specs.Words.{ChoicesFrom, Command}
+use Rattle.edi_words.specs.Words.{ChoicesFrom, Command, ExploreOptions}
 use Rattle.edi_statuses.specs.declared.status.Status.{Status}
 use Rattle.edi_statuses.specs.declared.status.Status.TheVariants as status
 use Rattle.edi_statuses.specs.Outside.{Outside, Devices, devices_of, system_on, KernelLeft, Lent}
@@ -27,10 +32,12 @@ use Rattle.edi_statuses.specs.Commands.{RunSteps, ExecSteps, WatchSteps, Watches
 use Rattle.edi_statuses.specs.Commands.{Demonstrates, Explains, IsShownOf, size_shown, with_own}
 use Rattle.edi_statuses.specs.Steps.{goes, ◌>>=◌, Accepts, Fetches, Ready}
 use Rattle.edi_statuses.specs.Walked.{Walks}
-use Rattle.edi_statuses.specs.Decided.{IsTold, OneStatus, is_decided}
+use Rattle.edi_statuses.specs.Sessions.{BootSteps, HoldsSession, session_status}
+use Rattle.edi_statuses.specs.Explored.{ExploresText, status_of_summary}
+use Rattle.edi_statuses.specs.Decided.{IsTold, OneRefusal, OneStatus, is_decided, is_refusal}
 use Rattle.edi_statuses.proofs.Walked.{walked_same}
 use Rattle.edi_statuses.proofs.StepLemmas.{IsOne, TextsAreOne, ready_one, then_one, tests_one, fetches_one, choices_one, accepts_one, mounts_one}
-use Rattle.edi_statuses.proofs.StepLemmas.{loads_one, old_one, finds_one, has_place_one, reads_one, IsOneEffect, does_one}
+use Rattle.edi_statuses.proofs.StepLemmas.{loads_one, old_one, finds_one, has_place_one, reads_one, IsOneEffect, does_one, does_refused}
 
 -- ---- executions
 
@@ -252,7 +259,47 @@ module _ (each : TextsAreOne) (before after behind : Outside) (is_told : IsTold 
       (λ a. Watches a.0 a.2 o.turns a.1 out o.record_file) (watch_steps file points_file o.choices)
       (λ a went. watches_one a.0 a.2 o.turns a.1 out o.record_file)
 
--- THE LAW
+  -- ---- refusals
+
+  boot_steps : (from : ChoicesFrom) → IsOne (BootSteps before from)
+  boot_steps from =
+      then_one _ _ (choices_one before is_told.files from) (λ choices. then_one _ _ (mounts_one before is_told.blocks) (λ done. ready_one _))
+
+  ends_well : (how : SessionEnd) → is_refusal (session_status how) ≡ false
+  ends_well end.Halted = refl
+  ends_well end.InputEnd = refl
+  ends_well end.Limit = refl
+  ends_well end.DriveFault = refl
+  ends_well end.InputFault = refl
+  ends_well end.TerminalFault = refl
+  ends_well end.PrinterFault = refl
+
+  tells : (what : Summary) → is_refusal (status_of_summary what) ≡ false
+  tells summary.Fine = refl
+  tells summary.Endless = refl
+  tells summary.NotAll = refl
+  tells (summary.Found n) = refl
+
+  explores_well : (o : ExploreOptions) (a : List ℕ × ProgramUnit) (s : Status) (shown : List ℕ) (kernel : Lent)
+      → ExploresText a.0 a.1 o s before after shown kernel → is_refusal s ≡ false
+  explores_well o a s shown kernel (inl h) = ap is_refusal h.status_is ∙ tells (summary_of h.findings)
+  explores_well o a s shown kernel (inr h) = ap is_refusal h.0
+
+  -- a command that is refused is refused again
+  refuses_one : (c : Command) (s t : Status) (shown bytes : List ℕ) (kernel other : Lent) → is_refusal s ≡ true
+      → Comes c s before after shown kernel → Comes c t before behind bytes other → (s ≡ t) × (shown ≡ bytes)
+  refuses_one (words.boot o) = does_refused before after behind (BootSteps before o.choices)
+      (λ choices s b a shown k. HoldsSession o.turns choices o.record_file s b a shown) (boot_steps o.choices)
+      (λ choices s shown kernel h. ap is_refusal h.status_is ∙ ends_well h.how)
+  refuses_one (words.explore file o) = does_refused before after behind (TextSteps before file) (λ a. ExploresText a.0 a.1 o) (compile_steps file)
+      (explores_well o)
+  refuses_one c = λ s t shown bytes kernel other refusal h k. comes_one c refl s t shown bytes kernel other h k
+
+-- THE LAWS
+pub one_refusal : TextsAreOne → OneRefusal
+one_refusal each s t c before after behind shown bytes kernel other refusal is_told after_told behind_told h k =
+    refuses_one each before after behind is_told after_told behind_told c s t shown bytes kernel other refusal h k
+
 pub one_status : TextsAreOne → OneStatus
 one_status each s t c before after behind shown bytes kernel other decided is_told after_told behind_told decisive decisive' h k =
     comes_one each before after behind is_told after_told behind_told c decided s t shown bytes kernel other h k

@@ -8,7 +8,7 @@ use Rattle.edi_statuses.specs.Lines.{closing_line, is_due, text_of}
 use Rattle.edi_statuses.specs.Showing.{ClosesWith}
 use Rattle.edi_statuses.specs.Counts.{Counts, HasCause}
 use Rattle.edi_statuses.specs.Outside.{Outside, Shows, Lent}
-use Rattle.edi_statuses.specs.EachObject.{LeavesEach}
+use Rattle.edi_statuses.specs.EachObject.{LeavesEach, is_before_drive}
 use Rattle.edi_statuses.specs.Commands.{Comes}
 use Rattle.edi_statuses.specs.Facts.{facts_of}
 use Rattle.edi_statuses.specs.Means.{EndsWith, Means}
@@ -67,4 +67,16 @@ abbrev pub OneStatus : Type 0
 OneStatus =
     (s t : Status) (c : Command) (before after behind : Outside) (shown bytes : List ℕ) (kernel other : Lent)
     → is_decided c ≡ true → IsTold before → IsTold after → IsTold behind → IsDecisive s → IsDecisive t
+    → Comes c s before after shown kernel → Comes c t before behind bytes other → (s ≡ t) × (shown ≡ bytes)
+
+-- a refusal: a step stops a command at this status, and no session and no exploration ends with it
+abbrev pub is_refusal : Status → Bool
+is_refusal (status.BadImage broken) = true
+is_refusal s = is_before_drive s
+
+-- Contents that are told decide a refusal of every command: where one of two calls on the same contents is refused, the other one is refused so.
+abbrev pub OneRefusal : Type 0
+OneRefusal =
+    (s t : Status) (c : Command) (before after behind : Outside) (shown bytes : List ℕ) (kernel other : Lent)
+    → is_refusal s ≡ true → IsTold before → IsTold after → IsTold behind
     → Comes c s before after shown kernel → Comes c t before behind bytes other → (s ≡ t) × (shown ≡ bytes)
