@@ -12,7 +12,7 @@ use Rattle.edi_statuses.specs.Outside.{Outside, Kept, seen, Lent}
 use Rattle.edi_statuses.specs.Steps.{goes}
 use Rattle.edi_statuses.specs.Commands.{IsNothing, TextSteps}
 use Rattle.edi_statuses.specs.Broken.{HasBegun}
-use Rattle.edi_statuses.specs.Explored.{Explored, ExploredFront, ExploredInPart, ExploredThen, ExploredUnshown, Explores, ExploresText}
+use Rattle.edi_statuses.specs.Explored.{Explored, ExploredFront, ExploredInPart, ExploredThen, ExploresText}
 use Rattle.edi_statuses.specs.Explored.{IsTooLong, KeepsFirst, LosesInput, LosesNext, OnlyTakes, TakesAll}
 use Rattle.edi_statuses.specs.Decided.{with_shown}
 use Rattle.edi_statuses.proofs.Terminal.{StillTold, nothing_later, text_later}
