@@ -1,5 +1,5 @@
 -- Contents that are told decide the status of a command and what it shows before the line of the status.
-use Rattle.std.proofs.Common.{◌≡◌, ◌∙◌, ℕ, List, [], ◌∷◌, ◌++◌, Option, Some, None, IsSome, true≢false, false, true, refl, sym, ap, subst, inl, inr, rules}
+use Rattle.std.proofs.Common.{◌≡◌, ◌∙◌, ◌≤◌, ℕ, List, [], ◌∷◌, ◌++◌, length, Option, Some, None, IsSome, true≢false, false, true, refl, sym, ap, subst, inl, inr, arith, rules}
 use Rattle.std.proofs.lemmas.List.{append_cancel_left}
 use Rattle.edi_told.specs.Told.{WhereTold}
 use Rattle.edi_calls.specs.Choice.{Choices}
@@ -20,9 +20,10 @@ use Rattle.edi_session.specs.declared.end.SessionEnd.{SessionEnd}
 use Rattle.edi_session.specs.declared.end.SessionEnd.TheVariants as end
 use Rattle.edi_explore_on.specs.declared.summary.Summary.{Summary}
 use Rattle.edi_explore_on.specs.declared.summary.Summary.TheVariants as summary
+use Rattle.edi_explore_on.specs.Input.{most_input, names_accept}
 use Rattle.edi_explore_on.specs.Lines.{summary_of}
 use Rattle.edi_words.specs.Words as words
-use Rattle.edi_words.specs.Words.{ChoicesFrom, Command, ExploreOptions}
+use Rattle.edi_words.specs.Words.{ChoicesFrom, Command, ExploreOptions, Options}
 use Rattle.edi_statuses.specs.declared.status.Status.{Status}
 use Rattle.edi_statuses.specs.declared.status.Status.TheVariants as status
 use Rattle.edi_statuses.specs.Outside.{Outside, Devices, devices_of, system_on, KernelLeft, Lent}
@@ -33,7 +34,7 @@ use Rattle.edi_statuses.specs.Commands.{Demonstrates, Explains, IsShownOf, size_
 use Rattle.edi_statuses.specs.Steps.{goes, ◌>>=◌, Accepts, Fetches, Ready}
 use Rattle.edi_statuses.specs.Walked.{Walks}
 use Rattle.edi_statuses.specs.Sessions.{BootSteps, HoldsSession, session_status}
-use Rattle.edi_statuses.specs.Explored.{ExploresText, status_of_summary}
+use Rattle.edi_statuses.specs.Explored.{ExploresText, IsTooLong, TakesAll, status_of_summary}
 use Rattle.edi_statuses.specs.Decided.{IsTold, OneRefusal, OneStatus, is_decided, is_refusal}
 use Rattle.edi_statuses.proofs.Walked.{walked_same}
 use Rattle.edi_statuses.proofs.StepLemmas.{IsOne, TextsAreOne, ready_one, then_one, tests_one, fetches_one, choices_one, accepts_one, mounts_one}
@@ -110,6 +111,14 @@ runs_same before after behind is_told after_told behind_told program bound choic
 own_told : (blocks : List (List ℕ)) (input : List ℕ) (o : Outside) → IsTold o → IsTold (with_own blocks input o)
 own_told blocks input o told =
     record { files = told.files; blocks = search rules; input = search rules; shown = told.shown; printed = told.printed }
+
+-- an input is not too long for one call, and taken by the other
+clash : (b a c : Option (List ℕ)) (input : List ℕ) → IsSome a → IsSome c → length input ≤ most_input → WhereTold b a IsTooLong
+    → WhereTold b c (λ old new. (old ≡ input) × (new ≡ [])) → ⊥
+clash b None c input told also_told few long all = absurd (cc)
+clash None (Some a) c input told also_told few long all = absurd long
+clash (Some b) (Some a) None input told also_told few long all = absurd (cc)
+clash (Some b) (Some a) (Some c) input told also_told few long all = omega (arith, few, long.0, ap length all.0)
 
 module _ (each : TextsAreOne) (before after behind : Outside) (is_told : IsTold before) (after_told : IsTold after) (behind_told : IsTold behind) where
   runs_one : (program : Runnable) (bound : ℕ) (choices : Choices) (record_file : Option (List ℕ))
@@ -280,19 +289,35 @@ module _ (each : TextsAreOne) (before after behind : Outside) (is_told : IsTold 
   tells summary.NotAll = refl
   tells (summary.Found n) = refl
 
-  explores_well : (o : ExploreOptions) (a : List ℕ × ProgramUnit) (s : Status) (shown : List ℕ) (kernel : Lent)
-      → ExploresText a.0 a.1 o s before after shown kernel → is_refusal s ≡ false
-  explores_well o a s shown kernel (inl h) = ap is_refusal h.status_is ∙ tells (summary_of h.findings)
-  explores_well o a s shown kernel (inr h) = ap is_refusal h.0
+  no_session_refused : (o : Options) (choices : Choices) (s t : Status) (shown bytes : List ℕ) (kernel other : Lent) → is_refusal s ≡ true
+      → HoldsSession o.turns choices o.record_file s before after shown → HoldsSession o.turns choices o.record_file t before behind bytes
+      → (s ≡ t) × (shown ≡ bytes)
+  no_session_refused o choices s t shown bytes kernel other refusal h k =
+      absurd (true≢false (sym refusal ∙ ap is_refusal h.status_is ∙ ends_well h.how))
+
+  -- an input that is too long is no input of an exploration
+  takes_no_more : (unit : ProgramUnit) (input : List ℕ) → names_accept unit ≡ true → WhereTold before.input after.input IsTooLong
+      → TakesAll (names_accept unit) input before behind → ⊥
+  takes_no_more unit input asks long takes =
+      let all : TakesAll true input before behind = subst (λ x. TakesAll x input before behind) asks takes in
+      clash before.input after.input behind.input input after_told.input behind_told.input all.0 long all.1
+
+  explores_refused : (o : ExploreOptions) (a : List ℕ × ProgramUnit) (s t : Status) (shown bytes : List ℕ) (kernel other : Lent) → is_refusal s ≡ true
+      → ExploresText a.0 a.1 o s before after shown kernel → ExploresText a.0 a.1 o t before behind bytes other → (s ≡ t) × (shown ≡ bytes)
+  explores_refused o a s t shown bytes kernel other refusal (inl h) k =
+      absurd (true≢false (sym refusal ∙ ap is_refusal h.status_is ∙ tells (summary_of h.findings)))
+  explores_refused o a s t shown bytes kernel other refusal (inr h) (inl k) =
+      absurd (takes_no_more a.1 k.explored.input h.1.0 h.1.1.input k.explored.takes)
+  explores_refused o a s t shown bytes kernel other refusal (inr h) (inr k) = (h.0 ∙ sym k.0, h.1.1.shown_ ∙ sym k.1.1.shown_)
 
   -- a command that is refused is refused again
   refuses_one : (c : Command) (s t : Status) (shown bytes : List ℕ) (kernel other : Lent) → is_refusal s ≡ true
       → Comes c s before after shown kernel → Comes c t before behind bytes other → (s ≡ t) × (shown ≡ bytes)
   refuses_one (words.boot o) = does_refused before after behind (BootSteps before o.choices)
       (λ choices s b a shown k. HoldsSession o.turns choices o.record_file s b a shown) (boot_steps o.choices)
-      (λ choices s shown kernel h. ap is_refusal h.status_is ∙ ends_well h.how)
+      (no_session_refused o)
   refuses_one (words.explore file o) = does_refused before after behind (TextSteps before file) (λ a. ExploresText a.0 a.1 o) (compile_steps file)
-      (explores_well o)
+      (explores_refused o)
   refuses_one c = λ s t shown bytes kernel other refusal h k. comes_one c refl s t shown bytes kernel other h k
 
 -- THE LAWS

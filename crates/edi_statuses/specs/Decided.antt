@@ -69,9 +69,10 @@ OneStatus =
     → is_decided c ≡ true → IsTold before → IsTold after → IsTold behind → IsDecisive s → IsDecisive t
     → Comes c s before after shown kernel → Comes c t before behind bytes other → (s ≡ t) × (shown ≡ bytes)
 
--- a refusal: a step stops a command at this status, and no session and no exploration ends with it
+-- a refusal: a step stops a command at this status, or its input is too long; no session ends with it, and no text is explored then
 abbrev pub is_refusal : Status → Bool
 is_refusal (status.BadImage broken) = true
+is_refusal status.InputLimit = true
 is_refusal s = is_before_drive s
 
 -- Contents that are told decide a refusal of every command: where one of two calls on the same contents is refused, the other one is refused so.

@@ -10,7 +10,7 @@ pub fn one_status()
 {}
 
 /// Contents that are told decide each refusal, of `boot` and `explore` too: a file that is absent, a text that is refused, bad choices or points, a bad
-/// image or code, a file that is too large. Where one call is refused, another one on the same contents is refused so, unless an object fails or
+/// image or code, a file or an input that is too long. Where one call is refused, another one on the same contents is refused so, unless an object fails or
 /// memory runs out.
 pub fn one_refusal()
     ensures law { OneRefusal }
