@@ -24,6 +24,8 @@ class About:
     disk_is_lost: bool = False
     # If so many lines of a session have no memory: what it shows, and the files of its disk.
     lines: list = dataclasses.field(default_factory=list)
+    # If a search has no memory: its status, what it may show as an expression, and the files that are kept.
+    searched: list = dataclasses.field(default_factory=list)
 
 
 @dataclasses.dataclass
@@ -133,6 +135,24 @@ that has no '*'; for a field that the record has not; for display or another cal
 of the program does not name.
 """
 
+# A text that is explored. Where branch 2 is first, branch 1 waits for ever: entry, fork, two arrivals, an end and an attempt; else both end.
+# The states: before the entry, after the fork, one branch has arrived or ended, or the other, or both in each of the ways that there are.
+EITHER = b"""proc main(proc accept(var value: char))
+var x: int; c: char
+begin
+  accept(c); x := 0;
+  cobegin 1 do when x = 0 do x := 1 end
+  also 2 do when true do x := 2 end end
+end
+"""
+STANDS, DONE = b"standstill after 6 turns: choices 0 0 1\n", b"done after 7 turns: no choices\n"
+LACKING = rb"perhaps not all: memory ran out(; every execution of fewer than [0-9]+ moves? was followed)?; [0-9]+ states?\n"
+SEARCHED = [
+    (20, LACKING + b"not all\n", ()),
+    (19, STANDS + LACKING + b"found 1\n", ("r.1",)),
+    (19, STANDS + DONE + LACKING + b"found 1\n", ("r.1", "r.2")),
+]
+
 CASES = [
     # Seed 7 begins with 230 and 15: branch 1 arrives and goes on to its end, and then branch 2 is alone.
     About(
@@ -157,6 +177,11 @@ CASES = [
     About("list", "list code", (LISTING,), files={"hello": HELLO}, before=("compile hello code",)),
     About(
         "explain", "explain undeclared", (EXPLAINED, b"line 2 undeclared name\n"), 2, files={"undeclared": b"proc main\nbegin f end\n"},
+    ),
+    About(
+        "explore", "explore either --record r",
+        (STANDS + DONE + b"no execution ends otherwise; 10 states\n", Kept("r.1", b"0\n0\n1\n"), Kept("r.2", b""), b"found 1\n"), 19,
+        input=b"qqq", files={"either": EITHER}, searched=SEARCHED,
     ),
     About("check", "check race", (b"line 3 branches 1 2 may share\n",), files={"race": RACE}),
     About(

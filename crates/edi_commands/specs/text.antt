@@ -1,2 +1,3 @@
 -- Helper. The files of `text`.
+pub mod ExploreCommand
 pub mod TextCommands

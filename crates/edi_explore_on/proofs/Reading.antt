@@ -1,7 +1,8 @@
 -- An input that is read byte by byte.
-use Rattle.std.proofs.Common.{◌≡◌, ℕ, ◌<◌, ◌≤◌, List, [], ◌∷◌, ◌++◌, length, Option, Ok, Err, refl, sym, ap, ◌∙◌, arith, append_assoc}
+use Rattle.std.proofs.Common.{◌≡◌, ℕ, suc, ◌<◌, ◌≤◌, List, [], ◌∷◌, ◌++◌, length, drop, Option, Ok, Err, refl, sym, ap, ◌∙◌, arith, append_assoc}
 use Rattle.std.specs.Global.{Vec}
 use Rattle.std.proofs.lemmas.List.{append-nil, length-append}
+use Rattle.std.proofs.Math.Seq.{drop-append_seam}
 use Rattle.edi_told.specs.Faults.{CountRose}
 use Rattle.edi_told.specs.Told.{WhereTold}
 use Rattle.edi_told.proofs.Told.{WhereTold-then, WhereTold-map}
@@ -35,11 +36,15 @@ read_whole start now after bytes few told s =
     (λ x y z p q. let all : x ≡ bytes.items = p ∙ ap (λ t. bytes.items ++ t) q.0 ∙ append-nil bytes.items in
     (all, q.1, omega (arith, few, ap length all))) told s
 
-pub read_too_long : (start now : Option (List ℕ)) (bytes : List ℕ) → most_input < length bytes → WhereTold start now (HasTaken bytes)
+-- what is left where so many bytes were taken
+left_after : (n : ℕ) (bytes x y : List ℕ) → length bytes ≡ n → HasTaken bytes x y → y ≡ drop n x
+left_after n bytes x y count p = sym (drop-append_seam bytes y) ∙ ap (λ m. drop m (bytes ++ y)) count ∙ ap (drop n) (sym p)
+
+pub read_too_long : (start now : Option (List ℕ)) (bytes : List ℕ) → length bytes ≡ suc most_input → WhereTold start now (HasTaken bytes)
     → WhereTold start now (Reads (Err fault.TooLong))
-read_too_long start now bytes many told =
+read_too_long start now bytes count told =
     WhereTold-map (HasTaken bytes) (Reads (Err fault.TooLong)) start now
-    (λ x y p. (omega (arith, many, ap length p, length-append bytes y), (bytes, p))) told
+    (λ x y p. (omega (arith, count, ap length p, length-append bytes y), left_after (suc most_input) bytes x y count p)) told
 
 -- a count that rose by the end of two calls
 pub rose_since : (a b c : ℕ) → a ≤ b → CountRose b c → CountRose a c

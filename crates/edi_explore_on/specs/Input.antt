@@ -1,15 +1,11 @@
 -- Definition. THE INPUT of a text that is explored: all bytes that are given, where its program names `accept`; else none.
-use Rattle.std.specs.Prelude.{ℕ, ◌==◌, Bool, if◌then◌else◌, List, []}
+use Rattle.std.specs.Prelude.{ℕ, ◌==◌, Bool}
 use Rattle.std.specs.List.{list_any}
 use Rattle.edi_unit.specs.Tree.{ProgramUnit}
 
 -- the program names `accept`, the call of the system with the number 1, as a parameter
 abbrev pub names_accept : ProgramUnit → Bool
 names_accept unit = list_any (λ number. number == 1) unit.calls
-
--- of these bytes
-abbrev pub input_for : ProgramUnit → (given : List ℕ) → List ℕ
-input_for unit given = if names_accept unit then given else []
 
 -- the bytes that an input may have
 abbrev pub most_input : ℕ

@@ -5,5 +5,4 @@ pub mod Laws
 pub mod Lines
 pub mod Records
 pub mod Rows
-pub mod Shown
 pub mod Told

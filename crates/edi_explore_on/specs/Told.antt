@@ -1,5 +1,5 @@
 -- Words of contracts. What a report of the search finds, as plain data; and what reading an input takes of it.
-use Rattle.std.specs.Prelude.{◌≡◌, ℕ, ◌<◌, ◌≤◌, List, [], ◌++◌, length, map, Result, Ok, Err}
+use Rattle.std.specs.Prelude.{◌≡◌, ℕ, ◌<◌, ◌≤◌, suc, List, [], ◌++◌, length, drop, map, Result, Ok, Err}
 use Rattle.std.specs.Global.{Vec}
 use Rattle.edi_timeline.specs.Told.{meant}
 use Rattle.edi_explore.specs.declared.ends.Found as code_found
@@ -26,6 +26,6 @@ HasTakenSome old new = (taken : List ℕ) × HasTaken taken old new
 -- from the bytes that were left of an input before it was read to those left after
 abbrev pub Reads : Result (Vec ℕ) InputFault → List ℕ → List ℕ → Type 0
 Reads (Ok bytes) old new = (old ≡ bytes.items) × (new ≡ []) × (length old ≤ most_input)
-Reads (Err fault.TooLong) old new = (most_input < length old) × HasTakenSome old new
+Reads (Err fault.TooLong) old new = (most_input < length old) × (new ≡ drop (suc most_input) old)
 Reads (Err fault.Failed) old new = HasTakenSome old new
 Reads (Err fault.NoMemory) old new = HasTakenSome old new

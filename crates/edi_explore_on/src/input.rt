@@ -1,6 +1,6 @@
 //! The input of a program that is explored.
 
-ghost use Rattle.std.specs.Prelude.{◌≡◌, ◌≤◌, Err};
+ghost use Rattle.std.specs.Prelude.{◌≡◌, ◌≤◌, length, Err, IfOk};
 ghost use Rattle.edi_told.specs.Faults.{CountRose};
 ghost use Rattle.edi_told.specs.Told.{WhereTold};
 ghost use Rattle.edi_unit.specs.View.{unit_of};
@@ -33,8 +33,10 @@ pub fn names_accept(unit: &Unit) -> bool
     unit.calls.items().contains(&call_number::ACCEPT)
 }
 
-/// All the bytes that are left of a source, at most `MOST_INPUT`. After a fault some of them may have been taken, and they are lost.
+/// All the bytes that are left of a source, at most `MOST_INPUT`. Of more than that one more is taken. After a failure and where there was no memory
+/// some of them may have been taken, and they are lost.
 pub fn read_input<S: Source>(alloc: Global, source: &mut S) -> Result<Vec<u8>, InputFault>
+    ensures few { IfOk result (λ bytes. length bytes.items ≤ spec.most_input) }
     ensures reads { WhereTold (S.left source.old) (S.left source.new) (Reads result) }
     ensures later { S.faults source.old ≤ S.faults source.new }
     ensures cause { result ≡ Err InputFault.Failed → CountRose (S.faults source.old) (S.faults source.new) }

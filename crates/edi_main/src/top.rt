@@ -19,7 +19,7 @@ use edi_commands::code::list;
 use edi_commands::disk::{get, new_disk, new_disk_from, put};
 use edi_commands::run::Form::{Code, Text};
 use edi_commands::run::{demonstrate, run_file, walk_file, watch_file};
-use edi_commands::text::{check, compile_file, explain_file};
+use edi_commands::text::{check, compile_file, explain_file, explore_file};
 use edi_host::{Drive, Files, Sink, Source};
 use edi_kernel::Kernel;
 use edi_statuses::{Ended, Status, show_status};
@@ -149,6 +149,9 @@ fn perform<F: Files, D: Drive, S: Source, T: Sink, P: Sink>(
         } => watch_file(
             alloc, file, stops, out, options, files, drive, input, terminal, printer, kernel,
         ),
+        Command::Explore { file, options } => {
+            explore_file(alloc, file, options, files, input, terminal, kernel)
+        }
     }
 }
 

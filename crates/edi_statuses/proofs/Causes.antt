@@ -43,3 +43,7 @@ cause_later status.DiskFull files drive input printer terminal later had grows h
 cause_later status.FileLarge files drive input printer terminal later had grows h = h
 cause_later status.Standstill files drive input printer terminal later had grows h = h
 cause_later (status.BadPoints line) files drive input printer terminal later had grows h = h
+cause_later (status.Found others) files drive input printer terminal later had grows h = h
+cause_later status.NotAll files drive input printer terminal later had grows h = h
+cause_later status.InputLimit files drive input printer terminal later had grows h = h
+cause_later status.NoEnding files drive input printer terminal later had grows h = h

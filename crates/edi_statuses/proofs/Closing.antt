@@ -58,6 +58,10 @@ ends_plain status.DiskFull c before after had has shown kernel some h = (shown, 
 ends_plain status.FileLarge c before after had has shown kernel some h = (shown, h, refl)
 ends_plain status.Standstill c before after had has shown kernel some h = (shown, h, refl)
 ends_plain (status.BadPoints line) c before after had has shown kernel some h = (shown, h, refl)
+ends_plain (status.Found others) c before after had has shown kernel some h = (shown, h, refl)
+ends_plain status.NotAll c before after had has shown kernel some h = (shown, h, refl)
+ends_plain status.InputLimit c before after had has shown kernel some h = (shown, h, refl)
+ends_plain status.NoEnding c before after had has shown kernel some h = (shown, h, refl)
 
 no_text : (text : List ℕ) → Some text ≡ None → ⊥
 no_text text e = cc
@@ -86,6 +90,10 @@ ends_silent status.DiskFull c before after had has shown kernel none h = absurd 
 ends_silent status.FileLarge c before after had has shown kernel none h = absurd (no_text _ none)
 ends_silent status.Standstill c before after had has shown kernel none h = absurd (no_text _ none)
 ends_silent (status.BadPoints line) c before after had has shown kernel none h = absurd (no_text _ none)
+ends_silent (status.Found others) c before after had has shown kernel none h = absurd (no_text _ none)
+ends_silent status.NotAll c before after had has shown kernel none h = absurd (no_text _ none)
+ends_silent status.InputLimit c before after had has shown kernel none h = absurd (no_text _ none)
+ends_silent status.NoEnding c before after had has shown kernel none h = absurd (no_text _ none)
 
 pub is_some : {A : Type 0} (x : Option A) → (x ≡ None) ⊎ IsSome x
 is_some None = inl refl

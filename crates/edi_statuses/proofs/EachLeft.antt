@@ -109,6 +109,18 @@ module _ {F D S T P K : Type 0} (before after : Handed F D S T P K) where
     kernel = λ none. (stay (first (asked (uses_kernel c) (stops_first c s) kernel none))).kernel;
   }
 
+  -- so of one that sees the input and the kernel alone
+  pub untouched_but_input : (c : Command) (s : Status) → uses_input c ≡ true → uses_kernel c ≡ true → (stops_first c s ≡ true → is_before_drive s ≡ true)
+      → (uses_files c ≡ false → after.files ≡ before.files) → after.drive ≡ before.drive → after.printer ≡ before.printer
+      → (is_before_drive s ≡ true → (after.input ≡ before.input) × (after.kernel ≡ before.kernel)) → UnusedStay (Some c) s before after
+  untouched_but_input c s input kernel first files drive printer stay = record {
+    files = files;
+    drive = λ none. drive;
+    input = λ none. (stay (first (asked (uses_input c) (stops_first c s) input none))).0;
+    printer = λ none. printer;
+    kernel = λ none. (stay (first (asked (uses_kernel c) (stops_first c s) kernel none))).1;
+  }
+
   -- so of one that sees none of them, but the drive
   pub untouched_drive : (c : Command) (s : Status) → uses_drive c ≡ true → (uses_files c ≡ false → after.files ≡ before.files)
       → (stops_first c s ≡ true → after.drive ≡ before.drive) → after.input ≡ before.input → after.printer ≡ before.printer

@@ -5,7 +5,7 @@ use Rattle.edi_calls.specs.Choice.{Choices}
 use Rattle.edi_utils.specs.Demo.{demo_text}
 use Rattle.edi_utils.specs.Listing.{listing_of}
 use Rattle.edi_words.specs.Words as words
-use Rattle.edi_words.specs.Words.{Command, Options}
+use Rattle.edi_words.specs.Words.{Command, ExploreOptions, Options}
 use Rattle.edi_statuses.specs.declared.status.Status.{Status}
 use Rattle.edi_statuses.specs.declared.status.Status.TheVariants as status
 use Rattle.edi_statuses.specs.Outside.{Outside, seen, Lent}
@@ -24,6 +24,8 @@ use Rattle.edi_statuses.proofs.Terminal.{record_later, does_later, list_later, s
 use Rattle.edi_statuses.proofs.Demonstrated.{demonstrates_later, own_unkept, own_whole, broke_demo_later}
 use Rattle.edi_statuses.proofs.Watched.{watches_later, watched_wants, watched_lost, watched_broke}
 use Rattle.edi_statuses.proofs.Walked.{walks_later, walked_wants, walked_broke}
+use Rattle.edi_statuses.proofs.Explored.{explored_cut, explored_lost, explored_took, explored_wants, explores_later}
+use Rattle.edi_statuses.specs.Explored.{ExploresText}
 use Rattle.edi_statuses.specs.Walked.{Walks}
 use Rattle.edi_statuses.proofs.Terminal.{boot_later, holds_later, ended_later, broke_session_later}
 
@@ -274,6 +276,17 @@ module _ (b m : Outside) (y : Option (List ℕ)) (still : StillTold m.shown y) w
         (h.0, fetches_later b m y still file (goes h.0) h.1, (h.2.0, h.2.1, h.2.2, front_later b m y still h.2.1 shown kernel h.2.3));
   }
 
+  explore_is : (file : List ℕ) (o : ExploreOptions) (shown : List ℕ) (kernel : Lent) → Later (words.explore file o) shown kernel
+  explore_is file o shown kernel = record {
+    comes = λ s. does_later b m y still (TextSteps before_ file) (TextSteps seen_later file) (λ a. ExploresText a.0 a.1 o) (λ a. ExploresText a.0 a.1 o)
+        s shown kernel (text_later b m y still file) (λ a. explores_later b m y still a.0 a.1 o s shown kernel);
+    wants = explored_wants b m y still file o shown kernel;
+    files = explored_lost b m y still file o shown;
+    drive = λ h. absurd h;
+    input = explored_took b m y still file shown kernel;
+    output = explored_cut b m y still file o shown;
+  }
+
   each_is : (c : Command) (shown : List ℕ) (kernel : Lent) → Later c shown kernel
   each_is (words.run file options) shown kernel = run_is file options shown kernel
   each_is (words.replay file choices turns) shown kernel = replay_is file choices turns shown kernel
@@ -289,6 +302,7 @@ module _ (b m : Outside) (y : Option (List ℕ)) (still : StillTold m.shown y) w
   each_is (words.explain file) shown kernel = explain_is file shown kernel
   each_is (words.walk file choices turns) shown kernel = walk_is file choices turns shown kernel
   each_is (words.watch file points_file out options) shown kernel = watch_is file points_file out options shown kernel
+  each_is (words.explore file options) shown kernel = explore_is file options shown kernel
 
   -- ---- the statuses
 
@@ -329,6 +343,10 @@ module _ (b m : Outside) (y : Option (List ℕ)) (still : StillTold m.shown y) w
   means_later status.FileLarge c shown kernel h = (each_is c shown kernel).comes status.FileLarge h
   means_later status.Standstill c shown kernel h = (each_is c shown kernel).comes status.Standstill h
   means_later (status.BadPoints line) c shown kernel h = (each_is c shown kernel).comes (status.BadPoints line) h
+  means_later (status.Found others) c shown kernel h = (each_is c shown kernel).comes (status.Found others) h
+  means_later status.NotAll c shown kernel h = (each_is c shown kernel).comes status.NotAll h
+  means_later status.InputLimit c shown kernel h = (each_is c shown kernel).comes status.InputLimit h
+  means_later status.NoEnding c shown kernel h = (each_is c shown kernel).comes status.NoEnding h
 
   refused_later : (s : Status) (shown : List ℕ) (kernel : Lent) → MeansRefused s b m shown kernel → MeansRefused s b later_ shown kernel
   refused_later status.Words shown kernel h = record {
@@ -359,6 +377,10 @@ module _ (b m : Outside) (y : Option (List ℕ)) (still : StillTold m.shown y) w
   refused_later status.FileLarge shown kernel h = absurd h
   refused_later status.Standstill shown kernel h = absurd h
   refused_later (status.BadPoints line) shown kernel h = absurd h
+  refused_later (status.Found others) shown kernel h = absurd h
+  refused_later status.NotAll shown kernel h = absurd h
+  refused_later status.InputLimit shown kernel h = absurd h
+  refused_later status.NoEnding shown kernel h = absurd h
 
   -- WHAT A STATUS MEANS, behind its line
   pub later : (s : Status) (c : Option Command) (shown : List ℕ) (kernel : Lent) → Means s c b m shown kernel → Means s c b (with_shown y m) shown kernel

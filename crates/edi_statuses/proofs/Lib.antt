@@ -3,6 +3,7 @@ pub mod Due
 pub mod Fronts
 pub mod StepLemmas
 pub mod OneStatus
+pub mod AcceptedTexts
 pub mod Terminal
 pub mod Later
 pub mod Closing
@@ -12,3 +13,4 @@ pub mod Causes
 pub mod Demonstrated
 pub mod Watched
 pub mod Walked
+pub mod Explored

@@ -1,5 +1,5 @@
 -- Contents that are told decide the status of a command and what it shows before the line of the status.
-use Rattle.std.proofs.Common.{◌≡◌, ◌∙◌, ℕ, List, [], ◌∷◌, ◌++◌, Option, Some, None, IsSome, true≢false, false, refl, sym, ap, subst, inl, inr, rules}
+use Rattle.std.proofs.Common.{◌≡◌, ◌∙◌, ◌≤◌, ℕ, List, [], ◌∷◌, ◌++◌, length, Option, Some, None, IsSome, true≢false, false, true, refl, sym, ap, subst, inl, inr, arith, rules}
 use Rattle.std.proofs.lemmas.List.{append_cancel_left}
 use Rattle.edi_told.specs.Told.{WhereTold}
 use Rattle.edi_calls.specs.Choice.{Choices}
@@ -16,8 +16,14 @@ use Rattle.edi_explain.specs.told.Explained.{IsExplained}
 use Rattle.edi_explain.proofs.told.One.{one_explanation}
 use Rattle.edi_utils.specs.Demo.{demo_text}
 use Rattle.edi_utils.specs.Listing.{listing_of}
+use Rattle.edi_session.specs.declared.end.SessionEnd.{SessionEnd}
+use Rattle.edi_session.specs.declared.end.SessionEnd.TheVariants as end
+use Rattle.edi_explore_on.specs.declared.summary.Summary.{Summary}
+use Rattle.edi_explore_on.specs.declared.summary.Summary.TheVariants as summary
+use Rattle.edi_explore_on.specs.Input.{most_input, names_accept}
+use Rattle.edi_explore_on.specs.Lines.{summary_of}
 use Rattle.edi_words.specs.Words as words
-use Rattle.edi_words.specs.Words.{ChoicesFrom, Command}
+use Rattle.edi_words.specs.Words.{ChoicesFrom, Command, ExploreOptions, Options}
 use Rattle.edi_statuses.specs.declared.status.Status.{Status}
 use Rattle.edi_statuses.specs.declared.status.Status.TheVariants as status
 use Rattle.edi_statuses.specs.Outside.{Outside, Devices, devices_of, system_on, KernelLeft, Lent}
@@ -27,10 +33,12 @@ use Rattle.edi_statuses.specs.Commands.{RunSteps, ExecSteps, WatchSteps, Watches
 use Rattle.edi_statuses.specs.Commands.{Demonstrates, Explains, IsShownOf, size_shown, with_own}
 use Rattle.edi_statuses.specs.Steps.{goes, ◌>>=◌, Accepts, Fetches, Ready}
 use Rattle.edi_statuses.specs.Walked.{Walks}
-use Rattle.edi_statuses.specs.Decided.{IsTold, OneStatus, is_session}
+use Rattle.edi_statuses.specs.Sessions.{BootSteps, HoldsSession, session_status}
+use Rattle.edi_statuses.specs.Explored.{ExploresText, IsTooLong, TakesAll, status_of_summary}
+use Rattle.edi_statuses.specs.Decided.{IsTold, OneRefusal, OneStatus, is_decided, is_refusal}
 use Rattle.edi_statuses.proofs.Walked.{walked_same}
 use Rattle.edi_statuses.proofs.StepLemmas.{IsOne, TextsAreOne, ready_one, then_one, tests_one, fetches_one, choices_one, accepts_one, mounts_one}
-use Rattle.edi_statuses.proofs.StepLemmas.{loads_one, old_one, finds_one, has_place_one, reads_one, IsOneEffect, does_one}
+use Rattle.edi_statuses.proofs.StepLemmas.{loads_one, old_one, finds_one, has_place_one, reads_one, IsOneEffect, does_one, does_refused}
 
 -- ---- executions
 
@@ -103,6 +111,14 @@ runs_same before after behind is_told after_told behind_told program bound choic
 own_told : (blocks : List (List ℕ)) (input : List ℕ) (o : Outside) → IsTold o → IsTold (with_own blocks input o)
 own_told blocks input o told =
     record { files = told.files; blocks = search rules; input = search rules; shown = told.shown; printed = told.printed }
+
+-- an input is not too long for one call, and taken by the other
+clash : (b a c : Option (List ℕ)) (input : List ℕ) → IsSome a → IsSome c → length input ≤ most_input → WhereTold b a IsTooLong
+    → WhereTold b c (λ old new. (old ≡ input) × (new ≡ [])) → ⊥
+clash b None c input told also_told few long all = absurd (cc)
+clash None (Some a) c input told also_told few long all = absurd long
+clash (Some b) (Some a) None input told also_told few long all = absurd (cc)
+clash (Some b) (Some a) (Some c) input told also_told few long all = omega (arith, few, long.0, ap length all.0)
 
 module _ (each : TextsAreOne) (before after behind : Outside) (is_told : IsTold before) (after_told : IsTold after) (behind_told : IsTold behind) where
   runs_one : (program : Runnable) (bound : ℕ) (choices : Choices) (record_file : Option (List ℕ))
@@ -219,39 +235,96 @@ module _ (each : TextsAreOne) (before after behind : Outside) (is_told : IsTold 
   demo_steps from = choices_one before is_told.files from
 
   -- each command has one status and shows one thing
-  comes_one : (c : Command) → is_session c ≡ false → IsOneEffect before after behind (Comes c)
-  comes_one (words.run file o) no_session = does_one before after behind (RunSteps before file o.choices)
+  comes_one : (c : Command) → is_decided c ≡ true → IsOneEffect before after behind (Comes c)
+  comes_one (words.run file o) decided = does_one before after behind (RunSteps before file o.choices)
       (λ a. Runs (text a.0) o.turns a.1 o.record_file) (text_steps file o.choices) (λ a went. runs_one (text a.0) o.turns a.1 o.record_file)
-  comes_one (words.replay file choices turns) no_session = does_one before after behind (RunSteps before file (words.file choices))
+  comes_one (words.replay file choices turns) decided = does_one before after behind (RunSteps before file (words.file choices))
       (λ a. Runs (text a.0) turns a.1 None) (text_steps file (words.file choices)) (λ a went. runs_one (text a.0) turns a.1 None)
-  comes_one (words.exec file o) no_session = does_one before after behind (ExecSteps before file o.choices)
+  comes_one (words.exec file o) decided = does_one before after behind (ExecSteps before file o.choices)
       (λ a. Runs (code a.0) o.turns a.1 o.record_file) (code_steps file o.choices) (λ a went. runs_one (code a.0) o.turns a.1 o.record_file)
-  comes_one (words.compile file out) no_session = does_one before after behind (TextSteps before file)
+  comes_one (words.compile file out) decided = does_one before after behind (TextSteps before file)
       (λ a. IsDone (KeepsCode out a.0)) (compile_steps file) (λ a went. code_one out a.0)
-  comes_one (words.newdisk blocks None) no_session = does_one before after behind (Ready blocks)
+  comes_one (words.newdisk blocks None) decided = does_one before after behind (Ready blocks)
       (λ n. IsDone (OnlyBlocks (AreNew n))) (ready_one blocks) (λ n went. blocks_one (AreNew n))
-  comes_one (words.newdisk blocks (Some file)) no_session = does_one before after behind (OldSteps before blocks file)
+  comes_one (words.newdisk blocks (Some file)) decided = does_one before after behind (OldSteps before blocks file)
       (λ old. IsDone (OnlyBlocks (AreMigrated blocks old))) (old_steps blocks file) (λ old went. blocks_one (AreMigrated blocks old))
-  comes_one (words.put file title) no_session = does_one before after behind (PutSteps before file title)
+  comes_one (words.put file title) decided = does_one before after behind (PutSteps before file title)
       (λ bytes. IsDone (OnlyBlocks (ArePut title bytes))) (put_steps file title) (λ bytes went. blocks_one (ArePut title bytes))
-  comes_one (words.get title file) no_session = does_one before after behind (GetSteps before title)
+  comes_one (words.get title file) decided = does_one before after behind (GetSteps before title)
       (λ bytes. IsDone (OnlyKeeps ((file, bytes) ∷ []))) (get_steps title) (λ bytes went. keeps_one ((file, bytes) ∷ []))
-  comes_one (words.list file) no_session = does_one before after behind (ListSteps before file)
+  comes_one (words.list file) decided = does_one before after behind (ListSteps before file)
       (λ parts. IsDone (OnlyShows (listing_of parts.words))) (list_steps file) (λ parts went. shows_one (listing_of parts.words))
-  comes_one (words.demo n o) no_session = does_one before after behind (DemoSteps before o.choices)
+  comes_one (words.demo n o) decided = does_one before after behind (DemoSteps before o.choices)
       (λ choices. Demonstrates n o.turns choices o.record_file) (demo_steps o.choices) (λ choices went. demo_one n o.turns choices o.record_file)
-  comes_one (words.check file) no_session = does_one before after behind (TextSteps before file)
+  comes_one (words.check file) decided = does_one before after behind (TextSteps before file)
       (λ a. IsDone (ShowsReport a.1)) (compile_steps file) (λ a went. report_one a.1 (unit_fits file a went))
-  comes_one (words.explain file) no_session = does_one before after behind (Fetches before file) Explains
+  comes_one (words.explain file) decided = does_one before after behind (Fetches before file) Explains
       (fetches_one before is_told.files file) (λ bytes went. explains_one bytes)
-  comes_one (words.boot o) no_session = absurd (true≢false no_session)
-  comes_one (words.walk file choices turns) no_session = does_one before after behind (RunSteps before file (words.file choices))
+  comes_one (words.boot o) decided = absurd (true≢false (sym decided))
+  comes_one (words.explore file o) decided = absurd (true≢false (sym decided))
+  comes_one (words.walk file choices turns) decided = does_one before after behind (RunSteps before file (words.file choices))
       (λ a. Walks a.0 turns a.1) (text_steps file (words.file choices)) (λ a went. walks_one a.0 turns a.1)
-  comes_one (words.watch file points_file out o) no_session = does_one before after behind (WatchSteps before file points_file o.choices)
+  comes_one (words.watch file points_file out o) decided = does_one before after behind (WatchSteps before file points_file o.choices)
       (λ a. Watches a.0 a.2 o.turns a.1 out o.record_file) (watch_steps file points_file o.choices)
       (λ a went. watches_one a.0 a.2 o.turns a.1 out o.record_file)
 
--- THE LAW
+  -- ---- refusals
+
+  boot_steps : (from : ChoicesFrom) → IsOne (BootSteps before from)
+  boot_steps from =
+      then_one _ _ (choices_one before is_told.files from) (λ choices. then_one _ _ (mounts_one before is_told.blocks) (λ done. ready_one _))
+
+  ends_well : (how : SessionEnd) → is_refusal (session_status how) ≡ false
+  ends_well end.Halted = refl
+  ends_well end.InputEnd = refl
+  ends_well end.Limit = refl
+  ends_well end.DriveFault = refl
+  ends_well end.InputFault = refl
+  ends_well end.TerminalFault = refl
+  ends_well end.PrinterFault = refl
+
+  tells : (what : Summary) → is_refusal (status_of_summary what) ≡ false
+  tells summary.Fine = refl
+  tells summary.Endless = refl
+  tells summary.NotAll = refl
+  tells (summary.Found n) = refl
+
+  no_session_refused : (o : Options) (choices : Choices) (s t : Status) (shown bytes : List ℕ) (kernel other : Lent) → is_refusal s ≡ true
+      → HoldsSession o.turns choices o.record_file s before after shown → HoldsSession o.turns choices o.record_file t before behind bytes
+      → (s ≡ t) × (shown ≡ bytes)
+  no_session_refused o choices s t shown bytes kernel other refusal h k =
+      absurd (true≢false (sym refusal ∙ ap is_refusal h.status_is ∙ ends_well h.how))
+
+  -- an input that is too long is no input of an exploration
+  takes_no_more : (unit : ProgramUnit) (input : List ℕ) → names_accept unit ≡ true → WhereTold before.input after.input IsTooLong
+      → TakesAll (names_accept unit) input before behind → ⊥
+  takes_no_more unit input asks long takes =
+      let all : TakesAll true input before behind = subst (λ x. TakesAll x input before behind) asks takes in
+      clash before.input after.input behind.input input after_told.input behind_told.input all.0 long all.1
+
+  explores_refused : (o : ExploreOptions) (a : List ℕ × ProgramUnit) (s t : Status) (shown bytes : List ℕ) (kernel other : Lent) → is_refusal s ≡ true
+      → ExploresText a.0 a.1 o s before after shown kernel → ExploresText a.0 a.1 o t before behind bytes other → (s ≡ t) × (shown ≡ bytes)
+  explores_refused o a s t shown bytes kernel other refusal (inl h) k =
+      absurd (true≢false (sym refusal ∙ ap is_refusal h.status_is ∙ tells (summary_of h.findings)))
+  explores_refused o a s t shown bytes kernel other refusal (inr h) (inl k) =
+      absurd (takes_no_more a.1 k.explored.input h.1.0 h.1.1.input k.explored.takes)
+  explores_refused o a s t shown bytes kernel other refusal (inr h) (inr k) = (h.0 ∙ sym k.0, h.1.1.shown_ ∙ sym k.1.1.shown_)
+
+  -- a command that is refused is refused again
+  refuses_one : (c : Command) (s t : Status) (shown bytes : List ℕ) (kernel other : Lent) → is_refusal s ≡ true
+      → Comes c s before after shown kernel → Comes c t before behind bytes other → (s ≡ t) × (shown ≡ bytes)
+  refuses_one (words.boot o) = does_refused before after behind (BootSteps before o.choices)
+      (λ choices s b a shown k. HoldsSession o.turns choices o.record_file s b a shown) (boot_steps o.choices)
+      (no_session_refused o)
+  refuses_one (words.explore file o) = does_refused before after behind (TextSteps before file) (λ a. ExploresText a.0 a.1 o) (compile_steps file)
+      (explores_refused o)
+  refuses_one c = λ s t shown bytes kernel other refusal h k. comes_one c refl s t shown bytes kernel other h k
+
+-- THE LAWS
+pub one_refusal : TextsAreOne → OneRefusal
+one_refusal each s t c before after behind shown bytes kernel other refusal is_told after_told behind_told h k =
+    refuses_one each before after behind is_told after_told behind_told c s t shown bytes kernel other refusal h k
+
 pub one_status : TextsAreOne → OneStatus
-one_status each s t c before after behind shown bytes kernel other no_session is_told after_told behind_told decisive decisive' h k =
-    comes_one each before after behind is_told after_told behind_told c no_session s t shown bytes kernel other h k
+one_status each s t c before after behind shown bytes kernel other decided is_told after_told behind_told decisive decisive' h k =
+    comes_one each before after behind is_told after_told behind_told c decided s t shown bytes kernel other h k

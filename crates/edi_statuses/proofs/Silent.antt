@@ -69,6 +69,7 @@ wants_any (Some (words.check file)) o kernel = nothing_seen o kernel
 wants_any (Some (words.explain file)) o kernel = nothing_seen o kernel
 wants_any (Some (words.walk file choices turns)) o kernel = inl (nothing_seen o kernel)
 wants_any (Some (words.watch file points_file out options)) o kernel = inl (nothing_seen o kernel)
+wants_any (Some (words.explore file options)) o kernel = inl (nothing_seen o kernel)
 
 pub wants : (s : Status) (due : Bool) (c : Option Command) (o : Outside) (kernel : KernelLeft) → s ≡ status.NoMemory → due ≡ false
     → Came s due c o o (idle kernel)
@@ -120,3 +121,7 @@ file_cause status.DiskFull before after kind rose = tt
 file_cause status.FileLarge before after kind rose = tt
 file_cause status.Standstill before after kind rose = tt
 file_cause (status.BadPoints line) before after kind rose = tt
+file_cause (status.Found others) before after kind rose = tt
+file_cause status.NotAll before after kind rose = tt
+file_cause status.InputLimit before after kind rose = tt
+file_cause status.NoEnding before after kind rose = tt

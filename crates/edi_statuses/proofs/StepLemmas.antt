@@ -1,6 +1,6 @@
 -- Each step comes to one thing, where the contents that it looks at are told; so does a chain of such steps, and a command that
 -- is made of it.
-use Rattle.std.proofs.Common.{◌≡◌, ◌∙◌, ℕ, Bool, true≢false, List, Option, Some, None, IsSome, IfSome}
+use Rattle.std.proofs.Common.{◌≡◌, ◌∙◌, ℕ, Bool, true≢false, true, List, Option, Some, None, IsSome, IfSome}
 use Rattle.std.proofs.Common.{unwrap_or, option_map, refl, sym, ap, subst, inl, inr, Result, Ok, Err}
 use Rattle.std.specs.Prelude.{⊤}
 use Rattle.edi_image.specs.migrate.OldImage.{old_fault_of}
@@ -23,6 +23,7 @@ use Rattle.edi_statuses.specs.Outside.{Outside, Lent}
 use Rattle.edi_statuses.specs.Steps.{AfterStep, goes, stops, ◌>>=◌, Ready, Fetches, GivesChoices, ReadsChoices, Accepts, Mounts}
 use Rattle.edi_statuses.specs.Steps.{Loads, ChecksOld, FindsPoints, GivesPoints, Tests}
 use Rattle.edi_statuses.specs.Commands.{CommandEffect, Does, HasPlace, ReadsTitle}
+use Rattle.edi_statuses.specs.Decided.{is_refusal}
 
 abbrev pub IsOne : {A : Type 0} → (AfterStep A → Type 0) → Type 0
 IsOne {A = A} step = (r q : AfterStep A) → step r → step q → r ≡ q
@@ -206,3 +207,19 @@ module _ (before after behind : Outside) where
   does_one steps effect one ones s t shown bytes kernel other (inr h) (inr k) =
       let same = ap (λ x. value_or h.0 x) (one (goes h.0) (goes k.0) h.1 k.1) in
       ones k.0 k.1 s t shown bytes kernel other (subst (λ a. effect a s before after shown kernel) same h.2) k.2
+
+  -- of a refusal, which the effect gives once as well
+  pub does_refused : {A : Type 0} (steps : AfterStep A → Type 0) (effect : A → CommandEffect) → IsOne steps
+      → ((a : A) (s t : Status) (shown bytes : List ℕ) (kernel other : Lent) → is_refusal s ≡ true → effect a s before after shown kernel
+      → effect a t before behind bytes other → (s ≡ t) × (shown ≡ bytes))
+      → (s t : Status) (shown bytes : List ℕ) (kernel other : Lent) → is_refusal s ≡ true
+      → Does steps effect s before after shown kernel → Does steps effect t before behind bytes other → (s ≡ t) × (shown ≡ bytes)
+  does_refused steps effect one ones s t shown bytes kernel other refusal (inl h) (inl k) =
+      (ap (λ r. status_or s r) (one (stops s) (stops t) h.0 k.0), h.1.shown_ ∙ sym k.1.shown_)
+  does_refused steps effect one ones s t shown bytes kernel other refusal (inl h) (inr k) =
+      absurd (not_both k.0 s (one (goes k.0) (stops s) k.1 h.0))
+  does_refused steps effect one ones s t shown bytes kernel other refusal (inr h) (inl k) =
+      absurd (not_both h.0 t (one (goes h.0) (stops t) h.1 k.0))
+  does_refused steps effect one ones s t shown bytes kernel other refusal (inr h) (inr k) =
+      let same = ap (λ x. value_or h.0 x) (one (goes h.0) (goes k.0) h.1 k.1) in
+      ones k.0 s t shown bytes kernel other refusal (subst (λ a. effect a s before after shown kernel) same h.2) k.2

@@ -40,6 +40,7 @@ use Rattle.edi_statuses.specs.Steps.{FitsDisk, FindsPoints, HasRoom}
 use Rattle.edi_statuses.specs.Executions.{Runnable, text, code, status_of, Ran, record_of}
 use Rattle.edi_statuses.specs.Sessions.{BootSteps, HoldsSession}
 use Rattle.edi_statuses.specs.Walked.{Walks}
+use Rattle.edi_statuses.specs.Explored.{ExploresText}
 
 -- ---- the steps of each command
 
@@ -65,7 +66,7 @@ PointSteps o file points_file from =
 abbrev pub WatchSteps : Outside → (file points_file : List ℕ) → ChoicesFrom → AfterStep (List ℕ × Choices × List Watched) → Type 0
 WatchSteps o file points_file from = PointSteps o file points_file from >>= λ a. Mounts o >>= λ done. Ready a
 
--- `compile FILE OUT` and `check FILE`: fetches the text, reads it. `explain FILE` only fetches it, since it has an effect on every text.
+-- `compile FILE OUT`, `check FILE` and `explore FILE`: fetches the text, reads it. `explain FILE` only fetches it, since it has an effect on every text.
 abbrev pub TextSteps : Outside → (file : List ℕ) → AfterStep (List ℕ × ProgramUnit) → Type 0
 TextSteps o file = Fetches o file >>= λ bytes. Accepts bytes >>= λ unit. Ready (bytes, unit)
 
@@ -295,3 +296,5 @@ Comes (words.walk file choices turns) s before after shown kernel =
     Does (RunSteps before file (words.file choices)) (λ a. Walks a.0 turns a.1) s before after shown kernel
 Comes (words.watch file points_file out o) s before after shown kernel =
     Does (WatchSteps before file points_file o.choices) (λ a. Watches a.0 a.2 o.turns a.1 out o.record_file) s before after shown kernel
+Comes (words.explore file o) s before after shown kernel =
+    Does (TextSteps before file) (λ a. ExploresText a.0 a.1 o) s before after shown kernel

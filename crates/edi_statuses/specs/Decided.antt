@@ -1,5 +1,5 @@
 -- Words of contracts. What a command comes to before the line of its status, and the laws on what decides a status.
-use Rattle.std.specs.Prelude.{◌≡◌, ℕ, Bool, false, List, Option, None, IsSome, ⊤}
+use Rattle.std.specs.Prelude.{◌≡◌, ℕ, Bool, true, List, Option, None, IsSome, ⊤}
 use Rattle.edi_told.specs.Faults.{CountRose}
 use Rattle.edi_words.specs.Words.{Command}
 use Rattle.edi_statuses.specs.declared.status.Status.{Status}
@@ -8,7 +8,7 @@ use Rattle.edi_statuses.specs.Lines.{closing_line, is_due, text_of}
 use Rattle.edi_statuses.specs.Showing.{ClosesWith}
 use Rattle.edi_statuses.specs.Counts.{Counts, HasCause}
 use Rattle.edi_statuses.specs.Outside.{Outside, Shows, Lent}
-use Rattle.edi_statuses.specs.EachObject.{LeavesEach}
+use Rattle.edi_statuses.specs.EachObject.{LeavesEach, is_before_drive}
 use Rattle.edi_statuses.specs.Commands.{Comes}
 use Rattle.edi_statuses.specs.Facts.{facts_of}
 use Rattle.edi_statuses.specs.Means.{EndsWith, Means}
@@ -57,14 +57,27 @@ pub record IsTold (o : Outside) : Type 0 where
   pub shown : IsSome o.shown
   pub printed : IsSome o.printed
 
--- a session, in which memory may run out at single lines, so that its end is not decided
-abbrev pub is_session : Command → Bool
-is_session c = (facts_of c).session
+-- contents decide how the command ends: how a session or an exploration ends they do not, since there memory may run out at any point
+abbrev pub is_decided : Command → Bool
+is_decided c = (facts_of c).decided
 
--- Contents that are told decide the status and what is shown before its line, but for `boot`. So each status comes exactly where its
+-- Contents that are told decide the status and what is shown before its line, but for `boot` and `explore`. So each status comes exactly where its
 -- cause is there, unless an object fails or memory runs out; and where no refusal has its cause, the command has its effect.
 abbrev pub OneStatus : Type 0
 OneStatus =
     (s t : Status) (c : Command) (before after behind : Outside) (shown bytes : List ℕ) (kernel other : Lent)
-    → is_session c ≡ false → IsTold before → IsTold after → IsTold behind → IsDecisive s → IsDecisive t
+    → is_decided c ≡ true → IsTold before → IsTold after → IsTold behind → IsDecisive s → IsDecisive t
+    → Comes c s before after shown kernel → Comes c t before behind bytes other → (s ≡ t) × (shown ≡ bytes)
+
+-- a refusal: a step stops a command at this status, or its input is too long; no session ends with it, and no text is explored then
+abbrev pub is_refusal : Status → Bool
+is_refusal (status.BadImage broken) = true
+is_refusal status.InputLimit = true
+is_refusal s = is_before_drive s
+
+-- Contents that are told decide a refusal of every command: where one of two calls on the same contents is refused, the other one is refused so.
+abbrev pub OneRefusal : Type 0
+OneRefusal =
+    (s t : Status) (c : Command) (before after behind : Outside) (shown bytes : List ℕ) (kernel other : Lent)
+    → is_refusal s ≡ true → IsTold before → IsTold after → IsTold behind
     → Comes c s before after shown kernel → Comes c t before behind bytes other → (s ≡ t) × (shown ≡ bytes)

@@ -15,6 +15,7 @@ use Rattle.edi_statuses.specs.Broken.{RanWhole, RanUnkept, AtRecord, HasNotBegun
 use Rattle.edi_statuses.specs.Broken.{ShowsFront, ShowsReportFront, ExplainsFront}
 use Rattle.edi_statuses.specs.Broken.{HasBegun, WentOn, RunAsks, ExecAsks, WatchAsks, WatchedLost, WatchedUnkept}
 use Rattle.edi_statuses.specs.Walked.{BrokeWalk}
+use Rattle.edi_statuses.specs.Explored.{ExploredFront, ExploredInPart, ExploredThen, LosesInput, LosesNext, names_of_records}
 
 -- ---- facts
 
@@ -37,8 +38,9 @@ abbrev pub Left : Type 1
 Left = Outside → Outside → (shown : List ℕ) → Lent → Type 0
 
 pub record Facts : Type 1 where
-  -- It holds a session, in which memory may run out at single lines. So contents do not decide how it ends.
-  pub session : Bool
+  -- Contents decide how it ends, unless an object fails or memory runs out. They do not where memory may run out at single lines of a session, or in
+  -- a search that then tells what it has found.
+  pub decided : Bool
   -- It shows nothing but the line of its status.
   pub silent : Bool
   -- It sees the terminal and the printer.
@@ -70,7 +72,7 @@ never before after shown kernel = ⊥
 -- is here, which is the most that can be claimed, but for want of memory, which any command may meet before it has done anything.
 abbrev pub plain : Facts
 plain = record {
-  session = false;
+  decided = true;
   silent = true;
   devices = false;
   kernel = false;
@@ -147,7 +149,7 @@ facts_of (words.boot o) =
     let broken : Left = λ before after shown kernel.
     HasBegun (BootSteps before o.choices) (λ choices. BrokeSession o.turns choices before after shown) in
     record (on_devices (file_of_choices o.choices) o.record_file) {
-      session = true;
+      decided = false;
       asks_drive = λ before. WentOn (ReadsChoices before o.choices);
       no_memory = λ before after shown kernel.
           IsNothing before after shown kernel
@@ -237,3 +239,17 @@ facts_of (words.watch file points_file out o) =
           HasBegun (WatchSteps before file points_file o.choices)
           (λ a. WatchedLost a.0 a.2 o.turns a.1 out o.record_file before after shown kernel);
     }
+facts_of (words.explore file o) = record plain {
+  decided = false;
+  silent = false;
+  kernel = true;
+  input = true;
+  fetches = file_named file;
+  keeps = names_of_records o.record_file;
+  no_memory = λ before after shown kernel.
+      IsNothing before after shown kernel
+      ⊎ HasBegun (TextSteps before file) (λ a. ExploredInPart a.0 a.1 o before after shown kernel);
+  files_failed = λ before after shown kernel. HasBegun (TextSteps before file) (λ a. ExploredThen LosesNext a.0 a.1 o before after shown);
+  input_failed = λ before after shown kernel. HasBegun (TextSteps before file) (λ a. LosesInput a.1 before after shown kernel);
+  output_failed = λ before after shown kernel. HasBegun (TextSteps before file) (λ a. ExploredFront a.0 a.1 o before after shown);
+}

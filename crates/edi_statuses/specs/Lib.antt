@@ -16,3 +16,4 @@ pub mod Decided
 pub mod OnFiles
 pub mod Rows
 pub mod Walked
+pub mod Explored

@@ -52,6 +52,10 @@ text_of status.DiskFull = Some (codes "disk full")
 text_of status.FileLarge = Some (codes "file too large")
 text_of status.Standstill = Some (codes "standstill")
 text_of (status.BadPoints line) = Some (with_number (codes "points line") line)
+text_of (status.Found others) = Some (with_number (codes "found") others)
+text_of status.NotAll = Some (codes "not all")
+text_of status.InputLimit = Some (codes "input limit")
+text_of status.NoEnding = Some (codes "no ending")
 
 -- ---- what is shown for a status
 

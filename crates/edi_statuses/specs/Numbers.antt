@@ -25,3 +25,7 @@ status_number status.DiskFull = 15
 status_number status.FileLarge = 16
 status_number status.Standstill = 17
 status_number (status.BadPoints line) = 18
+status_number (status.Found others) = 19
+status_number status.NotAll = 20
+status_number status.InputLimit = 21
+status_number status.NoEnding = 22

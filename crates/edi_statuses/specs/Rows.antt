@@ -60,11 +60,20 @@ pub a_demonstration_wants_its_choices : (files : Contents) → map.get files (co
 a_demonstration_wants_its_choices files none store used =
     ([], inl (inl (refl, none), nothing_done files [] (codes "absent\n") store used), refl)
 
+pub an_exploration_wants_its_text : (files : Contents) → map.get files (codes "a") ≡ None
+    → EndsSo status.Absent (codes "explore" ∷ codes "a" ∷ codes "--states" ∷ codes "5" ∷ []) files [] (codes "absent\n")
+an_exploration_wants_its_text files none store used =
+    ([], inl (inl (refl, none), nothing_done files [] (codes "absent\n") store used), refl)
+
 pub the_line_of_a_status : closing status.Turns (codes "a") ≡ codes "\nturn limit\n"
 the_line_of_a_status = refl
 
 pub behind_a_line : closing status.Standstill (codes "a\n") ≡ codes "standstill\n"
 behind_a_line = refl
+
+pub the_line_of_findings : closing (status.Found 12) (codes "a\n") ≡ codes "found 12\n"
+unfolding digits
+the_line_of_findings = refl
 
 -- ---- the order of the steps
 

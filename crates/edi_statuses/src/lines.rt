@@ -37,6 +37,19 @@ fn with_number(text: &str, n: u32) -> Line
     line
 }
 
+fn with_count(text: &str, n: usize) -> Line
+    requires { length text.now ≤ 32 }
+    ensures exact { result.bytes ≡ lines.with_number text.now n }
+    ensures short { length result.bytes ≤ 53 }
+{
+    let mut buffer = Buffer::new();
+    let digits = buffer.format(n);
+    let mut line = plain(text);
+    line.push_str(" ");
+    line.push_str(digits);
+    line
+}
+
 fn with_numbers(text: &str, n: u32, m: u32) -> Line
     requires { length text.now ≤ 32 }
     ensures exact { result.bytes ≡ lines.with_number (lines.with_number text.now n) m }
@@ -129,6 +142,10 @@ pub(crate) fn text_of(status: Status) -> Option<Line>
         Status::FileLarge => Some(plain("file too large")),
         Status::Standstill => Some(plain("standstill")),
         Status::BadPoints(line) => Some(with_number("points line", line)),
+        Status::Found(others) => Some(with_count("found", others)),
+        Status::NotAll => Some(plain("not all")),
+        Status::InputLimit => Some(plain("input limit")),
+        Status::NoEnding => Some(plain("no ending")),
     }
 }
 

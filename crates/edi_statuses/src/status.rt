@@ -56,10 +56,18 @@ pub enum Status {
     Standstill,
     /// This line of the file of points, counted from 1, is the first bad one.
     BadPoints(u32),
+    /// The exploration has found so many endings that are not `done`.
+    Found(usize),
+    /// The exploration has found no ending but `done`, and there may be others.
+    NotAll,
+    /// The input of the program that was to be explored is longer than it may be.
+    InputLimit,
+    /// No execution of the program that was explored ends.
+    NoEnding,
 }
 
 impl Status {
-    /// The exit status of the program, 0 to 18.
+    /// The exit status of the program, 0 to 22.
     pub fn number(&self) -> u8
         ensures exact { result ≡ numbers.status_number self.now }
     {
@@ -83,6 +91,10 @@ impl Status {
             Status::FileLarge => 16,
             Status::Standstill => 17,
             Status::BadPoints(_) => 18,
+            Status::Found(_) => 19,
+            Status::NotAll => 20,
+            Status::InputLimit => 21,
+            Status::NoEnding => 22,
         }
     }
 

@@ -29,9 +29,9 @@ abbrev pub bare : App
 bare = on_top (λ s. record s { disable_help_flag = true; no_binary_name = true }) (new_app (codes "edison"))
 
 abbrev pub app : App
-app = with_rule (with_rule (with_rule (with_rule (with_rule (with_rule bare
+app = with_rule (with_rule (with_rule (with_rule (with_rule (with_rule (with_rule bare
     (option_rule (codes "turns"))) (option_rule (codes "choices"))) (option_rule (codes "seed"))) (option_rule (codes "record")))
-    (option_rule (codes "from"))) word_rule
+    (option_rule (codes "from"))) (option_rule (codes "states"))) word_rule
 
 -- ---- the matches
 
@@ -47,6 +47,7 @@ given_in rows = record {
   seeds = values_in rows (codes "seed");
   record_files = values_in rows (codes "record");
   old_disks = values_in rows (codes "from");
+  states = values_in rows (codes "states");
 }
 
 -- the same behind the references of the code
@@ -58,4 +59,5 @@ given_view g = record {
   seeds = texts g.seeds.now;
   record_files = texts g.record_files.now;
   old_disks = texts g.old_disks.now;
+  states = texts g.states.now;
 }

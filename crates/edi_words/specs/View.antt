@@ -7,6 +7,7 @@ use Rattle.edi_words.specs.Words.{Text}
 use Rattle.edi_words.specs.declared.commands.ChoicesFrom.{ChoicesFrom}
 use Rattle.edi_words.specs.declared.commands.ChoicesFrom.TheVariants as source
 use Rattle.edi_words.specs.declared.commands.Options.{Options}
+use Rattle.edi_words.specs.declared.commands.ExploreOptions.{ExploreOptions}
 use Rattle.edi_words.specs.declared.commands.Command.{Command}
 use Rattle.edi_words.specs.declared.commands.Command.TheVariants as command
 
@@ -26,6 +27,9 @@ options_of o = record {
   record_file = option_map (λ name. name.now) o.record_file;
 }
 
+abbrev pub exploring_of : ExploreOptions → words.ExploreOptions
+exploring_of o = record { states = o.states; turns = o.turns; record_file = option_map (λ name. name.now) o.record_file }
+
 abbrev pub view : Command → words.Command
 view (command.Run file options) = words.run file.now (options_of options)
 view (command.Replay file choices turns) = words.replay file.now choices.now turns
@@ -41,6 +45,7 @@ view (command.Check file) = words.check file.now
 view (command.Explain file) = words.explain file.now
 view (command.Walk file choices turns) = words.walk file.now choices.now turns
 view (command.Watch file stops out options) = words.watch file.now stops.now out.now (options_of options)
+view (command.Explore file options) = words.explore file.now (exploring_of options)
 
 -- Titles are titles, and numbers are in their ranges.
 abbrev pub IsInRange : Command → Type 0

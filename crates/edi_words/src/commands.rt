@@ -22,6 +22,17 @@ pub struct Options<'a> {
     pub record_file: Option<&'a str>,
 }
 
+/// How an exploration is to go.
+#[derive(Clone, Copy, PartialEq, Eq)]
+pub struct ExploreOptions<'a> {
+    /// How many states are kept at most, 1 to 100,000,000.
+    pub states: u32,
+    /// The bound on the turns of a stint, 1 to 1,000,000,000.
+    pub turns: u32,
+    /// The name of the files that are to keep the choices of the endings.
+    pub record_file: Option<&'a str>,
+}
+
 /// A command. Its names of files and titles are texts of the words.
 #[derive(Clone, Copy, PartialEq, Eq)]
 pub enum Command<'a> {
@@ -94,5 +105,10 @@ pub enum Command<'a> {
         stops: &'a str,
         out: &'a str,
         options: Options<'a>,
+    },
+    /// `explore FILE`: shows in which ways a text may end, whatever the choices are.
+    Explore {
+        file: &'a str,
+        options: ExploreOptions<'a>,
     },
 }

@@ -2,10 +2,10 @@
 
 ghost use Rattle.std.specs.Prelude.{◌≡◌, ◌≤◌, IfSome, option_map};
 ghost use Rattle.edi_words.specs.Words as words;
-ghost use Rattle.edi_words.specs.View.{choices_from, options_of, texts};
+ghost use Rattle.edi_words.specs.View.{choices_from, exploring_of, options_of, texts};
 ghost use Rattle.edi_words.specs.Inside.{given_view};
 
-use crate::commands::{ChoicesFrom, Options};
+use crate::commands::{ChoicesFrom, ExploreOptions, Options};
 
 /// The operands, and the values of each option, in the order of the words.
 #[derive(Clone, Copy)]
@@ -16,6 +16,7 @@ pub(crate) struct Given<'m, 'a> {
     pub(crate) seeds: &'m [&'a str],
     pub(crate) record_files: &'m [&'a str],
     pub(crate) old_disks: &'m [&'a str],
+    pub(crate) states: &'m [&'a str],
 }
 
 fn are_digits(word: &[u8]) -> bool
@@ -55,6 +56,15 @@ fn turns_by(values: &[&str]) -> Option<u32>
     }
 }
 
+fn states_by(values: &[&str]) -> Option<u32>
+    ensures { result ≡ words.states_by (texts values.now) }
+{
+    match values.first() {
+        Some(value) => number_in(1, 100_000_000, value),
+        None => Some(1_000_000),
+    }
+}
+
 fn first_of<'a>(values: &[&'a str]) -> Option<&'a str>
     ensures { option_map (λ text. text.now) result ≡ words.first_of (texts values.now) }
 {
@@ -82,8 +92,8 @@ fn at_most(most: usize, values: &[&str]) -> bool
 }
 
 impl<'m, 'a> Given<'m, 'a> {
-    /// Whether only these options are given, each at most so many times: `--turns`; `--choices`, `--seed` and `--record`;
-    /// and `--from`.
+    /// Whether of the options but for `--states` only these are given, each at most so many times: `--turns`; `--choices`, `--seed` and
+    /// `--record`; and `--from`.
     pub(crate) fn takes(&self, turns: usize, others: usize, from: usize) -> bool
         ensures { result ≡ words.takes turns others from (given_view self.now) }
     {
@@ -92,6 +102,23 @@ impl<'m, 'a> Given<'m, 'a> {
             && at_most(others, self.seeds)
             && at_most(others, self.record_files)
             && at_most(from, self.old_disks)
+    }
+
+    /// Whether `--states` is not given.
+    pub(crate) fn has_no_states(&self) -> bool
+        ensures { result ≡ words.has_no_states (given_view self.now) }
+    {
+        at_most(0, self.states)
+    }
+
+    /// Whether only `--states`, `--turns` and `--record` are given, each at most once.
+    pub(crate) fn takes_exploring(&self) -> bool
+        ensures { result ≡ words.takes_exploring (given_view self.now) }
+    {
+        at_most(1, self.states)
+            && at_most(0, self.choices)
+            && at_most(0, self.seeds)
+            && self.takes(1, 1, 0)
     }
 
     /// The bound on the turns, a million where none is given.
@@ -118,6 +145,20 @@ impl<'m, 'a> Given<'m, 'a> {
         Some(Options {
             turns,
             choices,
+            record_file,
+        })
+    }
+
+    /// The options of an exploration.
+    pub(crate) fn exploring(&self) -> Option<ExploreOptions<'a>>
+        ensures { option_map exploring_of result ≡ words.exploring_in (given_view self.now) }
+    {
+        let states = states_by(self.states)?;
+        let turns = self.bound()?;
+        let record_file = first_of(self.record_files);
+        Some(ExploreOptions {
+            states,
+            turns,
             record_file,
         })
     }

@@ -3,8 +3,10 @@
 
 mod commands;
 mod given;
+mod operands;
 mod parser;
+mod rows;
 mod table;
 
-pub use commands::{ChoicesFrom, Command, Options};
+pub use commands::{ChoicesFrom, Command, ExploreOptions, Options};
 pub use parser::command;

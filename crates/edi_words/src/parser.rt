@@ -8,7 +8,7 @@ ghost use Rattle.clap.specs.Matches.{found_of};
 ghost use Rattle.edi_words.specs.Words.{command_of, parts_of};
 ghost use Rattle.edi_words.specs.Words as spec;
 ghost use Rattle.edi_words.specs.View.{texts, view, IsInRange};
-ghost use Rattle.edi_words.specs.Inside.{app, given_in, given_view, goes, option_rule, values_in};
+ghost use Rattle.edi_words.specs.Inside.{app, given_in, given_view, goes, option_rule, values_in, word_rule};
 
 use crate::commands::Command;
 use crate::given::Given;
@@ -34,6 +34,7 @@ fn is_option_name(word: &str) -> bool
         || word == "--seed"
         || word == "--record"
         || word == "--from"
+        || word == "--states"
 }
 
 /// Whether the words are operands and options, each with its value.
@@ -63,12 +64,19 @@ fn option_of<'a>(alloc: Global, name: &'a str) -> Arg<'a>
     Arg::new(alloc, name).long(name).action(ArgAction::Append)
 }
 
+/// The operands.
+fn operands_of<'a>(alloc: Global) -> Arg<'a>
+    ensures rule { rule_of result ≡ word_rule }
+    ensures local { result.global ≡ false }
+{
+    Arg::new(alloc, "words").action(ArgAction::Append)
+}
+
 /// The one simple command as which the words are read. How often an option may come, and beside what, depends on the command
 /// and is judged afterwards.
 fn parser<'a>(alloc: Global) -> Result<clap::Command<'a>, AllocError>
     ensures { IfOk result (λ c. app_of c ≡ app) }
 {
-    let words = Arg::new(alloc, "words").action(ArgAction::Append);
     clap::Command::new(alloc, "edison")
         .disable_help_flag(true)
         .no_binary_name(true)
@@ -77,7 +85,8 @@ fn parser<'a>(alloc: Global) -> Result<clap::Command<'a>, AllocError>
         .arg(option_of(alloc, "seed"))?
         .arg(option_of(alloc, "record"))?
         .arg(option_of(alloc, "from"))?
-        .arg(words)
+        .arg(option_of(alloc, "states"))?
+        .arg(operands_of(alloc))
 }
 
 /// The values of an argument, where there are none the empty list `none`.
@@ -99,6 +108,7 @@ fn given<'m, 'a>(matches: &'m ArgMatches<'a>, none: &'m [&'a str]) -> Given<'m, 
         seeds: values(matches, none, "seed"),
         record_files: values(matches, none, "record"),
         old_disks: values(matches, none, "from"),
+        states: values(matches, none, "states"),
     }
 }
 

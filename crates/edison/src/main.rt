@@ -19,7 +19,7 @@ fn words_of(rt: &HostRuntime) -> io::Result<Vec<String>> {
 }
 
 // The commands that never ask the drive.
-const WITHOUT_DRIVE: [&str; 5] = ["compile", "list", "check", "explain", "demo"];
+const WITHOUT_DRIVE: [&str; 6] = ["compile", "list", "check", "explain", "explore", "demo"];
 
 /// The drive, with what holds its file until the call ends. Two calls at once would write over each other's blocks, so who comes
 /// second has a drive of which every call fails. A command that never asks the drive holds nothing.

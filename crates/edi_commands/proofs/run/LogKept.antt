@@ -31,7 +31,7 @@ swapped true false o = refl
 swapped false true o = refl
 swapped false false o = refl
 
-in_either_order : (files : Contents) (a b : List ℕ) → map.remove (map.remove files a) b ≡ map.remove (map.remove files b) a
+pub in_either_order : (files : Contents) (a b : List ℕ) → map.remove (map.remove files a) b ≡ map.remove (map.remove files b) a
 in_either_order files a b =
     map.same_map nat_list_cmp_total (slice_cmp-IsAntisymmetric nat_cmp-IsAntisymmetric) _ _ (λ q.
     map.get-remove nat_list_cmp_total (map.remove files a) b q

@@ -13,6 +13,9 @@ returns-in-End-clause-reads g c =
     read_whole _ _ _ c.loop-count.bytes (omega (arith, c.loop-count.invariant.count, c.loop-count-test.true)) c.loop-count.invariant.told
     c.in-End.ensures.takes
 
+pub returns-in-End-clause-few : goal.returns-in-End-clause-few
+returns-in-End-clause-few g c = omega (arith, c.loop-count.invariant.count, c.loop-count-test.true)
+
 pub returns-in-End-clause-later : goal.returns-in-End-clause-later
 returns-in-End-clause-later g c = omega (arith, c.loop-count.invariant.later, c.next.ensures.later)
 
@@ -29,12 +32,13 @@ pub loop-count-preserved : goal.loop-count-preserved
 loop-count-preserved g c = record {
   told = one_more _ _ _ c.loop-count.bytes.items c.loop-count.invariant.told c.push.new.self.items c.in-Byte.byte (search rules) c.in-Byte.ensures.takes;
   count = search rules;
+  most = omega (arith, c.loop-count-test.true);
   later = omega (arith, c.loop-count.invariant.later, c.next.ensures.later);
 }
 
 pub returns-clause-reads : goal.returns-clause-reads
 returns-clause-reads g c =
-    read_too_long _ _ c.loop-count.bytes.items (omega (arith, c.loop-count.invariant.count, c.loop-count-test.false)) c.loop-count.invariant.told
+    read_too_long _ _ c.loop-count.bytes.items (omega (arith, c.loop-count.invariant.count, c.loop-count.invariant.most, c.loop-count-test.false)) c.loop-count.invariant.told
 
 pub returns-clause-later : goal.returns-clause-later
 returns-clause-later g c = c.loop-count.invariant.later

@@ -7,5 +7,6 @@ abbrev pub invariant-loop-count : goal.invariant-loop-count
 invariant-loop-count g l = record {
   told : WhereTold (g.S.Source.left l.fn.source) (g.S.Source.left l.source) (HasTaken l.bytes.items);
   count : length l.bytes.items ≡ l._count;
+  most : l._count ≤ 65537;
   later : g.S.Source.faults l.fn.source ≤ g.S.Source.faults l.source;
 }

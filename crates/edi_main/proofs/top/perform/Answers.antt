@@ -1,9 +1,9 @@
 use Rattle.std.proofs.Common.{false, option_map, refl, rules, sym, true≢false}
 use Rattle.edi_words.specs.Words as words
-use Rattle.edi_words.specs.View.{options_of}
+use Rattle.edi_words.specs.View.{exploring_of, options_of}
 use Rattle.edi_words.specs.declared.commands.Command.TheVariants as command
 use Rattle.edi_statuses.specs.Outside.{kernel_of}
-use Rattle.edi_statuses.proofs.EachLeft.{same_valid, untouched, untouched_alone, untouched_but_kernel, untouched_drive}
+use Rattle.edi_statuses.proofs.EachLeft.{same_valid, untouched, untouched_alone, untouched_but_input, untouched_but_kernel, untouched_drive}
 use Rattle.edi_statuses.proofs.Silent.{on_files}
 use Rattle.edi_statuses.proofs.Told.{told_so}
 use Rattle.edi_main.proofs.Obeyed.{counts_so, obeyed, obeyed_demo, obeyed_replay, obeyed_so, on_disk, untouched_so}
@@ -211,3 +211,21 @@ pub returns-in-Explain-clause-untouched : goal.returns-in-Explain-clause-untouch
 returns-in-Explain-clause-untouched g c =
     untouched_so c.args.command (command.Explain c.in-Explain.file) c.explain_file.result.status c.explain_file.result.status _ _ c.in-Explain.is refl
     (record { files = λ none. absurd (true≢false none); drive = λ e. refl; input = λ e. refl; printer = λ e. refl; kernel = λ e. refl })
+
+pub returns-in-Explore-clause-came : goal.returns-in-Explore-clause-came
+returns-in-Explore-clause-came g c =
+    obeyed_so c.args.command (command.Explore c.in-Explore.file c.in-Explore.options) c.explore_file.result.status c.explore_file.result.due _ _ _
+    c.in-Explore.is (c.explore_file.ensures.came (g.D.Drive.contents c.args.drive.now) (g.P.Sink.taken c.args.printer.now))
+
+pub returns-in-Explore-clause-cause : goal.returns-in-Explore-clause-cause
+returns-in-Explore-clause-cause g c = c.explore_file.ensures.cause (g.D.Drive.faults c.args.drive.now) (g.P.Sink.faults c.args.printer.now)
+
+pub returns-in-Explore-clause-untouched : goal.returns-in-Explore-clause-untouched
+returns-in-Explore-clause-untouched g c =
+    untouched_so c.args.command (command.Explore c.in-Explore.file c.in-Explore.options) c.explore_file.result.status c.explore_file.result.status
+    _ _ c.in-Explore.is refl
+    (untouched_but_input _ _ (words.explore c.in-Explore.file.now (exploring_of c.in-Explore.options)) c.explore_file.result.status refl refl (λ e. e)
+    (λ none. absurd (true≢false none)) refl refl
+    (λ early.
+    let none = c.explore_file.ensures.early early in
+    (none.0, none.2)))

@@ -1,0 +1,34 @@
+//! What is found of a program, and the lines that tell it.
+
+ghost use Rattle.std.specs.Prelude.{List, ℕ, IfOk};
+ghost use Rattle.edi_unit.specs.Tree.{ProgramUnit};
+ghost use Rattle.edi_commands.specs.text.ExploreCommand.{IsExplorable, IsExplored};
+
+use crate::text::explore::programs::Explorable;
+use edi_explore::{Limits, Report};
+use edi_explore_on::{explore_text, report_text};
+use edi_kernel::Kernel;
+use std::alloc::{AllocError, Global};
+
+/// What was found, and the lines that tell it.
+#[derive(Drop)]
+pub(crate) struct Explored {
+    pub(crate) report: Report,
+    pub(crate) lines: Vec<u8>,
+}
+
+/// What is found of a program with this input. The only error is want of memory.
+pub(crate) fn explore_program(
+    alloc: Global,
+    kernel: &mut Kernel,
+    program: &Explorable,
+    input: &[u8],
+    limits: Limits,
+) -> Result<Explored, AllocError>
+    ensures finds { (text : List ℕ) (unit : ProgramUnit) → IsExplorable text unit program.now →
+        IfOk result (λ e. IsExplored text input.now limits.states e) }
+{
+    let report = explore_text(alloc, kernel, &program.code, input, limits)?;
+    let lines = report_text(alloc, &report)?;
+    Ok(Explored { report, lines })
+}
