@@ -19,6 +19,7 @@ ghost use Rattle.edi_scheme.specs.Awaits.{await_address};
 ghost use Rattle.edi_code.specs.Mapped.{IsMapped};
 ghost use Rattle.edi_debug.specs.stops.Kept.{Kept, after_lines};
 ghost use Rattle.edi_debug.specs.stops.Stops.{each_in};
+ghost use Rattle.edi_debug.specs.stops.Near.{TellsPoints};
 ghost use Rattle.edi_debug.specs.stops.Seen.{IsElementaryVariable, PointsFit, SightFits};
 ghost use Rattle.edi_debug.specs.stops.Watching as spec;
 ghost use Rattle.edi_debug.specs.stops.Underway.{Ended, Going, Watches};
@@ -28,6 +29,7 @@ ghost use Rattle.edi_debug.specs.Looking.{arrived_now, stop_now};
 use crate::answer::{Point, Points};
 use crate::lines::line_of;
 use crate::log::Log;
+use crate::near::{Near, is_near, near_points};
 use edi_calls::Calls;
 use edi_code::Mapped;
 use edi_kernel::{Ending, Kernel, StintEnd};
@@ -140,24 +142,37 @@ fn log_points(
     }
 }
 
-/// Logs what the points say where the last stint left its process at its `when`.
-fn log_stop(kernel: &Kernel, mapped: &Mapped, points: &Points, log: &mut Log)
-    requires named { AreNamed points.now }
-    ensures exact { (unit : ProgramUnit) (bound : ℕ) → IsMapped unit mapped.now → PointsFit unit (watched_in points.now) → kernel.now.used ≤ bound →
-        log.new ≡ after_lines (stop_now unit bound kernel.now.store kernel.now.arrived kernel.now.used (watched_in points.now)) log.old }
+/// What is watched: the points, where `when`s and variables stand, and which addresses are those of the points.
+#[derive(Drop)]
+struct Stops<'a> {
+    mapped: &'a Mapped,
+    points: &'a Points,
+    near: &'a Near,
+}
+
+/// Logs what the points say where the last stint left its process at its `when`. At most `when`s no point stands, and the table
+/// of addresses tells so at once.
+fn log_stop(kernel: &Kernel, stops: &Stops<'_>, log: &mut Log)
+    requires named { AreNamed stops.now.points.now }
+    requires near { (unit : ProgramUnit) → IsMapped unit stops.now.mapped.now → TellsPoints unit stops.now.near.now (watched_in stops.now.points.now) }
+    ensures exact { (unit : ProgramUnit) (bound : ℕ) → IsMapped unit stops.now.mapped.now → PointsFit unit (watched_in stops.now.points.now) →
+        kernel.now.used ≤ bound →
+        log.new ≡ after_lines (stop_now unit bound kernel.now.store kernel.now.arrived kernel.now.used (watched_in stops.now.points.now)) log.old }
 {
     let Some(activity) = kernel.standing() else {
         return;
     };
-    let turns = kernel.turns_used();
-    log_points(
-        kernel,
-        mapped,
-        points.items.as_slice(),
-        &activity,
-        turns,
-        log,
-    );
+    if is_near(stops.near, activity.pc) {
+        let turns = kernel.turns_used();
+        log_points(
+            kernel,
+            stops.mapped,
+            stops.points.items.as_slice(),
+            &activity,
+            turns,
+            log,
+        );
+    }
 }
 
 /// How the run has ended, if it has by a stint that ended so.
@@ -193,8 +208,7 @@ fn proceed(kernel: &mut Kernel, choices: &mut Choices) -> Option<Ending>
 /// has ended.
 fn watch_round<C: Calls>(
     kernel: &mut Kernel,
-    mapped: &Mapped,
-    points: &Points,
+    stops: &Stops<'_>,
     calls: &mut C,
     bound: u64,
     choices: &mut Choices,
@@ -203,12 +217,13 @@ fn watch_round<C: Calls>(
     requires taken { IsSome kernel.old.taken }
     requires working { C.failed calls.old None }
     requires used { kernel.old.used ≤ bound }
-    requires named { AreNamed points.now }
+    requires named { AreNamed stops.now.points.now }
+    requires near { (unit : ProgramUnit) → IsMapped unit stops.now.mapped.now → TellsPoints unit stops.now.near.now (watched_in stops.now.points.now) }
     ensures exact { choices.old.drawn + (bound - kernel.old.used) < 2 ^ 64 → WhereTold (C.state calls.old) (C.state calls.new) (λ x y.
-        (unit : ProgramUnit) → IsMapped unit mapped.now → PointsFit unit (watched_in points.now) →
+        (unit : ProgramUnit) → IsMapped unit stops.now.mapped.now → PointsFit unit (watched_in stops.now.points.now) →
         (s : State) (first : Drawn) (start : Kept) → first.source ≡ choices.old.source →
-        Going unit (watched_in points.now) s bound first start kernel.old x choices.old log.old →
-        Watches unit (watched_in points.now) s bound first start result kernel.new y choices.new log.new) }
+        Going unit (watched_in stops.now.points.now) s bound first start kernel.old x choices.old log.old →
+        Watches unit (watched_in stops.now.points.now) s bound first start result kernel.new y choices.new log.new) }
     ensures taken { result ≡ None → IsSome kernel.new.taken }
     ensures used { kernel.new.used ≤ bound }
     ensures spent { result ≡ None → kernel.old.used < kernel.new.used }
@@ -218,8 +233,8 @@ fn watch_round<C: Calls>(
     ensures lasts { CallsLast C.faults C.references C.leads calls.old calls.new }
 {
     let left = bound - kernel.turns_used();
-    let end = kernel.stint(mapped.code(), calls, left);
-    log_stop(kernel, mapped, points, log);
+    let end = kernel.stint(stops.mapped.code(), calls, left);
+    log_stop(kernel, stops, log);
     if let Some(ending) = ended_by(end) {
         return Some(ending);
     }
@@ -259,8 +274,14 @@ pub fn watch<C: Calls>(
     if bound == 0 {
         return Ending::Turns;
     }
+    let near = near_points(mapped, points.items.as_slice());
+    let stops = Stops {
+        mapped,
+        points,
+        near: &near,
+    };
     'rounds: loop {
-        if let Some(ending) = watch_round(kernel, mapped, points, calls, bound, choices, log) {
+        if let Some(ending) = watch_round(kernel, &stops, calls, bound, choices, log) {
             return ending;
         }
     }

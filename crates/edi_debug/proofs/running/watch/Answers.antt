@@ -1,6 +1,8 @@
 -- A watched run.
-use Rattle.std.proofs.Common.{refl, arith, ◌∙◌}
+use Rattle.std.proofs.Common.{refl, arith, map, subst, ◌∙◌}
 use Rattle.edi_tree.specs.Whole.{program_of}
+use Rattle.edi_debug.specs.Points.{watched}
+use Rattle.edi_debug.specs.stops.Near.{TellsPoints}
 use Rattle.edi_debug.proofs.Watched.{are_named, watched_more, watched_ends, watched_first, watched_never}
 use Rattle.edi_kernel.proofs.Stretches.{lasts_on}
 use Rattle.edi_debug.proofs.running.watch.Goals as goal
@@ -53,3 +55,9 @@ watch_round-requires-clause-named g c = are_named (program_of c.args.tree.now) c
 
 pub returns-in-Some-clause-drawn : goal.returns-in-Some-clause-drawn
 returns-in-Some-clause-drawn g c = omega (arith, c.watch_round.ensures.drawn, c.watch_round.ensures.used, c.rounds.invariant.drawn)
+
+pub watch_round-requires-clause-near : goal.watch_round-requires-clause-near
+watch_round-requires-clause-near g c =
+    λ unit mapped.
+    subst (λ points. TellsPoints unit c.near_points-near.result (map watched points)) c.as_slice.ensures.value
+    (c.near_points-near.ensures.tells unit mapped)
