@@ -4,4 +4,5 @@ pub mod Addresses
 pub mod Files
 pub mod Executions
 pub mod Looks
+pub mod Logged
 pub mod Watched
