@@ -5,4 +5,5 @@ pub mod Files
 pub mod Executions
 pub mod Looks
 pub mod Elsewhere
+pub mod Logged
 pub mod Watched

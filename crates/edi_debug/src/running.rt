@@ -25,6 +25,7 @@ ghost use Rattle.edi_debug.specs.stops.Watching as spec;
 ghost use Rattle.edi_debug.specs.stops.Underway.{Ended, Going, Watches};
 ghost use Rattle.edi_debug.specs.Points.{AreNamed, ArePoints, watched, watched_in};
 ghost use Rattle.edi_debug.specs.Looking.{arrived_now, stop_now};
+ghost use Rattle.edi_debug.specs.Kept.{Grows};
 
 use crate::answer::{Point, Points};
 use crate::lines::line_of;
@@ -82,6 +83,7 @@ fn is_there(mapped: &Mapped, sight: Sight, pc: u32) -> bool
 }
 
 /// Logs what a point says at an arrival, if the process stands at the `when` of one of its sights.
+#[tactic(auto, using(crate::proofs::Logged::grows_none))]
 fn log_sight(
     kernel: &Kernel,
     mapped: &Mapped,
@@ -94,6 +96,7 @@ fn log_sight(
     requires named { length point.now.name.items ≤ 250 }
     ensures exact { (unit : ProgramUnit) (bound : ℕ) → IsMapped unit mapped.now → SightFits unit sight → turns ≤ bound →
         log.new ≡ after_lines (spec.sight_lines unit bound (arrived_now kernel.now.store activity.now (bound - turns)) (watched point.now) sight) log.old }
+    ensures grows { Grows log.old log.new }
 {
     if is_there(mapped, sight, activity.pc) {
         if let Some(slot) = sight.slot {
@@ -104,6 +107,7 @@ fn log_sight(
 }
 
 /// Logs what a point with these sights says at an arrival.
+#[tactic(auto, using(crate::proofs::Logged::grows_none))]
 fn log_point(
     kernel: &Kernel,
     mapped: &Mapped,
@@ -117,6 +121,7 @@ fn log_point(
     ensures exact { (unit : ProgramUnit) (bound : ℕ) → IsMapped unit mapped.now → All (SightFits unit) sights.now → turns ≤ bound →
         log.new ≡ after_lines (each_in (spec.sight_lines unit bound (arrived_now kernel.now.store activity.now (bound - turns)) (watched point.now)) sights.now)
         log.old }
+    ensures grows { Grows log.old log.new }
 {
     for sight in sights {
         log_sight(kernel, mapped, point, *sight, activity, turns, log);
@@ -124,6 +129,7 @@ fn log_point(
 }
 
 /// Logs what points say at an arrival, in their order.
+#[tactic(auto, using(crate::proofs::Logged::grows_none))]
 fn log_points(
     kernel: &Kernel,
     mapped: &Mapped,
@@ -135,6 +141,7 @@ fn log_points(
     requires named { All (λ p. length p.name.items ≤ 250) points.now }
     ensures exact { (unit : ProgramUnit) (bound : ℕ) → IsMapped unit mapped.now → PointsFit unit (map watched points.now) → turns ≤ bound →
         log.new ≡ after_lines (spec.stop_lines unit bound (map watched points.now) (arrived_now kernel.now.store activity.now (bound - turns))) log.old }
+    ensures grows { Grows log.old log.new }
 {
     for point in points {
         let sights = point.sights.items();
@@ -152,12 +159,14 @@ struct Stops<'a> {
 
 /// Logs what the points say where the last stint left its process at its `when`. At most `when`s no point stands, and the table
 /// of addresses tells so at once.
+#[tactic(auto, using(crate::proofs::Logged::grows_none))]
 fn log_stop(kernel: &Kernel, stops: &Stops<'_>, log: &mut Log)
     requires named { AreNamed stops.now.points.now }
     requires near { (unit : ProgramUnit) → IsMapped unit stops.now.mapped.now → TellsPoints unit stops.now.near.now (watched_in stops.now.points.now) }
     ensures exact { (unit : ProgramUnit) (bound : ℕ) → IsMapped unit stops.now.mapped.now → PointsFit unit (watched_in stops.now.points.now) →
         kernel.now.used ≤ bound →
         log.new ≡ after_lines (stop_now unit bound kernel.now.store kernel.now.arrived kernel.now.used (watched_in stops.now.points.now)) log.old }
+    ensures grows { Grows log.old log.new }
 {
     let Some(activity) = kernel.standing() else {
         return;
@@ -231,6 +240,7 @@ fn watch_round<C: Calls>(
     ensures drawn { choices.new.drawn + kernel.old.used ≤ choices.old.drawn + kernel.new.used }
     ensures blame { Blamed (fault_of result) (C.failed calls.new) (C.faults calls.old) (C.faults calls.new) }
     ensures lasts { CallsLast C.faults C.references C.leads calls.old calls.new }
+    ensures grows { Grows log.old log.new }
 {
     let left = bound - kernel.turns_used();
     let end = kernel.stint(stops.mapped.code(), calls, left);
@@ -245,7 +255,9 @@ fn watch_round<C: Calls>(
 /// that leaves its process at a `when`, a line for each point of that `when`. It takes no memory.
 ///
 /// The ending comes as that of `Kernel::run`. The log is that of the execution that the program means, by the laws
-/// `logs_are_meant` and `logs_begin`; after `Fault` it has the lines before the system call in which an object failed.
+/// `logs_are_meant` and `logs_begin`; after `Fault` it has the lines before the system call in which an object failed. What was logged
+/// before stays in front, also where the calls tell nothing.
+#[tactic(auto, using(crate::proofs::Logged::grows_none))]
 pub fn watch<C: Calls>(
     kernel: &mut Kernel,
     tree: &Program,
@@ -269,6 +281,7 @@ pub fn watch<C: Calls>(
     ensures blame { Blamed (fault_of (Some result)) (C.failed calls.new) (C.faults calls.old) (C.faults calls.new) }
     ensures references { C.references calls.new ≡ C.references calls.old }
     ensures leads { (start : C) → C.leads start calls.old → C.leads start calls.new }
+    ensures grows { Grows log.old log.new }
 {
     kernel.start(mapped.code());
     if bound == 0 {

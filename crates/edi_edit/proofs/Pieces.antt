@@ -1,11 +1,11 @@
 -- The pieces of a text between its line feeds.
 use Rattle.std.proofs.Common.{◌≡◌, ℕ, suc, ◌+◌, ◌<◌, ◌≤◌, inl, inr, List, [], ◌∷◌, ◌++◌, length, refl, sym, ◌∙◌, ap, arith, take, drop, not, eqb, eq-eqb}
-use Rattle.std.proofs.Common.{Vec, append_assoc}
+use Rattle.std.proofs.Common.{Vec, append_assoc, length-append, Global, IfOk, Result, Ok, Err}
 use Rattle.std.specs.List.{prefix_len}
 use Rattle.std.proofs.lemmas.Bool.{ne_eqb, cases_eq}
 use Rattle.std.proofs.lemmas.List.{map-append}
 use Rattle.std.proofs.lemmas.List.Sums.{sum_by-cons}
-use Rattle.edi_edit.specs.Lines.{lines_of, with_byte, size_of_lines}
+use Rattle.edi_edit.specs.Lines.{lines_of, with_byte, bytes_of_lines, size_of_lines}
 use Rattle.edi_edit.specs.Steps.{plain}
 
 -- the first piece, and the pieces of what follows its line feed
@@ -55,3 +55,15 @@ size-lines_of (b ∷ bytes) =
       | inl feed ↦ rw (eq-eqb b 10 feed) (let rest = size-lines_of bytes in omega (arith, size-cons [] (lines_of bytes)))
       | inr other ↦ rw (ne_eqb b 10 other) (grown b (lines_of bytes) (length bytes) (size-lines_of bytes))
     ]
+
+-- the bytes of the lines are as many as their sizes say
+length-bytes : (lines : List (List ℕ)) → length (bytes_of_lines lines) ≡ size_of_lines lines
+length-bytes [] = refl
+length-bytes (line ∷ lines) =
+    let rest = length-bytes lines in
+    omega (arith, length-append line (10 ∷ bytes_of_lines lines), size-cons line lines, rest)
+
+pub small_bytes : {E : Type 0} → (r : Result (Vec ℕ Global) E) (lines : List (List ℕ)) (n : ℕ) → size_of_lines lines ≤ n
+    → IfOk r (λ bytes. bytes.items ≡ bytes_of_lines lines) → IfOk r (λ bytes. length bytes.items ≤ n)
+small_bytes (Ok bytes) lines n small is = omega (arith, ap length is, length-bytes lines, small)
+small_bytes (Err e) lines n small is = tt

@@ -148,6 +148,8 @@ impl Text {
         ensures exact { IfOk result (λ bytes. bytes.items ≡ bytes_of_lines self.now.lines) }
         // Read again they are the same lines.
         ensures again { IfOk result (λ bytes. lines_of bytes.items ≡ self.now.lines) }
+        // One byte more than [`ROOM`] where the text was made of so many, with no line feed at their end.
+        ensures small { IfOk result (λ bytes. length bytes.items ≤ ROOM + 1) }
     {
         list::join_lines(alloc, &self.lines)
     }

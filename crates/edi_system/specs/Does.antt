@@ -53,11 +53,11 @@ module _ {D S T P : Type 0} where
   DoesPrint printed word result before after =
       OnlyPrinter before after × TellsOnly result × Prints printed (not (is_fault result)) (character word ∷ []) before after
 
-  -- the found file is the text whose title the words spell, if there is one
+  -- the found file is the text whose title the words spell, if there is one; the buffer stays
   abbrev pub DoesFind : (words : List ℕ) → Result (Option ℕ) Stop → (before after : System D S T P) → Type 0
   DoesFind words result before after =
       OnlyOpenFiles before after × (after.found ≡ text_spelled words (files_of (catalog_in before)))
-      × (result ≡ Ok (Some (word_of (is_some after.found))))
+      × (result ≡ Ok (Some (word_of (is_some after.found)))) × (buffer_in after ≡ buffer_in before)
 
   -- There is no found file exactly where the answer says so. Whatever the drive tells: where there is a next byte, its page is kept, and
   -- was read unless it was kept.
@@ -75,9 +75,10 @@ module _ {D S T P : Type 0} where
   DoesRead contents count result before after =
       NeedsFile contents count result before after × IfOk result (λ word. ReadsOn word after.page before.found after.found)
 
-  -- an empty buffer is begun
+  -- an empty buffer is begun; the found file stays, with its page
   abbrev pub DoesFresh : Result (Option ℕ) Stop → (before after : System D S T P) → Type 0
-  DoesFresh result before after = OnlyOpenFiles before after × (result ≡ Ok None) × (buffer_in after ≡ Some [])
+  DoesFresh result before after =
+      OnlyOpenFiles before after × (result ≡ Ok None) × (buffer_in after ≡ Some []) × (after.found ≡ before.found)
 
   abbrev pub DoesWrite : ℕ → Result (Option ℕ) Stop → (before after : System D S T P) → Type 0
   DoesWrite word result before after =

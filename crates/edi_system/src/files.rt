@@ -23,6 +23,7 @@ ghost use Rattle.edi_system.specs.State.{catalog_in, drive_in, failed_in, state_
 ghost use Rattle.edi_system.specs.AsCalls.{KeepsDue};
 ghost use Rattle.edi_system.specs.Ends.{Keeps};
 ghost use Rattle.edi_system.specs.Parts.{KeepsTold};
+ghost use Rattle.edi_system.specs.Reading.{forgotten};
 ghost use Rattle.edi_system.specs.Catalogue.{failed_at, is_drive_fault, is_refused, IsClosed, OnlyCatalog, OnlyFiles, OpenStays, PositionStays};
 
 use crate::reading::forget_page;
@@ -175,7 +176,8 @@ impl<D: Drive, S: Source, T: Sink, P: Sink> System<'_, '_, '_, '_, '_, '_, D, S,
         answer
     }
 
-    // Makes the file with this title protected, or takes its protection. The found file, with its position, and the buffer stay.
+    // Makes the file with this title protected, or takes its protection. The found file, with its position, and the buffer stay; where the
+    // call was not refused, no page of the file is kept.
     fn set_protected(&mut self, title: &Title, protected: bool) -> Result<(), CatEnd>
         requires ready { IsReady D.contents D.count self.old }
         ensures changes { SetsProtection D.contents D.count D.faults result protected title.now (catalog_in self.old) (catalog_in self.new) }
@@ -184,6 +186,7 @@ impl<D: Drive, S: Source, T: Sink, P: Sink> System<'_, '_, '_, '_, '_, '_, D, S,
             left_open before after) }
         ensures untouched { Untouched result self.old self.new }
         ensures stays { PositionStays self.old self.new }
+        ensures forgets { is_refused result ≡ false → self.new.found ≡ option_map forgotten self.old.found }
         ensures only { OnlyFiles self.old self.new }
         ensures failed { failed_in self.new ≡ failed_at result }
         ensures ready { is_drive_fault result ≡ false → IsReady D.contents D.count self.new }
@@ -201,7 +204,7 @@ impl<D: Drive, S: Source, T: Sink, P: Sink> System<'_, '_, '_, '_, '_, '_, D, S,
     }
 
     /// Protects the file with this title, which may be protected already. The found file, with its
-    /// position, and the buffer stay. The one refusal is `NoSuch`.
+    /// position, and the buffer stay; its page is read again, but after the one refusal, `NoSuch`.
     pub fn protect(&mut self, title: &Title) -> Result<(), CatEnd>
         requires ready { IsReady D.contents D.count self.old }
         ensures changes { SetsProtection D.contents D.count D.faults result true title.now (catalog_in self.old) (catalog_in self.new) }
@@ -210,6 +213,7 @@ impl<D: Drive, S: Source, T: Sink, P: Sink> System<'_, '_, '_, '_, '_, '_, D, S,
             left_open before after) }
         ensures untouched { Untouched result self.old self.new }
         ensures stays { PositionStays self.old self.new }
+        ensures forgets { is_refused result ≡ false → self.new.found ≡ option_map forgotten self.old.found }
         ensures only { OnlyFiles self.old self.new }
         ensures failed { failed_in self.new ≡ failed_at result }
         ensures ready { is_drive_fault result ≡ false → IsReady D.contents D.count self.new }
@@ -221,7 +225,7 @@ impl<D: Drive, S: Source, T: Sink, P: Sink> System<'_, '_, '_, '_, '_, '_, D, S,
     }
 
     /// Takes the protection from the file with this title, which may have none. The found file, with its
-    /// position, and the buffer stay. The one refusal is `NoSuch`.
+    /// position, and the buffer stay; its page is read again, but after the one refusal, `NoSuch`.
     pub fn release(&mut self, title: &Title) -> Result<(), CatEnd>
         requires ready { IsReady D.contents D.count self.old }
         ensures changes { SetsProtection D.contents D.count D.faults result false title.now (catalog_in self.old) (catalog_in self.new) }
@@ -230,6 +234,7 @@ impl<D: Drive, S: Source, T: Sink, P: Sink> System<'_, '_, '_, '_, '_, '_, D, S,
             left_open before after) }
         ensures untouched { Untouched result self.old self.new }
         ensures stays { PositionStays self.old self.new }
+        ensures forgets { is_refused result ≡ false → self.new.found ≡ option_map forgotten self.old.found }
         ensures only { OnlyFiles self.old self.new }
         ensures failed { failed_in self.new ≡ failed_at result }
         ensures ready { is_drive_fault result ≡ false → IsReady D.contents D.count self.new }

@@ -4,7 +4,7 @@ ghost use Rattle.std.specs.Prelude.{◌≡◌, ◌<◌, ◌↔◌, false, length
 ghost use Rattle.edi_told.specs.Told.{WhereTold};
 ghost use Rattle.edi_calls.specs.Calls.{find, more, read, word_of};
 ghost use Rattle.edi_catalog.specs.Mounted.{files_of};
-ghost use Rattle.edi_system.specs.State.{catalog_in, state_of, IsReady};
+ghost use Rattle.edi_system.specs.State.{buffer_in, catalog_in, state_of, IsReady};
 ghost use Rattle.edi_system.specs.Catalogue.{OnlyReading};
 ghost use Rattle.edi_system.specs.Does.{MayLackFile, NeedsFile};
 ghost use Rattle.edi_system.specs.Ends.{is_fault, Keeps, Reaches};
@@ -30,6 +30,7 @@ impl<D: Drive, S: Source, T: Sink, P: Sink> System<'_, '_, '_, '_, '_, '_, D, S,
         ensures only { OnlyOpenFiles self.old self.new }
         ensures found { self.new.found ≡ text_spelled words.now (files_of (catalog_in self.old)) }
         ensures answer { result ≡ Ok (Some (word_of (is_some self.new.found))) }
+        ensures buffer { buffer_in self.new ≡ buffer_in self.old }
         ensures ready { IsReady D.contents D.count self.new }
         ensures told { KeepsTold D.contents S.left T.taken P.taken self.old self.new }
         ensures stays { KeepsSystem D.count T.taken D.faults S.faults T.faults P.faults (is_fault result) self.old self.new }

@@ -39,6 +39,7 @@ impl<D: Drive, S: Source, T: Sink, P: Sink> System<'_, '_, '_, '_, '_, '_, D, S,
         ensures exact { WhereTold (state_of D.contents S.left T.taken P.taken self.old) (state_of D.contents S.left T.taken P.taken self.new)
             (λ before after. Reaches (fresh_buffer before) result before after) }
         ensures begins { (result ≡ Ok None) × (buffer_in self.new ≡ Some []) }
+        ensures found { self.new.found ≡ self.old.found }
         ensures only { OnlyOpenFiles self.old self.new }
         ensures ready { IsReady D.contents D.count self.new }
         ensures told { KeepsTold D.contents S.left T.taken P.taken self.old self.new }

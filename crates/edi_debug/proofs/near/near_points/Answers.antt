@@ -1,4 +1,4 @@
-use Rattle.std.proofs.Common.{All, get_or, subst, sym, ap, ◌∙◌}
+use Rattle.std.proofs.Common.{All, get_or, subst, ◌∙◌}
 use Rattle.std.proofs.lemmas.List.{get_or_default}
 use Rattle.edi_debug.specs.stops.Near.{TellsSight, TellsPoint}
 use Rattle.edi_debug.specs.Points.{watched}

@@ -1,4 +1,4 @@
-use Rattle.std.proofs.Common.{ℕ, ◌<◌, get_or, map}
+use Rattle.std.proofs.Common.{ℕ, ◌<◌, get_or}
 use Rattle.edi_unit.specs.Tree.{ProgramUnit}
 use Rattle.edi_code.specs.Mapped.{IsMapped}
 use Rattle.edi_debug.specs.declared.answer.Point.{Point}

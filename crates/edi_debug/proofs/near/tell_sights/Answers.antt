@@ -1,4 +1,4 @@
-use Rattle.std.proofs.Common.{get_or, subst, sym}
+use Rattle.std.proofs.Common.{get_or, subst}
 use Rattle.std.proofs.lemmas.List.{get_or_default}
 use Rattle.edi_debug.specs.stops.Near.{TellsSight}
 use Rattle.edi_debug.proofs.Elsewhere.{one_more}

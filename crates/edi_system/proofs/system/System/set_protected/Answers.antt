@@ -1,4 +1,4 @@
-use Rattle.std.proofs.Common.{◌∙◌, ap, refl}
+use Rattle.std.proofs.Common.{◌≡◌, ◌∙◌, ap, false, refl, sym, true}
 use Rattle.std.specs.Option.{option_map}
 use Rattle.edi_system.specs.State.{found_of}
 use Rattle.edi_system.proofs.Protecting.{index_stays, protects_ready}
@@ -11,6 +11,10 @@ use Rattle.edi_system.proofs.system.System.set_protected.Goals as goal
 
 pub returns-clause-stays : goal.returns-clause-stays
 returns-clause-stays g c = (ap (option_map found_of) c.forget_page.ensures ∙ index_stays c.args.self.now.found, refl)
+
+pub returns-then-is_refused-clause-forgets : goal.returns-then-is_refused-clause-forgets
+returns-then-is_refused-clause-forgets g c = λ open_.
+    let wrong : true ≡ false = sym c.if-is_refused.true ∙ c.is_refused.ensures ∙ open_ in absurd (cc)
 
 pub returns-clause-ready : goal.returns-clause-ready
 returns-clause-ready g c =
