@@ -4,4 +4,6 @@ pub mod Addresses
 pub mod Files
 pub mod Executions
 pub mod Looks
+pub mod Elsewhere
+pub mod Logged
 pub mod Watched

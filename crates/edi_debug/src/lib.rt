@@ -6,6 +6,7 @@ mod answer;
 pub mod laws;
 mod lines;
 mod log;
+mod near;
 mod reading;
 mod running;
 

@@ -19,15 +19,18 @@ ghost use Rattle.edi_scheme.specs.Awaits.{await_address};
 ghost use Rattle.edi_code.specs.Mapped.{IsMapped};
 ghost use Rattle.edi_debug.specs.stops.Kept.{Kept, after_lines};
 ghost use Rattle.edi_debug.specs.stops.Stops.{each_in};
+ghost use Rattle.edi_debug.specs.stops.Near.{TellsPoints};
 ghost use Rattle.edi_debug.specs.stops.Seen.{IsElementaryVariable, PointsFit, SightFits};
 ghost use Rattle.edi_debug.specs.stops.Watching as spec;
 ghost use Rattle.edi_debug.specs.stops.Underway.{Ended, Going, Watches};
 ghost use Rattle.edi_debug.specs.Points.{AreNamed, ArePoints, watched, watched_in};
 ghost use Rattle.edi_debug.specs.Looking.{arrived_now, stop_now};
+ghost use Rattle.edi_debug.specs.Kept.{Grows};
 
 use crate::answer::{Point, Points};
 use crate::lines::line_of;
 use crate::log::Log;
+use crate::near::{Near, is_near, near_points};
 use edi_calls::Calls;
 use edi_code::Mapped;
 use edi_kernel::{Ending, Kernel, StintEnd};
@@ -80,6 +83,7 @@ fn is_there(mapped: &Mapped, sight: Sight, pc: u32) -> bool
 }
 
 /// Logs what a point says at an arrival, if the process stands at the `when` of one of its sights.
+#[tactic(auto, using(crate::proofs::Logged::grows_none))]
 fn log_sight(
     kernel: &Kernel,
     mapped: &Mapped,
@@ -92,6 +96,7 @@ fn log_sight(
     requires named { length point.now.name.items ≤ 250 }
     ensures exact { (unit : ProgramUnit) (bound : ℕ) → IsMapped unit mapped.now → SightFits unit sight → turns ≤ bound →
         log.new ≡ after_lines (spec.sight_lines unit bound (arrived_now kernel.now.store activity.now (bound - turns)) (watched point.now) sight) log.old }
+    ensures grows { Grows log.old log.new }
 {
     if is_there(mapped, sight, activity.pc) {
         if let Some(slot) = sight.slot {
@@ -102,6 +107,7 @@ fn log_sight(
 }
 
 /// Logs what a point with these sights says at an arrival.
+#[tactic(auto, using(crate::proofs::Logged::grows_none))]
 fn log_point(
     kernel: &Kernel,
     mapped: &Mapped,
@@ -115,6 +121,7 @@ fn log_point(
     ensures exact { (unit : ProgramUnit) (bound : ℕ) → IsMapped unit mapped.now → All (SightFits unit) sights.now → turns ≤ bound →
         log.new ≡ after_lines (each_in (spec.sight_lines unit bound (arrived_now kernel.now.store activity.now (bound - turns)) (watched point.now)) sights.now)
         log.old }
+    ensures grows { Grows log.old log.new }
 {
     for sight in sights {
         log_sight(kernel, mapped, point, *sight, activity, turns, log);
@@ -122,6 +129,7 @@ fn log_point(
 }
 
 /// Logs what points say at an arrival, in their order.
+#[tactic(auto, using(crate::proofs::Logged::grows_none))]
 fn log_points(
     kernel: &Kernel,
     mapped: &Mapped,
@@ -133,6 +141,7 @@ fn log_points(
     requires named { All (λ p. length p.name.items ≤ 250) points.now }
     ensures exact { (unit : ProgramUnit) (bound : ℕ) → IsMapped unit mapped.now → PointsFit unit (map watched points.now) → turns ≤ bound →
         log.new ≡ after_lines (spec.stop_lines unit bound (map watched points.now) (arrived_now kernel.now.store activity.now (bound - turns))) log.old }
+    ensures grows { Grows log.old log.new }
 {
     for point in points {
         let sights = point.sights.items();
@@ -140,24 +149,39 @@ fn log_points(
     }
 }
 
-/// Logs what the points say where the last stint left its process at its `when`.
-fn log_stop(kernel: &Kernel, mapped: &Mapped, points: &Points, log: &mut Log)
-    requires named { AreNamed points.now }
-    ensures exact { (unit : ProgramUnit) (bound : ℕ) → IsMapped unit mapped.now → PointsFit unit (watched_in points.now) → kernel.now.used ≤ bound →
-        log.new ≡ after_lines (stop_now unit bound kernel.now.store kernel.now.arrived kernel.now.used (watched_in points.now)) log.old }
+/// What is watched: the points, where `when`s and variables stand, and which addresses are those of the points.
+#[derive(Drop)]
+struct Stops<'a> {
+    mapped: &'a Mapped,
+    points: &'a Points,
+    near: &'a Near,
+}
+
+/// Logs what the points say where the last stint left its process at its `when`. At most `when`s no point stands, and the table
+/// of addresses tells so at once.
+#[tactic(auto, using(crate::proofs::Logged::grows_none))]
+fn log_stop(kernel: &Kernel, stops: &Stops<'_>, log: &mut Log)
+    requires named { AreNamed stops.now.points.now }
+    requires near { (unit : ProgramUnit) → IsMapped unit stops.now.mapped.now → TellsPoints unit stops.now.near.now (watched_in stops.now.points.now) }
+    ensures exact { (unit : ProgramUnit) (bound : ℕ) → IsMapped unit stops.now.mapped.now → PointsFit unit (watched_in stops.now.points.now) →
+        kernel.now.used ≤ bound →
+        log.new ≡ after_lines (stop_now unit bound kernel.now.store kernel.now.arrived kernel.now.used (watched_in stops.now.points.now)) log.old }
+    ensures grows { Grows log.old log.new }
 {
     let Some(activity) = kernel.standing() else {
         return;
     };
-    let turns = kernel.turns_used();
-    log_points(
-        kernel,
-        mapped,
-        points.items.as_slice(),
-        &activity,
-        turns,
-        log,
-    );
+    if is_near(stops.near, activity.pc) {
+        let turns = kernel.turns_used();
+        log_points(
+            kernel,
+            stops.mapped,
+            stops.points.items.as_slice(),
+            &activity,
+            turns,
+            log,
+        );
+    }
 }
 
 /// How the run has ended, if it has by a stint that ended so.
@@ -193,8 +217,7 @@ fn proceed(kernel: &mut Kernel, choices: &mut Choices) -> Option<Ending>
 /// has ended.
 fn watch_round<C: Calls>(
     kernel: &mut Kernel,
-    mapped: &Mapped,
-    points: &Points,
+    stops: &Stops<'_>,
     calls: &mut C,
     bound: u64,
     choices: &mut Choices,
@@ -203,12 +226,13 @@ fn watch_round<C: Calls>(
     requires taken { IsSome kernel.old.taken }
     requires working { C.failed calls.old None }
     requires used { kernel.old.used ≤ bound }
-    requires named { AreNamed points.now }
+    requires named { AreNamed stops.now.points.now }
+    requires near { (unit : ProgramUnit) → IsMapped unit stops.now.mapped.now → TellsPoints unit stops.now.near.now (watched_in stops.now.points.now) }
     ensures exact { choices.old.drawn + (bound - kernel.old.used) < 2 ^ 64 → WhereTold (C.state calls.old) (C.state calls.new) (λ x y.
-        (unit : ProgramUnit) → IsMapped unit mapped.now → PointsFit unit (watched_in points.now) →
+        (unit : ProgramUnit) → IsMapped unit stops.now.mapped.now → PointsFit unit (watched_in stops.now.points.now) →
         (s : State) (first : Drawn) (start : Kept) → first.source ≡ choices.old.source →
-        Going unit (watched_in points.now) s bound first start kernel.old x choices.old log.old →
-        Watches unit (watched_in points.now) s bound first start result kernel.new y choices.new log.new) }
+        Going unit (watched_in stops.now.points.now) s bound first start kernel.old x choices.old log.old →
+        Watches unit (watched_in stops.now.points.now) s bound first start result kernel.new y choices.new log.new) }
     ensures taken { result ≡ None → IsSome kernel.new.taken }
     ensures used { kernel.new.used ≤ bound }
     ensures spent { result ≡ None → kernel.old.used < kernel.new.used }
@@ -216,10 +240,11 @@ fn watch_round<C: Calls>(
     ensures drawn { choices.new.drawn + kernel.old.used ≤ choices.old.drawn + kernel.new.used }
     ensures blame { Blamed (fault_of result) (C.failed calls.new) (C.faults calls.old) (C.faults calls.new) }
     ensures lasts { CallsLast C.faults C.references C.leads calls.old calls.new }
+    ensures grows { Grows log.old log.new }
 {
     let left = bound - kernel.turns_used();
-    let end = kernel.stint(mapped.code(), calls, left);
-    log_stop(kernel, mapped, points, log);
+    let end = kernel.stint(stops.mapped.code(), calls, left);
+    log_stop(kernel, stops, log);
     if let Some(ending) = ended_by(end) {
         return Some(ending);
     }
@@ -230,7 +255,9 @@ fn watch_round<C: Calls>(
 /// that leaves its process at a `when`, a line for each point of that `when`. It takes no memory.
 ///
 /// The ending comes as that of `Kernel::run`. The log is that of the execution that the program means, by the laws
-/// `logs_are_meant` and `logs_begin`; after `Fault` it has the lines before the system call in which an object failed.
+/// `logs_are_meant` and `logs_begin`; after `Fault` it has the lines before the system call in which an object failed. What was logged
+/// before stays in front, also where the calls tell nothing.
+#[tactic(auto, using(crate::proofs::Logged::grows_none))]
 pub fn watch<C: Calls>(
     kernel: &mut Kernel,
     tree: &Program,
@@ -254,13 +281,20 @@ pub fn watch<C: Calls>(
     ensures blame { Blamed (fault_of (Some result)) (C.failed calls.new) (C.faults calls.old) (C.faults calls.new) }
     ensures references { C.references calls.new ≡ C.references calls.old }
     ensures leads { (start : C) → C.leads start calls.old → C.leads start calls.new }
+    ensures grows { Grows log.old log.new }
 {
     kernel.start(mapped.code());
     if bound == 0 {
         return Ending::Turns;
     }
+    let near = near_points(mapped, points.items.as_slice());
+    let stops = Stops {
+        mapped,
+        points,
+        near: &near,
+    };
     'rounds: loop {
-        if let Some(ending) = watch_round(kernel, mapped, points, calls, bound, choices, log) {
+        if let Some(ending) = watch_round(kernel, &stops, calls, bound, choices, log) {
             return ending;
         }
     }

@@ -1,6 +1,7 @@
 use Rattle.std.proofs.Common.{◌≡◌, ℕ, ◌≤◌, ◌-◌, drop, All}
 use Rattle.edi_unit.specs.Tree.{ProgramUnit}
 use Rattle.edi_code.specs.Mapped.{IsMapped}
+use Rattle.edi_debug.specs.Kept.{Grows}
 use Rattle.edi_debug.specs.stops.Kept.{after_lines}
 use Rattle.edi_debug.specs.stops.Stops.{each_in}
 use Rattle.edi_debug.specs.stops.Seen.{SightFits}
@@ -15,4 +16,5 @@ invariant-loop-sight l = record {
       after_lines (each_in (sight_lines unit bound (arrived_now l.fn.kernel.store l.fn.activity (bound - l.fn.turns)) (watched l.fn.point))
       (drop l.sight-index l.fn.sights)) l.log
       ≡ after_lines (each_in (sight_lines unit bound (arrived_now l.fn.kernel.store l.fn.activity (bound - l.fn.turns)) (watched l.fn.point)) l.fn.sights) l.fn.log;
+  grows : Grows l.fn.log l.log;
 }

@@ -1,6 +1,7 @@
 use Rattle.std.proofs.Common.{◌≡◌, ℕ, ◌≤◌, ◌-◌, drop, map}
 use Rattle.edi_unit.specs.Tree.{ProgramUnit}
 use Rattle.edi_code.specs.Mapped.{IsMapped}
+use Rattle.edi_debug.specs.Kept.{Grows}
 use Rattle.edi_debug.specs.stops.Kept.{after_lines}
 use Rattle.edi_debug.specs.stops.Stops.{each_in}
 use Rattle.edi_debug.specs.stops.Seen.{PointsFit}
@@ -15,4 +16,5 @@ invariant-loop-point l = record {
       after_lines (each_in (λ p. point_lines unit bound (arrived_now l.fn.kernel.store l.fn.activity (bound - l.fn.turns)) (watched p))
       (drop l.point-index l.fn.points)) l.log
       ≡ after_lines (each_in (λ p. point_lines unit bound (arrived_now l.fn.kernel.store l.fn.activity (bound - l.fn.turns)) (watched p)) l.fn.points) l.fn.log;
+  grows : Grows l.fn.log l.log;
 }

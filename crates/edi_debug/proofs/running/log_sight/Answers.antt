@@ -6,6 +6,8 @@ use Rattle.edi_debug.specs.Looking.{arrived_now}
 use Rattle.edi_debug.specs.Points.{watched}
 use Rattle.edi_debug.specs.stops.Seen.{SlotFits}
 use Rattle.edi_debug.specs.stops.Stops.{line_of}
+use Rattle.edi_debug.specs.Kept.{Grows}
+use Rattle.edi_debug.proofs.Logged.{grows_line}
 use Rattle.edi_debug.proofs.Looks.{sight_logged}
 use Rattle.edi_debug.proofs.running.log_sight.Goals as goal
 
@@ -20,4 +22,5 @@ returns-in-Some c = record {
       (to_z-of_z w16 c.ordinal-value.result (search rules)
       ∙ c.ordinal-value.ensures.exact unit bound mapped (subst (SlotFits unit c.args.sight.block) c.in-Some.is fits.slot_fits))
       c.add.ensures.exact;
+  grows = subst (Grows c.args.log.now) (sym c.add.ensures.exact) (grows_line _ c.args.log.now);
 }

@@ -1,7 +1,10 @@
 -- A watched run.
-use Rattle.std.proofs.Common.{refl, arith, ◌∙◌}
+use Rattle.std.proofs.Common.{refl, arith, map, subst, ◌∙◌}
 use Rattle.edi_tree.specs.Whole.{program_of}
+use Rattle.edi_debug.specs.Points.{watched}
+use Rattle.edi_debug.specs.stops.Near.{TellsPoints}
 use Rattle.edi_debug.proofs.Watched.{are_named, watched_more, watched_ends, watched_first, watched_never}
+use Rattle.edi_debug.proofs.Logged.{grows_none, grows_on}
 use Rattle.edi_kernel.proofs.Stretches.{lasts_on}
 use Rattle.edi_debug.proofs.running.watch.Goals as goal
 
@@ -18,6 +21,7 @@ rounds-init g c = record {
   lasts = (λ outside. omega arith, refl, λ start led. led);
   used = omega (arith, c.start.ensures.exact.used);
   source = refl;
+  grows = grows_none c.args.log.now;
   drawn = omega arith;
   exact = λ small.
       watched_first (program_of c.args.tree.now) c.requires.sound c.args.mapped.now c.args.points.now c.requires.points c.args.bound c.args.choices.now
@@ -40,6 +44,7 @@ rounds-preserved g c = record {
   lasts = lasts_on g.C.Calls.faults g.C.Calls.references g.C.Calls.leads _ _ _ c.rounds.invariant.lasts c.in_default.ensures.lasts;
   used = c.in_default.ensures.used;
   source = c.in_default.ensures.source ∙ c.rounds.invariant.source;
+  grows = grows_on c.args.log.now c.rounds.log c.watch_round.new.log c.rounds.invariant.grows c.in_default.ensures.grows;
   drawn = omega (arith, c.in_default.ensures.drawn, c.rounds.invariant.drawn);
   exact = λ small.
       watched_more (program_of c.args.tree.now) c.requires.sound c.args.mapped.now c.args.points.now c.requires.points c.args.bound c.args.choices.now
@@ -53,3 +58,12 @@ watch_round-requires-clause-named g c = are_named (program_of c.args.tree.now) c
 
 pub returns-in-Some-clause-drawn : goal.returns-in-Some-clause-drawn
 returns-in-Some-clause-drawn g c = omega (arith, c.watch_round.ensures.drawn, c.watch_round.ensures.used, c.rounds.invariant.drawn)
+
+pub watch_round-requires-clause-near : goal.watch_round-requires-clause-near
+watch_round-requires-clause-near g c =
+    λ unit mapped.
+    subst (λ points. TellsPoints unit c.near_points-near.result (map watched points)) c.as_slice.ensures.value
+    (c.near_points-near.ensures.tells unit mapped)
+
+pub returns-in-Some-clause-grows : goal.returns-in-Some-clause-grows
+returns-in-Some-clause-grows g c = grows_on c.args.log.now c.rounds.log c.watch_round.new.log c.rounds.invariant.grows c.in-Some.ensures.grows

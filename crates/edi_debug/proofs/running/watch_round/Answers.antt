@@ -7,7 +7,7 @@ use Rattle.edi_debug.proofs.running.watch_round.Goals as goal
 pub returns-in-Some-clause-exact : goal.returns-in-Some-clause-exact
 returns-in-Some-clause-exact g c =
     λ drawn.
-    told_over c.args.mapped.now (watched_in c.args.points.now) c.args.bound c.code.result.now c.code.ensures.exact c.stint-end.result c.args.kernel.now
+    told_over c.args.stops.now.mapped.now (watched_in c.args.stops.now.points.now) c.args.bound c.code.result.now c.code.ensures.exact c.stint-end.result c.args.kernel.now
     c.stint-end.new.self c.args.choices.now c.args.log.now c.log_stop.new.log (c.args.bound - c.turns_used.result) _ _ _ _ _
     (ap (λ n. c.args.bound - n) c.turns_used.ensures)
     (omega (arith, c.stint-end.ensures.turns, c.stint-end.ensures.used, c.requires.used, c.turns_used.ensures, c.ranges.bound.fits))
@@ -20,7 +20,7 @@ returns-in-Some-clause-exact g c =
 pub returns-clause-exact : goal.returns-clause-exact
 returns-clause-exact g c =
     λ drawn.
-    told_on c.args.mapped.now (watched_in c.args.points.now) c.args.bound c.code.result.now c.code.ensures.exact c.stint-end.result c.args.kernel.now
+    told_on c.args.stops.now.mapped.now (watched_in c.args.stops.now.points.now) c.args.bound c.code.result.now c.code.ensures.exact c.stint-end.result c.args.kernel.now
     c.stint-end.new.self c.args.choices.now c.args.log.now c.log_stop.new.log (c.args.bound - c.turns_used.result) _ _ _ _ _
     (ap (λ n. c.args.bound - n) c.turns_used.ensures)
     (omega (arith, c.stint-end.ensures.turns, c.stint-end.ensures.used, c.requires.used, c.turns_used.ensures, c.ranges.bound.fits))
