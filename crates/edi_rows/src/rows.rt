@@ -3,6 +3,7 @@
 mod checks;
 mod disks;
 mod editings;
+mod explorations;
 mod faults;
 mod images;
 mod play;

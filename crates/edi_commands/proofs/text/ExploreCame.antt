@@ -49,7 +49,7 @@ module _ (file : List ℕ) (o : ExploreOptions) (old new : Option Contents) (lef
     shown = [];
     means =
         subst (λ x. Means x (Some (explore file o)) (outside_with old blocks left taken printed) (outside_with new blocks rest takes printed) [] kernel)
-            (sym is) (means blocks printed);
+        (sym is) (means blocks printed);
     shows = shows_nothing taken takes same;
     due_is = due_is;
     each = each_fed shrinks blocks printed;
@@ -90,9 +90,9 @@ module _ (file : List ℕ) (o : ExploreOptions) (old mid : Option Contents) (sam
     pub came_unshown : (t : Status) (due : Bool) → t ≡ status.NoMemory → due ≡ false → CameHere file o t due old mid left rest taken taken kernel
     came_unshown t due is due_is =
         silent file o old mid left rest taken taken kernel status.NoMemory t due is due_is refl (input_shrinks p.asks (Ok bytes) left rest fed)
-            (λ blocks printed.
-            unshown_means file o old mid left rest taken taken blocks printed kernel mid ever gives.0 gives.2.0 gives.1 gives.2.1.front.unit_is
-            bytes.items p.asks gives.2.1.asks_is fed same)
+        (λ blocks printed.
+        unshown_means file o old mid left rest taken taken blocks printed kernel mid ever gives.0 gives.2.0 gives.1 gives.2.1.front.unit_is
+        bytes.items p.asks gives.2.1.asks_is fed same)
 
     -- the lines were shown, or a first part of them
     pub came_ended : (input : List ℕ) → input ≡ bytes.items → (e : Explored) → IsExplored gives.0 input o.states e → (new : Option Contents)
@@ -102,9 +102,9 @@ module _ (file : List ℕ) (o : ExploreOptions) (old mid : Option Contents) (sam
       shown = ends.front;
       means =
           ended_means file o old new left rest taken takes blocks printed kernel mid (ever_told o.record_file (findings_of e.report) ended.status ends.front e.lines.items mid new ends.ends) gives.0 gives.2.0 gives.1
-              gives.2.1.front.unit_is bytes.items p.asks gives.2.1.asks_is fed (findings_of e.report)
-              (subst (λ i. IsExplorationOf gives.0 i o.states (findings_of e.report)) input_is found.is) same ended.status ends.front
-              (subst (λ l. EndsAs o.record_file (findings_of e.report) ended.status ends.front l mid new) found.lines_are ends.ends);
+          gives.2.1.front.unit_is bytes.items p.asks gives.2.1.asks_is fed (findings_of e.report)
+          (subst (λ i. IsExplorationOf gives.0 i o.states (findings_of e.report)) input_is found.is) same ended.status ends.front
+          (subst (λ l. EndsAs o.record_file (findings_of e.report) ended.status ends.front l mid new) found.lines_are ends.ends);
       shows = ends.shows;
       due_is = ends.due_is ∙ sym (due_then [] ends.front);
       each = each_fed file o old new left rest taken takes kernel (input_shrinks p.asks (Ok bytes) left rest fed) blocks printed;

@@ -12,9 +12,9 @@ returns-in_default g c =
     record {
       ends =
           ends_whole (option_map (λ name. name.now) c.args.record_file) f c.deref.result.now c.args.explored.now.lines.items c.show_bytes-shown.result
-              (g.T.Sink.taken c.args.terminal.now) (g.T.Sink.taken c.show_bytes-shown.new.terminal) (g.F.Files.contents c.args.files.now)
-              (g.F.Files.contents end.new.files) end.result c.kept_status.result c.show_bytes-shown.ensures.shows c.in_default.not-OutputFault
-              c.deref.ensures.value is end.ensures.keeps end.ensures.some;
+          (g.T.Sink.taken c.args.terminal.now) (g.T.Sink.taken c.show_bytes-shown.new.terminal) (g.F.Files.contents c.args.files.now)
+          (g.F.Files.contents end.new.files) end.result c.kept_status.result c.show_bytes-shown.ensures.shows c.in_default.not-OutputFault
+          c.deref.ensures.value is end.ensures.keeps end.ensures.some;
       later_files = end.ensures.later;
       later_terminal = c.show_bytes-shown.ensures.later;
       cause_files = λ e. end.ensures.cause (kept_failed f end.result c.kept_status.result is e);
