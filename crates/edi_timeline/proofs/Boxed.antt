@@ -21,6 +21,7 @@ use Rattle.std.proofs.lemmas.List.{length-map}
 same_kind : (e : Ending) (r : Row) (k : Kind) → line_kind (end_as ending.Done no_row k) ≡ line_kind (end_as e r k)
 same_kind e r kind.Arrives = refl
 same_kind e r kind.Waits = refl
+same_kind e r kind.Tries = refl
 same_kind e r kind.Forks = refl
 same_kind e r kind.Ends = refl
 same_kind e r kind.Over = refl
@@ -28,6 +29,7 @@ same_kind e r kind.Over = refl
 same_back : (e : Ending) (r : Row) (k : Kind) (n : ℕ) → line_back (end_as ending.Done no_row k) n ≡ line_back (end_as e r k) n
 same_back e r kind.Arrives n = refl
 same_back e r kind.Waits n = refl
+same_back e r kind.Tries n = refl
 same_back e r kind.Forks n = refl
 same_back e r kind.Ends n = refl
 same_back e r kind.Over n = refl
@@ -138,6 +140,7 @@ taken_rows e rows (suc n) used (r ∷ rs) = ap (λ xs. stint_in e rows (suc used
 same_end : (e : Ending) (r : Row) (k : Kind) → ending_end (end_as e no_row k) ≡ ending_end (end_as e r k)
 same_end e r kind.Arrives = refl
 same_end e r kind.Waits = refl
+same_end e r kind.Tries = refl
 same_end e r kind.Forks = refl
 same_end e r kind.Ends = refl
 same_end e r kind.Over = refl

@@ -3,7 +3,7 @@ use Rattle.std.proofs.Common.{◌≡◌, ◌≤◌, ◌<◌, ◌+◌, ℕ, zero,
 use Rattle.std.specs.Prelude.{codes, take, drop, slice_index_or}
 use Rattle.edi_kernel.specs.declared.ends.Ending.{Ending}
 use Rattle.edi_timeline.specs.declared.rows.Row.{Row}
-use Rattle.edi_timeline.specs.Text.{stint_text, lines_text, most_lines, text_of}
+use Rattle.edi_timeline.specs.Text.{stint_text, lines_text, most_lines, cut_text, text_of}
 use Rattle.edi_timeline.specs.Told.{stint_in, stints_in}
 
 pub as_many : (e : Ending) (all : List Row) (used : ℕ) (rows : List Row) → length (stints_in e all used rows) ≡ length rows
@@ -57,11 +57,18 @@ dropped zero (x ∷ xs) l = absurd (omega (arith, l))
 dropped (suc n) [] l = refl
 dropped (suc n) (x ∷ xs) l = dropped n xs (omega (arith, l))
 
--- behind the last row the lines are the text
-pub all_lines : (e : Ending) (rows : List Row) (used number k : ℕ) (out : List ℕ) → length rows ≤ k → length rows ≤ most_lines →
-    out ++ lines_text number (stints_in e rows used (drop k rows)) ≡ lines_text 1 (stints_in e rows 0 rows) → out ≡ text_of (stints_in e rows 0 rows)
-all_lines e rows used number k out l few is =
+-- behind the last row the lines are all lines
+pub all_lines : (e : Ending) (rows : List Row) (used number k : ℕ) (out : List ℕ) → length rows ≤ k →
+    out ++ lines_text number (stints_in e rows used (drop k rows)) ≡ lines_text 1 (stints_in e rows 0 rows) → out ≡ lines_text 1 (stints_in e rows 0 rows)
+all_lines e rows used number k out l is =
     sym (append-nil out)
     ∙ ap (λ (rs : List Row). out ++ lines_text number (stints_in e rows used rs)) (sym (dropped k rows l))
     ∙ is
-    ∙ ap (lines_text 1) (sym (taken_whole most_lines (stints_in e rows 0 rows) (omega (arith, few, as_many e rows 0 rows))))
+
+-- the lines are those of the text, where there are no more of them than it may have
+pub whole_lines : (e : Ending) (rows : List Row) (count : ℕ) (lines out : List ℕ) → length rows ≤ most_lines → lines ≡ lines_text 1 (stints_in e rows 0 rows) →
+    out ≡ lines ++ cut_text count → out ≡ text_of count (stints_in e rows 0 rows)
+whole_lines e rows count lines out few is more =
+    more
+    ∙ ap (λ l. l ++ cut_text count)
+    (is ∙ ap (lines_text 1) (sym (taken_whole most_lines (stints_in e rows 0 rows) (omega (arith, few, as_many e rows 0 rows)))))

@@ -5,3 +5,7 @@ pub mod Laned
 pub mod Boxed
 pub mod Chains
 pub mod Whole
+pub mod Rowed
+pub mod Growing
+pub mod Keeping
+pub mod Telling

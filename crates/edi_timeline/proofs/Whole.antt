@@ -7,7 +7,7 @@ use Rattle.std.proofs.lemmas.List.{length-map, take-map}
 use Rattle.edi_calls.specs.Names.{Name, same}
 use Rattle.edi_calls.specs.Ready.{parent_of}
 use Rattle.edi_timeline.specs.Stints.{Stint, ends}
-use Rattle.edi_timeline.specs.Text.{head_text, start_text, end_text, characters_text, shown_text, stint_text, lines_text, most_lines, text_of, kept}
+use Rattle.edi_timeline.specs.Text.{head_text, start_text, end_text, characters_text, shown_text, stint_text, lines_text, most_lines, cut_text, text_of, kept}
 use Rattle.edi_timeline.specs.Picture.{lanes_behind, with_lane, lanes_of, lane_of, line_back, line_to, box, boxes, shown_above, ending_of, drawn, body, headed, opened, width}
 use Rattle.edi_timeline.specs.Picture.{height, most_boxes, picture_of, over_column, moved, column_x, lane_y, rectangle, inside, escaped_text, lane_names, key}
 use Rattle.edi_timeline.specs.Timelines.{told_of}
@@ -51,11 +51,12 @@ same_lines : (n : ℕ) (xs : List Stint) → lines_text n (map kept xs) ≡ line
 same_lines n [] = refl
 same_lines n (x ∷ xs) = (λ i. same_line n x i ++ (codes "\n" ++ same_lines (suc n) xs i))
 
-pub whole_text : (xs : List Stint) → text_of (told_of xs).stints ≡ text_of xs
+pub whole_text : (xs : List Stint) → text_of (told_of xs).count (told_of xs).stints ≡ text_of (length xs) xs
 whole_text xs =
-    ap (lines_text 1)
+    ap (λ ls. ls ++ cut_text (length xs))
+    (ap (lines_text 1)
     (taken_whole most_lines (map kept (take most_lines xs)) (omega (arith, length-map (take most_lines xs) kept, length-take most_lines xs)))
-    ∙ same_lines 1 (take most_lines xs)
+    ∙ same_lines 1 (take most_lines xs))
 
 -- ---- the picture
 

@@ -4,4 +4,7 @@ pub mod Picture
 pub mod Told
 pub mod Sheet
 pub mod Timelines
+pub mod Adding
+pub mod Entered
 pub mod Rows
+pub mod AddingRows

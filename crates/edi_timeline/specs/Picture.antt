@@ -5,7 +5,7 @@ use Rattle.std.specs.Fmt.{decimal}
 use Rattle.edi_calls.specs.Names.{Name, same}
 use Rattle.edi_calls.specs.Outcome as outcome
 use Rattle.edi_calls.specs.Ready.{has, parent_of}
-use Rattle.edi_timeline.specs.Stints.{Start, at, End, arrives, waits, forks, ends, over, Stint}
+use Rattle.edi_timeline.specs.Stints.{Start, at, End, arrives, waits, tries, forks, ends, over, Stint}
 use Rattle.edi_timeline.specs.Text.{process_text, ending_text, stint_text, characters_text}
 
 -- ---- characters
@@ -56,9 +56,14 @@ moved x y = codes "<g transform=\"translate(" ++ (decimal x ++ (codes " " ++ (de
 
 -- ---- a lane
 
+-- after an attempt that has failed
+abbrev pub waiting_line : List ℕ
+waiting_line = codes "stroke=\"#000\" stroke-width=\"2\" stroke-dasharray=\"4 3\""
+
 -- how a stint leaves its lane until the next one: ready, waiting at its `when`, or waiting for its branches
 abbrev pub line_kind : End → List ℕ
-line_kind waits = codes "stroke=\"#000\" stroke-width=\"2\" stroke-dasharray=\"4 3\""
+line_kind waits = waiting_line
+line_kind tries = waiting_line
 line_kind (forks n) = codes "stroke=\"#666\" stroke-width=\"2\" stroke-dasharray=\"1 4\""
 line_kind end = codes "stroke=\"#56a8d8\" stroke-width=\"4\""
 
@@ -76,8 +81,13 @@ line_to p columns (y ∷ ys) =
 
 -- ---- a box
 
+-- of an attempt that has failed
+abbrev pub waiting_box : List ℕ
+waiting_box = codes "<rect width=\"32\" height=\"26\" fill=\"#fff\" stroke=\"#000\" stroke-width=\"2\" stroke-dasharray=\"4 2\"/>"
+
 abbrev pub rectangle : End → List ℕ
-rectangle waits = codes "<rect width=\"32\" height=\"26\" fill=\"#fff\" stroke=\"#000\" stroke-width=\"2\" stroke-dasharray=\"4 2\"/>"
+rectangle waits = waiting_box
+rectangle tries = waiting_box
 rectangle ends = codes "<rect width=\"32\" height=\"26\" rx=\"13\" fill=\"#fff\" stroke=\"#000\"/>"
 rectangle (over outcome.done) = codes "<rect width=\"32\" height=\"26\" rx=\"13\" fill=\"#fff\" stroke=\"#000\"/>"
 rectangle (over ending) = codes "<rect width=\"32\" height=\"26\" fill=\"#000\"/>"

@@ -1,5 +1,5 @@
 -- Computed rows. Small programs, run by their meaning: their stints, and the lines of these. The text of each stands in its comment, with its lines.
-use Rattle.std.specs.Prelude.{◌≡◌, ℕ, zero, suc, pos, List, [], ◌∷◌, ◌++◌, take, codes, None, refl}
+use Rattle.std.specs.Prelude.{◌≡◌, ℕ, zero, suc, pos, List, [], ◌∷◌, ◌++◌, take, codes, Some, None, refl}
 use Rattle.std.specs.Fmt.{digits}
 use Rattle.edi_calls.specs.Choice.{listed}
 use Rattle.edi_calls.specs.Names.{Name}
@@ -9,11 +9,11 @@ use Rattle.edi_unit.specs.declared.expressions.Operator.TheVariants as op
 use Rattle.edi_unit.specs.declared.expressions.Callee.TheVariants as callee
 use Rattle.edi_unit.specs.declared.units.BlockKind.TheVariants as kind
 use Rattle.edi_unit.specs.Values.{zero_value}
-use Rattle.edi_unit.specs.Tree.{Act, convert, by_value, no_argument, argument_then, skip, assign, call, halt, when_act, cobegin, ProgramUnit}
+use Rattle.edi_unit.specs.Tree.{Act, apply_of, convert, by_value, no_argument, argument_then, skip, assign, call, halt, when_act, cobegin, ProgramUnit}
 use Rattle.edi_meaning.specs.Select.{Selected, unfinished, finished, select_from_start}
 use Rattle.edi_meaning.specs.Rows.{empty_system, variable, value_of, number, true_value, false_value, two, one_clause, block_of, program_of, head}
-use Rattle.edi_timeline.specs.Stints.{begin, join, at, arrives, waits, forks, ends, over, Start, End, Stint, stints_of}
-use Rattle.edi_timeline.specs.Text.{process_text, stint_text, lines_text}
+use Rattle.edi_timeline.specs.Stints.{begin, join, at, arrives, waits, tries, forks, ends, over, Start, End, Stint, stints_of}
+use Rattle.edi_timeline.specs.Text.{process_text, stint_text, lines_text, cut_text}
 use Rattle.edi_timeline.specs.Picture.{lanes_of, line_to, box, heading}
 
 -- ---- executions of at most forty turns, and eighty steps
@@ -168,13 +168,16 @@ program_that_halts =
     ∷ [])
 
 -- The attempt takes no turn, and the halt takes none: the last stint has none.
-pub row_halts : timeline program_that_halts [] ≡
+abbrev pub halted : List Stint
+halted =
     row 1 2 [] begin (forks 1) []
     ∷ row 3 3 (branch 1) begin (forks 2) []
     ∷ row 4 4 (1 ∷ 0 ∷ 1 ∷ 0 ∷ []) begin ends []
     ∷ row 5 5 (1 ∷ 0 ∷ 1 ∷ 1 ∷ []) begin (arrives (5 ∷ [])) []
     ∷ row 6 5 (1 ∷ 0 ∷ 1 ∷ 1 ∷ []) (at (5 ∷ [])) (over (outcome.halted 5)) []
     ∷ []
+
+pub row_halts : timeline program_that_halts [] ≡ halted
 unfolding zero_value
 row_halts = refl
 
@@ -182,6 +185,43 @@ pub row_no_turn : stint_text 5 (row 6 5 (1 ∷ 0 ∷ 1 ∷ 1 ∷ []) (at (5 ∷ 
     ≡ codes "5 no turn process 1.1/1.2 from 5 line 5 halt"
 unfolding digits
 row_no_turn = refl
+
+-- ---- a condition that calls a function
+
+-- 1 proc main
+-- 2 var x: bool
+-- 3 proc is_set: bool begin val is_set := x end
+-- 4 begin
+-- 5   cobegin 1 do when is_set do skip end
+-- 6   also 2 do x := true end
+-- 7 end
+abbrev pub program_that_tries : ProgramUnit
+program_that_tries =
+    program_of [] []
+    (block_of kind.Program 0 None [] (2 ∷ []) 8 (cobegin (2 ∷ 3 ∷ []) 5 ∷ [])
+    ∷ block_of kind.Function 0 (Some 2) [] [] 8 (assign (variable 0 0) (value_of 1 0) ∷ [])
+    ∷ block_of kind.Branch 0 None [] [] 8 (when_act (one_clause (apply_of (callee.Block 1 1) no_argument 5) (skip ∷ [])) 5 ∷ [])
+    ∷ block_of kind.Branch 0 None [] [] 8 (assign (variable 1 0) true_value ∷ [])
+    ∷ [])
+
+-- The call of the function and its end take a turn each, and the attempt that fails takes one more.
+abbrev pub tried : List Stint
+tried =
+    row 1 2 [] begin (forks 2) []
+    ∷ row 3 3 (branch 1) begin (arrives (5 ∷ [])) []
+    ∷ row 4 6 (branch 1) (at (5 ∷ [])) tries []
+    ∷ row 7 7 (branch 2) begin ends []
+    ∷ row 8 10 (branch 1) (at (5 ∷ [])) ends []
+    ∷ row 11 11 [] join (over outcome.done) []
+    ∷ []
+
+pub row_tried : timeline program_that_tries (0 ∷ 1 ∷ []) ≡ tried
+unfolding zero_value
+row_tried = refl
+
+pub row_tries : stint_text 3 (row 4 6 (branch 1) (at (5 ∷ [])) tries []) ≡ codes "3 turns 4 6 process 1.1 from 5 tries"
+unfolding digits
+row_tries = refl
 
 -- ---- words
 
@@ -200,6 +240,11 @@ pub row_six : (stint_text 1 (row 1 1 [] begin ends (codes "123456")) ≡ codes "
     × (stint_text 1 (row 1 1 [] begin ends (codes "1234567")) ≡ codes "1 turns 1 1 process main from begin ends shown \"123456\"..")
 unfolding digits
 row_six = (refl, refl)
+
+-- a text that is cut
+pub row_cut : (cut_text 100000 ≡ []) × (cut_text 100001 ≡ codes "first 100000 of 100001 stints\n")
+unfolding digits
+row_cut = (refl, refl)
 
 -- ---- the picture
 

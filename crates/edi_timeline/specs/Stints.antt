@@ -66,11 +66,12 @@ pub data Start : Type 0 where
   join : Start
   at : List ℕ → Start
 
--- how it ends: at the `when` of a place; by an attempt that has failed and changed nothing; by a fork into so many branches; with its
--- process; or with the run
+-- how it ends: at the `when` of a place; by an attempt that has failed and changed nothing; by one that has failed after a call of a function
+-- may have changed something; by a fork into so many branches; with its process; or with the run
 pub data End : Type 0 where
   arrives : List ℕ → End
   waits : End
+  tries : End
   forks : (branches : ℕ) → End
   ends : End
   over : Ending → End
@@ -87,6 +88,15 @@ pub record Stint : Type 0 where
 
 -- ---- along an execution
 
+-- whether a step is an attempt: its process stands at its `when` before it
+abbrev pub is_at_when : Standing → Bool
+is_at_when (at_when cs position) = true
+is_at_when standing = false
+
+abbrev pub attempts : Option Process → Bool
+attempts None = false
+attempts (Some q) = is_at_when q.standing
+
 module _ (unit : ProgramUnit) where
   -- how a process is taken
   abbrev pub started : Process → Standing → Start
@@ -97,16 +107,20 @@ module _ (unit : ProgramUnit) where
   start_of None = begin
   start_of (Some q) = started q q.standing
 
-  -- how the step that ends its stint leaves it
-  abbrev pub stopped : Process → Standing → End
-  stopped q (at_when cs position) = arrives (place unit position q.work)
-  stopped q (waiting n) = forks n
-  stopped q ready = ends
+  -- how an attempt that has failed ends a stint; the test says whether none of its conditions calls a function
+  abbrev pub failed_as : (quiet : Bool) → End
+  failed_as true = waits
+  failed_as false = tries
 
-  abbrev pub end_of : (quiet : Bool) → Option Process → End
-  end_of true after = waits
-  end_of false None = ends
-  end_of false (Some q) = stopped q q.standing
+  -- How the step that ends its stint leaves it: one that was taken at a `when`, and stands there again, has failed in its attempt.
+  abbrev pub stopped : (attempt quiet : Bool) → Process → Standing → End
+  stopped attempt quiet q (at_when cs position) = if attempt then failed_as quiet else arrives (place unit position q.work)
+  stopped attempt quiet q (waiting n) = forks n
+  stopped attempt quiet q ready = ends
+
+  abbrev pub end_of : (attempt quiet : Bool) → Option Process → End
+  end_of attempt quiet None = ends
+  end_of attempt quiet (Some q) = stopped attempt quiet q q.standing
 
 -- a stint that has begun: whose it is, with how many turns left, from where, and behind how many bytes that were shown
 pub record Begun : Type 0 where
@@ -138,17 +152,18 @@ module _ (unit : ProgramUnit) (bound : ℕ) where
   abbrev pub stopping : Begun → End → Processes → Stint
   stopping b end s = stint bound b end s.world.turns s.world.system.now.shown
 
-  -- A step of p, behind which these step. Where it ends its stint and nobody steps any more, the run is at a standstill.
-  abbrev pub onward : Stepped → Name → List Name → Begun → (more : Begun → Processes → List Stint) → List Stint
-  onward (ended ending system turns) p order b more = stint bound b (over ending) turns system.now.shown ∷ []
-  onward (went s stays quiet) p order b more = more b s
-  onward (went s (joins ps) quiet) p [] b more = stopping b (over outcome.standstill) s ∷ []
-  onward (went s (joins ps) quiet) p (q ∷ order) b more = stopping b (end_of unit quiet (find s.live p)) s ∷ more (begun s q) s
+  -- A step of p, an attempt or not, behind which these step. Where it ends its stint and nobody steps any more, the run is at a standstill.
+  abbrev pub onward : Stepped → (attempt : Bool) → Name → List Name → Begun → (more : Begun → Processes → List Stint) → List Stint
+  onward (ended ending system turns) attempt p order b more = stint bound b (over ending) turns system.now.shown ∷ []
+  onward (went s stays quiet) attempt p order b more = more b s
+  onward (went s (joins ps) quiet) attempt p [] b more = stopping b (over outcome.standstill) s ∷ []
+  onward (went s (joins ps) quiet) attempt p (q ∷ order) b more =
+      stopping b (end_of unit attempt quiet (find s.live p)) s ∷ more (begun s q) s
 
   -- the stints along the steps of these processes, one after another
   abbrev pub along : List Name → Begun → Processes → List Stint
   along [] b s = []
-  along (p ∷ order) b s = onward (step unit s p) p order b (along order)
+  along (p ∷ order) b s = onward (step unit s p) (attempts (find s.live p)) p order b (along order)
 
 -- THE STINTS of the execution in which these processes step
 abbrev pub stints_of : ProgramUnit → State → (bound : ℕ) → (order : List Name) → List Stint

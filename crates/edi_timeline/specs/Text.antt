@@ -1,4 +1,4 @@
--- Definition. THE TEXT of a timeline: a line for each of the first 100,000 stints.
+-- Definition. THE TEXT of a timeline: a line for each of the first 100,000 stints, and one that says so where there are more.
 use Rattle.std.specs.Prelude.{ℕ, suc, Bool, ◌&&◌, ◌==◌, not, nat_le, nat_lt, if◌then◌else◌, List, [], ◌∷◌, ◌++◌, length, take, codes}
 use Rattle.std.specs.Fmt.{decimal}
 use Rattle.edi_calls.specs.declared.kinds.Cause.TheVariants as cause
@@ -6,7 +6,7 @@ use Rattle.edi_calls.specs.Names.{Name}
 use Rattle.edi_calls.specs.Outcome as outcome
 use Rattle.edi_calls.specs.Outcome.{Ending}
 use Rattle.edi_texts.specs.Lines.{cause_text, on_line, with_number}
-use Rattle.edi_timeline.specs.Stints.{Start, begin, join, at, End, arrives, waits, forks, ends, over, Stint}
+use Rattle.edi_timeline.specs.Stints.{Start, begin, join, at, End, arrives, waits, tries, forks, ends, over, Stint}
 
 -- ---- words
 
@@ -45,6 +45,7 @@ ending_text (outcome.bad address) = with_number (codes "bad code state") address
 abbrev pub end_text : End → List ℕ
 end_text (arrives lines) = codes "arrives" ++ place_text lines
 end_text waits = codes "waits"
+end_text tries = codes "tries"
 end_text (forks n) = codes "forks " ++ decimal n
 end_text ends = codes "ends"
 end_text (over ending) = ending_text ending
@@ -96,9 +97,13 @@ lines_text number (x ∷ xs) = stint_text number x ++ (codes "\n" ++ lines_text 
 abbrev pub most_lines : ℕ
 most_lines = 100000
 
--- THE TEXT
-abbrev pub text_of : List Stint → List ℕ
-text_of xs = lines_text 1 (take most_lines xs)
+-- a text that is cut says of how many stints it has the first
+abbrev pub cut_text : (count : ℕ) → List ℕ
+cut_text count = if nat_le count most_lines then [] else codes "first 100000 of " ++ (decimal count ++ codes " stints\n")
+
+-- THE TEXT, of the first 100,000 of so many stints
+abbrev pub text_of : (count : ℕ) → List Stint → List ℕ
+text_of count xs = lines_text 1 (take most_lines xs) ++ cut_text count
 
 -- ---- what a timeline keeps of a stint
 

@@ -4,7 +4,7 @@ use Rattle.edi_calls.specs.Names.{Name}
 use Rattle.edi_calls.specs.Outcome as outcome
 use Rattle.edi_kernel.specs.declared.ends.Ending.{Ending}
 use Rattle.edi_kernel.specs.declared.ends.Ending.TheVariants as ending
-use Rattle.edi_timeline.specs.Stints.{Start, begin, join, at, End, arrives, waits, forks, ends, over, Stint}
+use Rattle.edi_timeline.specs.Stints.{Start, begin, join, at, End, arrives, waits, tries, forks, ends, over, Stint}
 use Rattle.edi_timeline.specs.declared.rows.Row.{Row}
 use Rattle.edi_timeline.specs.declared.rows.Kind.{Kind}
 use Rattle.edi_timeline.specs.declared.rows.Kind.TheVariants as kind
@@ -55,6 +55,7 @@ process_in rows r = name_of (path_of rows r)
 abbrev pub start_behind : Row → Kind → Start
 start_behind r kind.Arrives = at (place_of r)
 start_behind r kind.Waits = at (place_of r)
+start_behind r kind.Tries = at (place_of r)
 start_behind r _ = join
 
 abbrev pub start_in : List Row → Row → Start
@@ -63,6 +64,7 @@ start_in rows r = if r.before == 0 then begin else start_behind (numbered rows r
 abbrev pub end_as : Ending → Row → Kind → End
 end_as e r kind.Arrives = arrives (place_of r)
 end_as e r kind.Waits = waits
+end_as e r kind.Tries = tries
 end_as e r kind.Forks = forks r.many
 end_as e r kind.Ends = ends
 end_as e r kind.Over = over (meant e)

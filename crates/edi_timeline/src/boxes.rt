@@ -79,7 +79,7 @@ fn put_line_kind(out: &mut Vec<u8>, kind: Kind) -> Result<(), AllocError>
     ensures exact { OnOk result (out.new.items ≡ out.old.items ++ spec.line_kind (told.end_as Ending.Done told.no_row kind)) }
 {
     match kind {
-        Kind::Waits => out.extend_from_slice(
+        Kind::Waits | Kind::Tries => out.extend_from_slice(
             b"stroke=\"#000\" stroke-width=\"2\" stroke-dasharray=\"4 3\"",
         )?,
         Kind::Forks => out.extend_from_slice(
@@ -130,7 +130,7 @@ fn put_rectangle(out: &mut Vec<u8>, row: &Row, ending: Ending) -> Result<(), All
     ensures exact { OnOk result (out.new.items ≡ out.old.items ++ spec.rectangle (told.end_as ending row.now row.now.kind)) }
 {
     match (row.kind, ending) {
-        (Kind::Waits, _) => out.extend_from_slice(
+        (Kind::Waits | Kind::Tries, _) => out.extend_from_slice(
             b"<rect width=\"32\" height=\"26\" fill=\"#fff\" stroke=\"#000\" stroke-width=\"2\" stroke-dasharray=\"4 2\"/>",
         )?,
         (Kind::Ends, _) | (Kind::Over, Ending::Done) => out.extend_from_slice(
@@ -175,7 +175,7 @@ fn put_behind(out: &mut Vec<u8>, row: &Row) -> Result<(), AllocError>
     ensures exact { OnOk result (out.new.items ≡ out.old.items ++ spec.box_text (told.start_behind row.now row.now.kind)) }
 {
     match row.kind {
-        Kind::Arrives | Kind::Waits => put_first_line(out, row.place()),
+        Kind::Arrives | Kind::Waits | Kind::Tries => put_first_line(out, row.place()),
         Kind::Forks | Kind::Ends | Kind::Over => {
             out.extend_from_slice(b"&#183;")?;
             Ok(())

@@ -2,13 +2,16 @@
 //! (`specs/Stints`), `text_of` (`specs/Text`) and `picture_of` (`specs/Picture`).
 #![tactic(auto)]
 
+mod adding;
 mod boxes;
+mod entry;
 mod lanes;
 pub mod laws;
 mod picture;
 mod rows;
 mod text;
 mod timeline;
-mod words;
+pub mod words;
 
+pub use entry::{Came, Place, Said, Seat};
 pub use timeline::Timeline;

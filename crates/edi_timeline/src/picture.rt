@@ -62,7 +62,7 @@ fn put_end_of_run(out: &mut Vec<u8>, kind: Kind, ending: Ending) -> Result<(), A
             out.extend_from_slice(b": ")?;
             put_ending(out, ending)
         }
-        Kind::Arrives | Kind::Waits | Kind::Forks | Kind::Ends => Ok(()),
+        Kind::Arrives | Kind::Waits | Kind::Tries | Kind::Forks | Kind::Ends => Ok(()),
     }
 }
 

@@ -8,6 +8,7 @@ ghost use Rattle.edi_timeline.specs.Told as spec;
 pub(crate) enum Kind {
     Arrives,
     Waits,
+    Tries,
     Forks,
     Ends,
     Over,
@@ -24,7 +25,7 @@ pub(crate) struct Row {
     pub(crate) fork: u32,
     /// The stint of its process before it, and 0 for the first one.
     pub(crate) before: u32,
-    /// The place where its process stands after it, where it arrives or waits.
+    /// The place where its process stands after it, where it arrives, waits or tries.
     pub(crate) lines: [u16; 5],
     /// The first characters that were shown.
     pub(crate) shown: [u8; 7],

@@ -16,7 +16,7 @@ fn put_behind(out: &mut Vec<u8>, row: &Row) -> Result<(), AllocError>
     ensures exact { OnOk result (out.new.items ≡ out.old.items ++ spec.start_text (told.start_behind row.now row.now.kind)) }
 {
     match row.kind {
-        Kind::Arrives | Kind::Waits => put_place(out, row.place()),
+        Kind::Arrives | Kind::Waits | Kind::Tries => put_place(out, row.place()),
         Kind::Forks | Kind::Ends | Kind::Over => {
             out.extend_from_slice(b" join")?;
             Ok(())
@@ -36,6 +36,10 @@ fn put_end(out: &mut Vec<u8>, row: &Row, ending: Ending) -> Result<(), AllocErro
         }
         Kind::Waits => {
             out.extend_from_slice(b"waits")?;
+            Ok(())
+        }
+        Kind::Tries => {
+            out.extend_from_slice(b"tries")?;
             Ok(())
         }
         Kind::Forks => {
@@ -170,11 +174,11 @@ pub(crate) fn put_stint(
     put_tail(out, rows, used, row, ending)
 }
 
-// The text of rows, of a run that has ended so, if it has ended.
-pub(crate) fn text_of(alloc: Global, rows: &[Row], ending: Ending) -> Result<Vec<u8>, AllocError>
+// The lines of rows, of a run that has ended so, if it has ended.
+fn lines_of(alloc: Global, rows: &[Row], ending: Ending) -> Result<Vec<u8>, AllocError>
     requires rows { All IsRow rows.now }
     requires few { length rows.now ≤ 100000 }
-    ensures exact { IfOk result (λ text. text.items ≡ spec.text_of (told.stints_in ending rows.now 0 rows.now)) }
+    ensures exact { IfOk result (λ text. text.items ≡ spec.lines_text 1 (told.stints_in ending rows.now 0 rows.now)) }
 {
     let mut out = Vec::new(alloc);
     let mut number: u32 = 0;
@@ -185,5 +189,34 @@ pub(crate) fn text_of(alloc: Global, rows: &[Row], ending: Ending) -> Result<Vec
         out.extend_from_slice(b"\n")?;
         used = row.used;
     }
+    Ok(out)
+}
+
+// Puts that these are the first of so many stints, where there are more.
+fn put_cut(out: &mut Vec<u8>, count: u64) -> Result<(), AllocError>
+    ensures exact { OnOk result (out.new.items ≡ out.old.items ++ spec.cut_text count) }
+{
+    if count <= 100_000 {
+        return Ok(());
+    }
+    out.extend_from_slice(b"first 100000 of ")?;
+    put_number(out, count)?;
+    out.extend_from_slice(b" stints\n")?;
+    Ok(())
+}
+
+// The text of rows, the first of so many stints, of a run that has ended so, if it has ended.
+pub(crate) fn text_of(
+    alloc: Global,
+    rows: &[Row],
+    count: u64,
+    ending: Ending,
+) -> Result<Vec<u8>, AllocError>
+    requires rows { All IsRow rows.now }
+    requires few { length rows.now ≤ 100000 }
+    ensures exact { IfOk result (λ text. text.items ≡ spec.text_of count (told.stints_in ending rows.now 0 rows.now)) }
+{
+    let mut out = lines_of(alloc, rows, ending)?;
+    put_cut(&mut out, count)?;
     Ok(out)
 }

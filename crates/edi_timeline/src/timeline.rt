@@ -1,10 +1,13 @@
 //! A timeline.
 
-ghost use Rattle.std.specs.Prelude.{◌≡◌, [], IfOk};
+ghost use Rattle.std.specs.Prelude.{◌≡◌, ◌≤◌, ◌<◌, ◌-◌, ◌^◌, [], IfOk, true, nat_le};
+ghost use Rattle.edi_timeline.specs.Adding.{CameFits, SeatFits, added, counted, is_going};
 ghost use Rattle.edi_timeline.specs.Text as text;
 ghost use Rattle.edi_timeline.specs.Picture as picture;
 ghost use Rattle.edi_timeline.specs.Timelines.{told_in, IsTimeline};
 
+use crate::adding::{count_one, is_full, put_or_count};
+use crate::entry::{Came, Said, Seat};
 use crate::picture::picture_of;
 use crate::rows::Row;
 use crate::text::text_of;
@@ -23,6 +26,14 @@ pub(crate) struct Kept {
     pub(crate) count: u64,
     /// How it has ended, if it has.
     pub(crate) ending: Ending,
+}
+
+// The text of what is kept.
+fn text_in(alloc: Global, kept: &Kept) -> Result<Vec<u8>, AllocError>
+    requires kept { IsTimeline kept.now }
+    ensures exact { IfOk result (λ bytes. bytes.items ≡ text.text_of (told_in kept.now).count (told_in kept.now).stints) }
+{
+    text_of(alloc, &kept.rows, kept.count, kept.ending)
 }
 
 // The picture of what is kept.
@@ -65,11 +76,48 @@ impl Timeline {
         })
     }
 
-    /// Its text: a line for each of the stints. The only error is want of memory.
-    pub fn text(&self, alloc: Global) -> Result<Vec<u8>, AllocError>
-        ensures exact { IfOk result (λ bytes. bytes.items ≡ text.text_of self.now.stints) }
+    /// The number of stints.
+    pub fn count(&self) -> u64
+        ensures { result ≡ self.now.count }
     {
-        text_of(alloc, &self.kept.rows, self.kept.ending)
+        self.kept.count
+    }
+
+    /// Whether further stints are only counted.
+    pub fn is_full(&self) -> bool
+        ensures { result ≡ nat_le 100000 self.now.count }
+    {
+        is_full(&self.kept)
+    }
+
+    /// Counts a stint more, of a run of which no further stints are kept.
+    pub fn skip(&mut self)
+        requires full { 100000 ≤ self.old.count }
+        requires small { self.old.count < 2 ^ 64 - 1 }
+        ensures exact { self.new ≡ counted self.old }
+    {
+        count_one(&mut self.kept);
+    }
+
+    /// Adds a stint that ended when so many turns were used in all. Where 100,000 are kept already, it is only counted. It takes no memory.
+    ///
+    /// By `laws::timelines_grow` a timeline that tells the stints of a run then tells them and this one.
+    pub fn add(&mut self, seat: Seat, came: Came, used: u32, said: Said)
+        requires going { is_going self.old.stints ≡ true }
+        requires seat { SeatFits self.old.stints seat came }
+        requires came { CameFits came }
+        requires said { said.many ≤ 7 }
+        requires small { self.old.count < 2 ^ 64 - 1 }
+        ensures exact { self.new ≡ added self.old seat came used said }
+    {
+        put_or_count(&mut self.kept, seat, came, used, said);
+    }
+
+    /// Its text: a line for each of the stints, and how many there were where it has the first 100,000 of them. The only error is want of memory.
+    pub fn text(&self, alloc: Global) -> Result<Vec<u8>, AllocError>
+        ensures exact { IfOk result (λ bytes. bytes.items ≡ text.text_of self.now.count self.now.stints) }
+    {
+        text_in(alloc, &self.kept)
     }
 
     /// Its picture, of the first 1,000 stints, as SVG. The only error is want of memory.

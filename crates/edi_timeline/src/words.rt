@@ -1,4 +1,4 @@
-//! The words of a line, put behind bytes.
+//! The words of a line, put after bytes.
 
 ghost use Rattle.std.specs.Prelude.{◌≡◌, ◌+◌, ◌++◌, ◌∷◌, ◌<◌, ◌≤◌, ◌^◌, [], OnOk, codes, decimal, length};
 ghost use Rattle.edi_calls.specs.Outcome as outcome;
@@ -11,8 +11,8 @@ use edi_texts::cause_text;
 use itoa::Buffer;
 use std::alloc::AllocError;
 
-// Puts a number behind bytes.
-pub(crate) fn put_number(out: &mut Vec<u8>, number: u64) -> Result<(), AllocError>
+/// Puts a number after bytes. The only error is that memory ran out, as everywhere here.
+pub fn put_number(out: &mut Vec<u8>, number: u64) -> Result<(), AllocError>
     ensures exact { OnOk result (out.new.items ≡ out.old.items ++ decimal number) }
 {
     let mut buffer = Buffer::new();
@@ -54,8 +54,8 @@ pub(crate) fn put_turns(out: &mut Vec<u8>, first: u64, last: u64) -> Result<(), 
     put_number(out, last)
 }
 
-// Puts `line N CAUSE`.
-fn put_cause(out: &mut Vec<u8>, line: u16, cause: Cause) -> Result<(), AllocError>
+/// Puts `line N CAUSE`.
+pub fn put_cause(out: &mut Vec<u8>, line: u16, cause: Cause) -> Result<(), AllocError>
     ensures exact { OnOk result (out.new.items ≡ out.old.items ++ spec.ending_text (outcome.failed cause line)) }
 {
     out.extend_from_slice(b"line ")?;
@@ -65,8 +65,8 @@ fn put_cause(out: &mut Vec<u8>, line: u16, cause: Cause) -> Result<(), AllocErro
     Ok(())
 }
 
-// Puts `bad code state A`.
-fn put_bad(out: &mut Vec<u8>, address: u32) -> Result<(), AllocError>
+/// Puts `bad code state A`.
+pub fn put_bad(out: &mut Vec<u8>, address: u32) -> Result<(), AllocError>
     ensures exact { OnOk result (out.new.items ≡ out.old.items ++ spec.ending_text (outcome.bad address)) }
 {
     out.extend_from_slice(b"bad code state")?;
@@ -75,8 +75,8 @@ fn put_bad(out: &mut Vec<u8>, address: u32) -> Result<(), AllocError>
     Ok(())
 }
 
-// Puts how a run has ended. A fault is kept in no timeline.
-pub(crate) fn put_ending(out: &mut Vec<u8>, ending: Ending) -> Result<(), AllocError>
+/// Puts how a run has ended. A fault is kept in no timeline: it would be put as `bad code state 0`.
+pub fn put_ending(out: &mut Vec<u8>, ending: Ending) -> Result<(), AllocError>
     ensures exact { OnOk result (out.new.items ≡ out.old.items ++ spec.ending_text (meant ending)) }
 {
     match ending {

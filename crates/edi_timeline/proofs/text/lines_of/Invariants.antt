@@ -1,7 +1,7 @@
 use Rattle.std.proofs.Common.{◌≡◌, suc, ◌++◌, drop}
 use Rattle.edi_timeline.specs.Text.{lines_text}
 use Rattle.edi_timeline.specs.Told.{stints_in}
-use Rattle.edi_timeline.proofs.text.text_of.Given as goal
+use Rattle.edi_timeline.proofs.text.lines_of.Given as goal
 
 abbrev pub invariant-loop-row : goal.invariant-loop-row
 invariant-loop-row l = record {

@@ -1,0 +1,18 @@
+use Rattle.std.proofs.Common.{◌≡◌, ℕ, suc, ◌+◌, ap, arith}
+use Rattle.edi_timeline.specs.Timelines.{Told, told_in}
+use Rattle.edi_timeline.proofs.adding.count_one.Goals as goal
+
+pub returns-clause-exact : goal.returns-clause-exact
+returns-clause-exact c =
+    let one : c.args.kept.now.count + 1 ≡ suc c.args.kept.now.count = omega arith in
+    let with_count : ℕ → Told = λ n. record (told_in c.args.kept.now) { count = n } in
+    ap with_count one
+
+pub returns-clause-kept : goal.returns-clause-kept
+returns-clause-kept c = record {
+  rows = c.requires.kept.rows;
+  few = c.requires.kept.few;
+  room = c.requires.kept.room;
+  counted = λ l. absurd (omega (arith, l, c.requires.full));
+  stood = c.requires.kept.stood;
+}

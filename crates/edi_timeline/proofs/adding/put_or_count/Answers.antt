@@ -1,0 +1,13 @@
+use Rattle.std.proofs.Common.{◌≡◌, ◌∙◌, sym, arith}
+use Rattle.std.proofs.lemmas.Bool.{leb-true, leb-false}
+use Rattle.edi_timeline.specs.Timelines.{told_in}
+use Rattle.edi_timeline.proofs.Growing.{added_full}
+use Rattle.edi_timeline.proofs.adding.put_or_count.Goals as goal
+
+pub count_one-requires-clause-full : goal.count_one-requires-clause-full
+count_one-requires-clause-full c = leb-true 100000 c.args.kept.now.count (sym c.is_full.ensures.exact ∙ c.if-is_full.true)
+
+pub returns-then-is_full-clause-exact : goal.returns-then-is_full-clause-exact
+returns-then-is_full-clause-exact c =
+    c.count_one.ensures.exact
+    ∙ added_full (told_in c.args.kept.now) c.args.seat c.args.came c.args.used c.args.said (sym c.is_full.ensures.exact ∙ c.if-is_full.true)

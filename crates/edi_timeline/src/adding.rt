@@ -1,0 +1,134 @@
+//! A stint more.
+
+ghost use Rattle.std.specs.Prelude.{◌≡◌, ◌<◌, ◌≤◌, ◌-◌, ◌^◌, true, nat_le};
+ghost use Rattle.edi_timeline.specs.Told as told;
+ghost use Rattle.edi_timeline.specs.Entered as spec;
+ghost use Rattle.edi_timeline.specs.Adding.{CameFits, SeatFits, added, counted, is_going};
+ghost use Rattle.edi_timeline.specs.Timelines.{IsTimeline, told_in};
+
+use crate::entry::{Came, Place, Said, Seat};
+use crate::rows::{Kind, Row, numbered};
+use crate::timeline::Kept;
+use edi_kernel::Ending;
+
+// The kind of its row.
+fn kind_of(came: Came) -> Kind
+    ensures exact { result ≡ spec.kind_of came }
+{
+    match came {
+        Came::Arrived(_) => Kind::Arrives,
+        Came::Waited => Kind::Waits,
+        Came::Tried => Kind::Tries,
+        Came::Forked(_) => Kind::Forks,
+        Came::Ended => Kind::Ends,
+        Came::Over(_) => Kind::Over,
+    }
+}
+
+// A place without lines, and with a number.
+fn no_place(many: u8) -> Place
+    ensures exact { result ≡ spec.no_place many }
+{
+    Place {
+        lines: [0; 5],
+        many,
+    }
+}
+
+// The lines that its row keeps, and their number, where this is the row of the stint before.
+fn kept_place(came: Came, before: &Row) -> Place
+    ensures exact { result ≡ spec.kept_place came before.now }
+{
+    match came {
+        Came::Arrived(place) => place,
+        Came::Waited | Came::Tried => Place {
+            lines: before.lines,
+            many: before.many,
+        },
+        Came::Forked(many) => no_place(many),
+        Came::Ended | Came::Over(_) => no_place(0),
+    }
+}
+
+// How the run has ended, where this stint has ended it.
+fn ending_with(came: Came, ending: Ending) -> Ending
+    ensures exact { result ≡ spec.ending_with came ending }
+{
+    match came {
+        Came::Over(ending) => ending,
+        Came::Arrived(_) | Came::Waited | Came::Tried | Came::Forked(_) | Came::Ended => ending,
+    }
+}
+
+// Its row.
+fn row_for(rows: &[Row], seat: Seat, came: Came, used: u32, said: Said) -> Row
+    ensures exact { result ≡ spec.row_for rows.now seat came used said }
+{
+    let place = kept_place(came, &numbered(rows, seat.before));
+    let lines = place.lines;
+    let shown = said.characters;
+    Row {
+        used,
+        born: seat.born,
+        fork: seat.fork,
+        before: seat.before,
+        lines,
+        shown,
+        branch: seat.branch,
+        kind: kind_of(came),
+        many: place.many,
+        said: said.many,
+    }
+}
+
+// Adds a stint for which there is room.
+pub(crate) fn put(kept: &mut Kept, seat: Seat, came: Came, used: u32, said: Said)
+    requires kept { IsTimeline kept.old }
+    requires room { kept.old.count < 100000 }
+    requires going { is_going (told_in kept.old).stints ≡ true }
+    requires seat { SeatFits (told_in kept.old).stints seat came }
+    requires came { CameFits came }
+    requires said { said.many ≤ 7 }
+    ensures exact { told_in kept.new ≡ added (told_in kept.old) seat came used said }
+    ensures kept { IsTimeline kept.new }
+{
+    let row = row_for(&kept.rows, seat, came, used, said);
+    kept.ending = ending_with(came, kept.ending);
+    kept.rows.push_reserved(row);
+    kept.count += 1;
+}
+
+// Whether there is no room for a stint more.
+pub(crate) fn is_full(kept: &Kept) -> bool
+    ensures exact { result ≡ nat_le 100000 kept.now.count }
+{
+    kept.count >= 100_000
+}
+
+// Counts a stint for which there is no room.
+pub(crate) fn count_one(kept: &mut Kept)
+    requires kept { IsTimeline kept.old }
+    requires full { 100000 ≤ kept.old.count }
+    requires small { kept.old.count < 2 ^ 64 - 1 }
+    ensures exact { told_in kept.new ≡ counted (told_in kept.old) }
+    ensures kept { IsTimeline kept.new }
+{
+    kept.count += 1;
+}
+
+// Adds a stint, or counts it.
+pub(crate) fn put_or_count(kept: &mut Kept, seat: Seat, came: Came, used: u32, said: Said)
+    requires kept { IsTimeline kept.old }
+    requires going { is_going (told_in kept.old).stints ≡ true }
+    requires seat { SeatFits (told_in kept.old).stints seat came }
+    requires came { CameFits came }
+    requires said { said.many ≤ 7 }
+    requires small { kept.old.count < 2 ^ 64 - 1 }
+    ensures exact { told_in kept.new ≡ added (told_in kept.old) seat came used said }
+    ensures kept { IsTimeline kept.new }
+{
+    if is_full(kept) {
+        return count_one(kept);
+    }
+    put(kept, seat, came, used, said)
+}
