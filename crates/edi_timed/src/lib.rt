@@ -1,0 +1,6 @@
+//! A run of code with its timeline. What the stints of a run of code are is `stints_of_code` (`specs/Ran`).
+#![tactic(auto)]
+
+mod heard;
+
+pub use heard::Heard;
