@@ -7,22 +7,35 @@ use std::alloc::Global;
 use std::process::Abort;
 use std::rt::HostRuntime;
 
-/// How many kinds of symbols may stand after a text.
-fn count_after(rt: &impl Abort, alloc: Global, text: &str) -> usize {
+/// Texts, each with just the numbers of the kinds of symbols that may stand after it: no program begins with `begin`.
+const ROWS: [(&str, &[u8]); 1] = [("begin", &[])];
+
+/// How many kinds of symbols may stand after the text, if each of these kinds may.
+fn count_after(rt: &impl Abort, alloc: Global, text: &str, kinds: &[u8]) -> Option<usize> {
     let symbols = scan(alloc, text.as_bytes()).expect(rt, "symbols");
     let found = expected_after(alloc, symbols.marks.into_vec()).expect(rt, "memory");
+    for kind in kinds {
+        if !*found.kinds.get(usize::from(*kind))? {
+            return None;
+        }
+    }
     let mut count: usize = 0;
     for may in found.kinds {
         if may {
             count = count.wrapping_add(1);
         }
     }
-    count
+    Some(count)
 }
 
 #[test]
-fn nothing_may_stand_after_begin_alone(rt: HostRuntime) {
-    assert_eq!(rt; count_after(&rt, rt.alloc(), "begin"), 0);
+fn kinds_that_may_stand(rt: HostRuntime) {
+    for (text, kinds) in ROWS {
+        assert_eq!(rt;
+            count_after(&rt, rt.alloc(), text, kinds),
+            Some(kinds.len())
+        );
+    }
 }
 
 /// Texts, each with the number of a symbol, the byte where it begins, and the one after it. After the last symbol it is the end of the text.
