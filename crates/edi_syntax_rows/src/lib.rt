@@ -1,5 +1,4 @@
-//! Worked examples of what no run of the program shows: lists of symbols and numbers, a text that comes in pieces, a program that is
-//! printed and read again, types that no text can declare. All else of texts is in `tests/syntax`, `tests/sema` and `tests/compile`.
+//! Worked examples of texts: their symbols, trees that are printed, programs, and texts with a fault of the grammar; a program that is printed and read again.
 #![tactic(auto)]
 
 #[cfg(test)]
