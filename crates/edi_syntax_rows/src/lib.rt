@@ -1,4 +1,4 @@
-//! Worked examples of texts: their symbols, trees that are printed, programs, and texts with a fault of the grammar; a program that is printed and read again.
+//! Worked examples of texts: lists, pieces, what may stand after symbols and where symbols stand, trees and programs that are printed.
 #![tactic(auto)]
 
 #[cfg(test)]
