@@ -1,4 +1,4 @@
-//! Where symbols stand, and that nothing may stand after symbols that begin no program.
+//! What may stand after the symbols of small texts, and where symbols stand.
 
 use edi_explain::expected::expected_after;
 use edi_explain::places::place_of;
@@ -7,8 +7,33 @@ use std::alloc::Global;
 use std::process::Abort;
 use std::rt::HostRuntime;
 
-/// Texts, each with just the numbers of the kinds of symbols that may stand after it: no program begins with `begin`.
-const ROWS: [(&str, &[u8]); 1] = [("begin", &[])];
+/// Texts, each with just the numbers of the kinds of symbols that may stand after it; 0 is the end of the text.
+const ROWS: [(&str, &[u8]); 12] = [
+    ("", &[7, 10, 15, 25, 26, 27]),
+    ("proc main begin skip end", &[0]),
+    ("begin", &[]),
+    (
+        "proc main(proc display(value: char)) var x: int begin x",
+        &[14, 43, 45, 46, 47, 49],
+    ),
+    (
+        "proc main begin display('a'); display('b');",
+        &[1, 9, 16, 28, 29, 31, 32],
+    ),
+    ("proc main begin display('a')", &[14, 45]),
+    ("proc main begin if x = 0", &[6, 11, 12, 19, 22, 39, 40, 41]),
+    (
+        "proc main begin if x > 0 and x",
+        &[6, 11, 12, 19, 22, 39, 40, 41, 46, 47, 49],
+    ),
+    ("proc main const low =", &[1, 2, 3]),
+    ("proc main proc hello(", &[1, 25, 30]),
+    (
+        "proc main module",
+        &[7, 8, 10, 15, 20, 23, 24, 25, 26, 27, 30, 41],
+    ),
+    ("proc main begin cobegin display(", &[2]),
+];
 
 /// How many kinds of symbols may stand after the text, if each of these kinds may.
 fn count_after(rt: &impl Abort, alloc: Global, text: &str, kinds: &[u8]) -> Option<usize> {

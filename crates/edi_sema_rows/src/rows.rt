@@ -1,0 +1,4 @@
+//! The examples, a file for each subject.
+
+mod needs;
+mod tables;
