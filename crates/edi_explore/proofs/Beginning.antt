@@ -20,7 +20,8 @@ use Rattle.edi_explore.specs.declared.step.Followed.TheVariants as followed
 use Rattle.edi_explore.specs.Expand.{ComesTo, GoesFurther, HasBegun, IsSearch, by_record}
 use Rattle.edi_explore.specs.Finding.{IsBegun}
 use Rattle.edi_explore.specs.Found.{HasEnding}
-use Rattle.edi_explore.specs.Offline.{offline, system_of}
+use Rattle.edi_explore.specs.Offline.{offline}
+use Rattle.edi_explore.specs.Systems.{system_of}
 use Rattle.edi_explore.specs.Steps.{FollowedAs, IsProper}
 use Rattle.edi_explore.specs.Tables.{table_of}
 use Rattle.edi_explore.specs.Verdicts.{HasFirst}

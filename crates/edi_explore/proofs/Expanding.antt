@@ -16,7 +16,8 @@ use Rattle.edi_explore.specs.declared.step.Followed.{Followed}
 use Rattle.edi_explore.specs.declared.step.Followed.TheVariants as followed
 use Rattle.edi_explore.specs.Expand.{Apart, ComesTo, GoesFurther, HasExpanded, HasOneThatGoes, HasStint, HasStintThat, HasStintsTo, IsSearch, both, by_record}
 use Rattle.edi_explore.specs.Found.{HasEnding}
-use Rattle.edi_explore.specs.Offline.{offline, system_of}
+use Rattle.edi_explore.specs.Offline.{offline}
+use Rattle.edi_explore.specs.Systems.{system_of}
 use Rattle.edi_explore.specs.States.{AreStates, Follows, slots_of}
 use Rattle.edi_explore.specs.Steps.{FollowedAs, FollowsStint}
 use Rattle.edi_explore.specs.Tables.{Grows, table_of}

@@ -22,7 +22,8 @@ use Rattle.edi_explore.specs.declared.offline.Offline.{Offline}
 use Rattle.edi_explore.specs.declared.states.States.{States}
 use Rattle.edi_explore.specs.Expand.{HasExpanded, HasOneThatGoes, HasStint}
 use Rattle.edi_explore.specs.Found.{HasEnding, IsTold, endings_of}
-use Rattle.edi_explore.specs.Offline.{offline, system_of}
+use Rattle.edi_explore.specs.Offline.{offline}
+use Rattle.edi_explore.specs.Systems.{system_of}
 use Rattle.edi_explore.specs.States.{AreStates, Follows, IsAdded, slots_of}
 use Rattle.edi_explore.specs.Steps.{GoesOn, IsProper}
 use Rattle.edi_explore.specs.Tables.{Grows, table_of}

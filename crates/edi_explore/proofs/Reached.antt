@@ -6,7 +6,7 @@ use Rattle.edi_calls.specs.Calls.{CallResult, answered, no_file, file_limit}
 use Rattle.edi_calls.specs.Ends.{Meets}
 use Rattle.edi_calls.specs.declared.ends.CallEnd.TheVariants as end
 use Rattle.edi_calls.proofs.Lasting.{Leaves}
-use Rattle.edi_explore.specs.Offline.{Reaches}
+use Rattle.edi_explore.specs.Systems.{Reaches}
 
 -- the one answer word is written over the one that was there
 pub set_one : (answer : List ℕ) (word : ℕ) → length answer ≡ 1 → set answer 0 word ≡ word ∷ []

@@ -15,7 +15,8 @@ use Rattle.edi_explored.specs.machine.Levels.{StateTable}
 use Rattle.edi_explore.specs.declared.offline.Offline.{Offline}
 use Rattle.edi_explore.specs.declared.states.Key.{Key}
 use Rattle.edi_explore.specs.declared.states.States.{States}
-use Rattle.edi_explore.specs.Offline.{no_files, system_of}
+use Rattle.edi_explore.specs.Offline.{no_files}
+use Rattle.edi_explore.specs.Systems.{system_of}
 use Rattle.edi_explore.specs.States.{AreStates, Follows, IsAdded, PutsStateBack}
 use Rattle.edi_explore.specs.Tables.{Grows, parts_at, parts_of, place_of, system_at, table_of}
 use Rattle.edi_explore.proofs.Growing.{follows_on, follows_same, stays_at}

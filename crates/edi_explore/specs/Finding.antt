@@ -6,7 +6,8 @@ use Rattle.edi_target.specs.Check.{CodeParts}
 use Rattle.edi_explored.specs.machine.Kernels.{IsUnitCode}
 use Rattle.edi_explore.specs.declared.ends.Found.{Found}
 use Rattle.edi_explore.specs.declared.finding.Search.{Search}
-use Rattle.edi_explore.specs.Offline.{offline, system_of}
+use Rattle.edi_explore.specs.Offline.{offline}
+use Rattle.edi_explore.specs.Systems.{system_of}
 use Rattle.edi_explore.specs.Found.{AreDistinct, AreRecorded}
 use Rattle.edi_explore.specs.States.{AreNone, AreStates, Follows}
 

@@ -1,4 +1,5 @@
 pub mod Offline
+pub mod Systems
 pub mod Found
 pub mod Back
 pub mod States

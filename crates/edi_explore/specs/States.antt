@@ -12,7 +12,7 @@ use Rattle.edi_explore.specs.declared.states.Key.{Key}
 use Rattle.edi_explore.specs.declared.states.Origin.{Origin}
 use Rattle.edi_explore.specs.declared.states.States.{States}
 use Rattle.edi_explore.specs.Back.{AreApart, AreProcesses, IsPart}
-use Rattle.edi_explore.specs.Offline.{IsPlaceOf}
+use Rattle.edi_explore.specs.Systems.{IsPlaceOf}
 
 -- where the ready slots of a state begin in the list of all of them, and those slots
 abbrev pub start_of : States → ℕ → ℕ

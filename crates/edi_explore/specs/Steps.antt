@@ -16,7 +16,7 @@ use Rattle.edi_explore.specs.declared.offline.Offline.{Offline}
 use Rattle.edi_explore.specs.declared.states.States.{States}
 use Rattle.edi_explore.specs.declared.step.Followed.{Followed}
 use Rattle.edi_explore.specs.declared.step.Followed.TheVariants as followed
-use Rattle.edi_explore.specs.Offline.{system_of}
+use Rattle.edi_explore.specs.Systems.{system_of}
 use Rattle.edi_explore.specs.States.{IsAdded, PutsStateBack}
 
 -- the process at this index of the ready ones has gone on from this state, with so many turns, and its stint ended so

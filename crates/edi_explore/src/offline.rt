@@ -3,7 +3,8 @@
 ghost use Rattle.std.specs.Prelude.{◌≡◌, ◌≤◌, ◌%◌, length, [], None, IfOk, OnOk};
 ghost use Rattle.std.specs.Option.{option_map};
 ghost use Rattle.edi_calls.specs.Calls.{accept, argument_words, call, close, display, find, fresh_buffer, more, print, read, remove, write};
-ghost use Rattle.edi_explore.specs.Offline.{IsPlaceOf, IsSameElsewhere, Reaches, offline, system_of};
+ghost use Rattle.edi_explore.specs.Offline.{offline};
+ghost use Rattle.edi_explore.specs.Systems.{IsPlaceOf, IsSameElsewhere, Reaches, system_of};
 
 use edi_calls::{CallEnd, Calls, Outside};
 use std::alloc::{AllocError, Global};
@@ -222,7 +223,7 @@ impl Offline {
 impl Calls for Offline {
     ghost use Rattle.std.specs.Prelude.{◌≡◌, Some, [], ⊤};
     ghost use Rattle.std.proofs.Common.{sym, ◌∙◌};
-    ghost use Rattle.edi_explore.specs.Offline.{system_of};
+    ghost use Rattle.edi_explore.specs.Systems.{system_of};
 
     ghost state = { λ calls. Some (system_of calls) };
 

@@ -4,7 +4,7 @@ use Rattle.edi_calls.specs.Choice.{listed}
 use Rattle.edi_calls.specs.State.{State}
 use Rattle.edi_trace.specs.Drawn.{Drawn}
 use Rattle.edi_explore.specs.Found.{most_turns}
-use Rattle.edi_explore.specs.Offline.{system_of}
+use Rattle.edi_explore.specs.Systems.{system_of}
 use Rattle.edi_explore.proofs.Findings.{SelectedBy, ran}
 use Rattle.edi_explore.proofs.record.run.Goals as goal
 

@@ -1,6 +1,6 @@
 use Rattle.std.proofs.Common.{◌≡◌, length, Ok, Some, sym, ◌∙◌, subst}
 use Rattle.edi_calls.specs.Calls.{call, answer_words}
-use Rattle.edi_explore.specs.Offline.{Reaches, system_of}
+use Rattle.edi_explore.specs.Systems.{Reaches, system_of}
 use Rattle.edi_calls.proofs.Lasting.{leaves}
 use Rattle.edi_explore.proofs.Reached.{set_one, reached_count, reached_meets}
 use Rattle.edi_explore.proofs.offline.OfflineCalls.call.Goals as goal

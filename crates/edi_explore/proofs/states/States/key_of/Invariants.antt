@@ -1,7 +1,7 @@
 use Rattle.std.proofs.Common.{◌≡◌, Some}
 use Rattle.std.specs.Prelude.{slice_get}
 use Rattle.edi_explore.specs.declared.offline.Place.{Place}
-use Rattle.edi_explore.specs.Offline.{IsPlaceOf}
+use Rattle.edi_explore.specs.Systems.{IsPlaceOf}
 use Rattle.edi_explore.specs.States.{AddsParts, ArePartsBelow}
 use Rattle.edi_explore.proofs.states.States.key_of.Given as goal
 
