@@ -1,6 +1,8 @@
 //! The program `edison`: the top call over the host's files and drive, its standard input and output, and a kernel.
 #![tactic(auto)]
 
+mod hints;
+
 use edi_host::{DRIVE_FILE, HostDrive, HostFiles, HostSink, HostSource};
 use edi_kernel::Kernel;
 use edi_main::{Status, edison};
@@ -74,5 +76,6 @@ fn main(rt: HostRuntime) -> ExitCode {
         &mut printer,
         &mut kernel,
     );
+    hints::show(&rt, &words, status);
     ExitCode::from(status.number())
 }
