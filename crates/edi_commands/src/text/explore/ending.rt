@@ -7,6 +7,7 @@ ghost use Rattle.edi_explore_on.specs.Keeping.{KeepsInTurn, is_kept};
 ghost use Rattle.edi_explore_on.specs.Lines.{summary_of};
 ghost use Rattle.edi_explore_on.specs.Records.{records_of};
 ghost use Rattle.edi_explore_on.specs.Told.{findings_of};
+ghost use Rattle.edi_statuses.specs.EachObject.{is_before_drive};
 ghost use Rattle.edi_statuses.specs.Explored.{status_of_summary};
 ghost use Rattle.edi_commands.specs.text.ExploreCommand.{EndsExploring, kept_status};
 
@@ -20,6 +21,7 @@ use std::alloc::Global;
 /// The status that tells this.
 fn summary_status(summary: Summary) -> Status
     ensures exact { result ≡ status_of_summary summary }
+    ensures late { is_before_drive result ≡ false }
 {
     match summary {
         Summary::Fine => Status::Ok,
@@ -32,6 +34,7 @@ fn summary_status(summary: Summary) -> Status
 /// The status of a command whose records were kept, or were not.
 fn kept_status(end: KeepEnd, report: &Report) -> Status
     ensures exact { result ≡ kept_status (findings_of report.now) end }
+    ensures late { is_before_drive result ≡ false }
 {
     match end {
         KeepEnd::Ok => summary_status(sum_up(report)),
@@ -77,6 +80,7 @@ pub(crate) fn end_exploration<F: Files, T: Sink>(
     ensures later_terminal { T.faults terminal.old ≤ T.faults terminal.new }
     ensures cause_files { result.status ≡ Status.FileFault → CountRose (F.faults files.old) (F.faults files.new) }
     ensures cause_terminal { result.status ≡ Status.OutputFault → CountRose (T.faults terminal.old) (T.faults terminal.new) }
+    ensures late { is_before_drive result.status ≡ false }
 {
     let shown = show_bytes(terminal, &explored.lines, false);
     match shown.status {

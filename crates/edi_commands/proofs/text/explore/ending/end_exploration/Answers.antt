@@ -19,4 +19,5 @@ returns-in_default g c =
       later_terminal = c.show_bytes-shown.ensures.later;
       cause_files = λ e. end.ensures.cause (kept_failed f end.result c.kept_status.result is e);
       cause_terminal = λ e. absurd (kept_silent f end.result c.kept_status.result is e);
+      late = c.kept_status.ensures.late;
     }

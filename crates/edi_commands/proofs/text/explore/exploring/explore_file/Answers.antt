@@ -1,5 +1,6 @@
 -- The exits of `explore`.
-use Rattle.std.proofs.Common.{refl}
+use Rattle.std.proofs.Common.{refl, sym, ◌∙◌}
+use Rattle.std.proofs.lemmas.Bool.{false≢true}
 use Rattle.edi_words.specs.View.{exploring_of}
 use Rattle.edi_statuses.specs.Outside.{lent}
 use Rattle.edi_commands.proofs.text.ExploreCame.{came_ended, came_unfed, came_unread, came_unshown}
@@ -42,3 +43,6 @@ returns-clause-came g c =
     (g.T.Sink.taken c.args.terminal.now) (lent k.store k.used l.store l.used) c.in-Ok-input_of.given c.in-Ok-input_of.ensures.takes
     c.stopped-in-Err-explore_program.result.status c.stopped-in-Err-explore_program.result.due
     c.stopped-in-Err-explore_program.ensures.status_is c.stopped-in-Err-explore_program.ensures.due
+
+pub returns-in-Ok-explore_program-clause-early : goal.returns-in-Ok-explore_program-clause-early
+returns-in-Ok-explore_program-clause-early g c = λ before. absurd (false≢true (sym c.end_exploration.ensures.late ∙ before))
