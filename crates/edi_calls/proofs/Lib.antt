@@ -1,5 +1,6 @@
 pub mod Blanks
 pub mod Lasting
+pub mod Limits
 pub mod Parts
 pub mod Indices
 pub mod Sound

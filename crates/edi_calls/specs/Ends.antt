@@ -1,5 +1,6 @@
 -- Words of contracts. How a call may end that was to have this result, on an object that tells its state.
-use Rattle.std.specs.Prelude.{◌≡◌, ℕ, ◌≤◌, ◌⊎◌, Bool, true, false, List, Option, Some, None}
+use Rattle.std.specs.Prelude.{◌≡◌, ℕ, ◌<◌, ◌≤◌, ◌⊎◌, Bool, true, false, ◌||◌, ◌==◌, if◌then◌else◌, List, Option, Some, None, ⊤}
+use Rattle.std.specs.List.{All}
 use Rattle.edi_told.specs.Faults.{CountRose}
 use Rattle.edi_calls.specs.declared.ends.CallEnd.{CallEnd}
 use Rattle.edi_calls.specs.declared.ends.CallEnd.TheVariants as end
@@ -23,6 +24,22 @@ Meets (answered words next) end.OutsideFault answer before after = IsTorn before
 Meets no_file end.NoFile answer before after = after ≡ before
 Meets file_limit end.FileLimit answer before after = after ≡ before
 Meets _ _ answer before after = ⊥
+
+-- the calls that use the file that is read or the one that is written, and are refused where there is none
+abbrev pub uses_file : (number : ℕ) → Bool
+uses_file number = number == 5 || number == 6 || number == 8 || number == 9
+
+-- how many values the answer word of a call may have: a character is below 128, a truth value is 0 or 1
+abbrev pub answer_values : (number : ℕ) → ℕ
+answer_values number = if number == 1 || number == 6 then 128 else 2
+
+-- How the call of a number may end, and the answer words that it may have, on any object, also on one that does not tell its state:
+-- only a call that uses a file is refused for want of one, and only `write` because the file has its greatest length.
+abbrev pub MayEnd : (number : ℕ) → CallEnd → (answer : List ℕ) → Type 0
+MayEnd number end.Ok answer = All (λ word. word < answer_values number) answer
+MayEnd number end.NoFile answer = uses_file number ≡ true
+MayEnd number end.FileLimit answer = number ≡ 8
+MayEnd number end.OutsideFault answer = ⊤
 
 -- the call is refused: there is no file, or the file has its greatest length
 abbrev pub is_refused : CallEnd → Bool

@@ -5,7 +5,7 @@ ghost use Rattle.edi_told.specs.Told.{WhereTold};
 ghost use Rattle.edi_calls.specs.declared.ends.Outside.{Outside};
 ghost use Rattle.edi_calls.specs.State.{State};
 ghost use Rattle.edi_calls.specs.Calls.{argument_words, answer_words, call};
-ghost use Rattle.edi_calls.specs.Ends.{Meets, Blames, is_refused};
+ghost use Rattle.edi_calls.specs.Ends.{Meets, Blames, MayEnd, is_refused};
 
 use crate::call_number;
 use crate::ends::CallEnd;
@@ -59,7 +59,9 @@ pub trait Calls {
     ghost leads: { Self → Self → Type 0 };
 
     /// Makes the system call of this number, 1 to 10. `args` and `answer` have the lengths that `words_of` gives;
-    /// `answer` takes the answer words; it is as it was where the call is refused, and open after a fault.
+    /// `answer` takes the answer words; it is as it was where the call is refused, and open after a fault. An answer word is a
+    /// character below 128 (`accept`, `read`) or a truth value. `NoFile` is an end of `more`, `read`, `write` and `close` alone,
+    /// `FileLimit` of `write` alone.
     fn call(&mut self, number: u8, args: &[u16], answer: &mut [u16]) -> CallEnd
         requires from { 1 ≤ number }
         requires to { number ≤ 10 }
@@ -68,6 +70,8 @@ pub trait Calls {
         requires working { failed self.old None }
         ensures exact { WhereTold (state self.old) (state self.new)
             (λ before after. Meets (call number args.now before) result answer.new before after) }
+        // Also where the state is not told.
+        ensures may { MayEnd number result answer.new }
         ensures untouched { is_refused result ≡ true → answer.new ≡ answer.old }
         ensures later { (outside : Outside) → faults self.old outside ≤ faults self.new outside }
         ensures blame { Blames result (failed self.new) (faults self.old) (faults self.new) }

@@ -1,14 +1,14 @@
 -- Plain instructions.
-use Rattle.std.proofs.Common.{◌≡◌, ℕ, zero, suc, ◌-◌, ◌≤◌, Bool, true, List, [], ◌∷◌, length, get_or, take, drop, Option}
-use Rattle.std.proofs.Common.{Some, None, refl, sym, ap, subst, ◌∙◌, arith}
-use Rattle.std.specs.Prelude.{MatchOption}
+use Rattle.std.proofs.Common.{◌≡◌, ℕ, zero, suc, ◌+◌, ◌-◌, ◌<◌, ◌≤◌, Bool, true, false, List, [], ◌∷◌, length, get_or, take, drop, Option}
+use Rattle.std.proofs.Common.{Some, None, refl, sym, ap, subst, ◌∙◌, arith, length-drop, get_or-drop}
+use Rattle.std.specs.Prelude.{MatchOption, slice_index}
 use Rattle.std.proofs.Math.Seq.{take-length}
 use Rattle.edi_target.specs.Effect.{Effect, Local}
 use Rattle.edi_machine.specs.declared.activity.Activity.{Activity}
 use Rattle.edi_machine.specs.declared.ends.TurnKind.TheVariants as kind
 use Rattle.edi_machine.specs.declared.ends.StepEnd.{StepEnd}
 use Rattle.edi_machine.specs.declared.ends.StepEnd.TheVariants as end
-use Rattle.edi_machine.specs.Numbers.{effect_by}
+use Rattle.edi_machine.specs.Numbers.{effect_by, is_plain_number}
 use Rattle.edi_machine.specs.Plain.{Plainly, is_plain}
 use Rattle.edi_machine.specs.Steps.{Gives, effect_of}
 use Rattle.edi_machine.proofs.Commonly.{effect_there}
@@ -54,3 +54,13 @@ module _ (words : List ℕ) (before after : Local) (Nothing : Type 0) where
   given_here None front here h = h
   given_here (Some answer) front here h = λ live is_first. subst (λ (e : Effect). Gives e answer before after)
       (sym (effect_there words live is_first before front here)) (h live is_first)
+
+-- where nothing was done although two words stand behind, the number there is that of no plain instruction
+pub none_plain : (words front : List ℕ) (at : ℕ) → drop at words ≡ front → at + 3 ≤ length words
+    → (0 < length front → is_plain_number (slice_index front 0) ≡ false) → is_plain_number (slice_index words at) ≡ false
+none_plain words front at here room other =
+    let long : length front ≡ length words - at = sym (ap length here) ∙ length-drop at words in
+    let place : at + 0 ≡ at = omega arith in
+    let same : slice_index front 0 ≡ slice_index words at =
+    ap (λ (ws : List ℕ). slice_index ws 0) (sym here) ∙ get_or-drop at words 0 0 ∙ ap (λ (i : ℕ). slice_index words i) place in
+    subst (λ (n : ℕ). is_plain_number n ≡ false) same (other (omega (arith, long, room)))

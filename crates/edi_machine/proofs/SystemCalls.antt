@@ -10,7 +10,7 @@ use Rattle.edi_calls.specs.declared.ends.CallEnd.{CallEnd}
 use Rattle.edi_calls.specs.declared.ends.CallEnd.TheVariants as call_end
 use Rattle.edi_calls.specs.State.{State}
 use Rattle.edi_calls.specs.Calls.{CallResult, answered, no_file, file_limit, argument_words, answer_words, call}
-use Rattle.edi_calls.specs.Ends.{Meets}
+use Rattle.edi_calls.specs.Ends.{MayEnd, Meets}
 use Rattle.edi_store.specs.Memory.{words_at}
 use Rattle.edi_store.specs.Copied.{IsMemory}
 use Rattle.edi_target.specs.Effect.{Local, Effect, asks, pop}
@@ -74,6 +74,9 @@ module _ (number line next : ℕ) (address : Option ℕ) (l before after : Local
   abbrev Made : CallEnd → Type 0
   Made e = WhereTold old new (λ s t. Meets (call number arguments s) e (take (answer_words number) (word ∷ [])) s t)
 
+  abbrev May : CallEnd → Type 0
+  May e = MayEnd number e (take (answer_words number) (word ∷ []))
+
   module _ (same : count ≡ argument_words number) (room : l.base + 5 + count ≤ l.top) (are : arguments ≡ words_at l.memory (l.top - count) count) where
     at_effect : (e : StepEnd) → Takes (asks number arguments address line (record l { top = l.top - count; pc = next })) e before after old new
         → Takes (asking (argument_words number) number address line next l) e before after old new
@@ -82,26 +85,29 @@ module _ (number line next : ℕ) (address : Option ℕ) (l before after : Local
         (subst (λ (x : Effect). Takes x e before after old new) (sym (pop_goes count l (λ ws m. asks number ws address line (record m { pc = next })) room))
         (subst (λ (ws : List ℕ). Takes (asks number ws address line (record l { top = l.top - count; pc = next })) e before after old new) are takes))
 
-    pub asked : (e : CallEnd) → e ≡ call_end.Ok → Made e → HasAnswer address number
+    pub asked : (e : CallEnd) → e ≡ call_end.Ok → Made e → May e → HasAnswer address number
         → after ≡ record l { memory = answered_at address l.memory (take (answer_words number) (word ∷ [])); top = l.top - count; pc = next }
         → Takes (asking (argument_words number) number address line next l) end.On before after old new
-    asked e ended made has is =
+    asked e ended made may has is =
         at_effect end.On (
           take (answer_words number) (word ∷ []),
           answer_length address number word has,
           is ∙ sym (answer_is address _ _),
           WhereTold-map _ _ old new (λ s t m. met_ok _ _ s t m) (subst Made ended made),
+          subst May ended may,
         )
 
-    pub no_file_there : (e : CallEnd) → e ≡ call_end.NoFile → Made e → after ≡ before → Takes (asking (argument_words number) number address line next l)
-        (end.Fail cause.NoFile line) before after old new
-    no_file_there e ended made is =
-        at_effect (end.Fail cause.NoFile line) (refl, is, WhereTold-map _ _ old new (λ s t m. met_no_file _ _ s t m) (subst Made ended made))
+    pub no_file_there : (e : CallEnd) → e ≡ call_end.NoFile → Made e → May e → after ≡ before
+        → Takes (asking (argument_words number) number address line next l) (end.Fail cause.NoFile line) before after old new
+    no_file_there e ended made may is =
+        at_effect (end.Fail cause.NoFile line)
+        (refl, is, WhereTold-map _ _ old new (λ s t m. met_no_file _ _ s t m) (subst Made ended made), subst May ended may)
 
-    pub file_is_full : (e : CallEnd) → e ≡ call_end.FileLimit → Made e → after ≡ before → Takes (asking (argument_words number) number address line next l)
-        (end.Fail cause.FileLimit line) before after old new
-    file_is_full e ended made is =
-        at_effect (end.Fail cause.FileLimit line) (refl, is, WhereTold-map _ _ old new (λ s t m. met_limit _ _ s t m) (subst Made ended made))
+    pub file_is_full : (e : CallEnd) → e ≡ call_end.FileLimit → Made e → May e → after ≡ before
+        → Takes (asking (argument_words number) number address line next l) (end.Fail cause.FileLimit line) before after old new
+    file_is_full e ended made may is =
+        at_effect (end.Fail cause.FileLimit line)
+        (refl, is, WhereTold-map _ _ old new (λ s t m. met_limit _ _ s t m) (subst Made ended made), subst May ended may)
 
     pub torn : (e : CallEnd) → e ≡ call_end.OutsideFault → Made e → after ≡ before → Takes (asking (argument_words number) number address line next l)
         end.Fault before after old new

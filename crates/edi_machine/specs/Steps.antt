@@ -1,12 +1,13 @@
 -- Words of contracts. What a step answers and leaves, where the definition of the machine gives its instruction this effect.
-use Rattle.std.specs.Prelude.{◌≡◌, ◌≤◌, ℕ, Bool, true, false, ◌&&◌, nat_eq, List, length, Option, Some, None, ⊤}
+use Rattle.std.specs.Prelude.{◌≡◌, ◌<◌, ◌≤◌, ℕ, Bool, true, false, ◌&&◌, nat_eq, List, length, Option, Some, None, ⊤}
+use Rattle.std.specs.List.{All}
 use Rattle.edi_told.specs.Faults.{CountRose}
 use Rattle.edi_told.specs.Told.{WhereTold}
 use Rattle.edi_calls.specs.declared.ends.Outside.{Outside}
 use Rattle.edi_calls.specs.declared.kinds.Cause.TheVariants as cause
 use Rattle.edi_calls.specs.State.{State}
 use Rattle.edi_calls.specs.Calls.{CallResult, answered, no_file, file_limit, answer_words, call}
-use Rattle.edi_calls.specs.Ends.{IsTorn}
+use Rattle.edi_calls.specs.Ends.{IsTorn, answer_values, uses_file}
 use Rattle.edi_store.specs.Memory.{written}
 use Rattle.edi_target.specs.Fetch.{fetch}
 use Rattle.edi_target.specs.Effect.{Local, Turn, entering, leaving, looping, arriving, again, forking, exiting, finishing, Effect, goes, released, asks, due}
@@ -52,16 +53,17 @@ Tears _ before after = ⊥
 
 -- The call of this number was made with these words. Where it was answered the activity goes on with the answer at the
 -- address. Where it was refused the program fails, and neither the activity nor the system has changed. Where an object
--- outside failed the activity has not changed.
+-- outside failed the activity has not changed. Whether or not the state is told, the answer words are characters or truth
+-- values as the number says, and only a call of a number that may be refused so is refused.
 abbrev pub Calls : (number : ℕ) → (arguments : List ℕ) → (address : Option ℕ) → (line : ℕ) → Local → StepEnd → (before after : Local)
     → (old new : Option State) → Type 0
 Calls number arguments address line l end.On before after old new =
     (answer : List ℕ) × (length answer ≡ answer_words number) × (after ≡ answer_at address answer l)
-    × WhereTold old new (λ s t. call number arguments s ≡ answered answer t)
+    × WhereTold old new (λ s t. call number arguments s ≡ answered answer t) × All (λ word. word < answer_values number) answer
 Calls number arguments address line l (end.Fail cause.NoFile at) before after old new =
-    (at ≡ line) × (after ≡ before) × WhereTold old new (λ s t. (call number arguments s ≡ no_file) × (t ≡ s))
+    (at ≡ line) × (after ≡ before) × WhereTold old new (λ s t. (call number arguments s ≡ no_file) × (t ≡ s)) × (uses_file number ≡ true)
 Calls number arguments address line l (end.Fail cause.FileLimit at) before after old new =
-    (at ≡ line) × (after ≡ before) × WhereTold old new (λ s t. (call number arguments s ≡ file_limit) × (t ≡ s))
+    (at ≡ line) × (after ≡ before) × WhereTold old new (λ s t. (call number arguments s ≡ file_limit) × (t ≡ s)) × (number ≡ 8)
 Calls number arguments address line l end.Fault before after old new =
     (after ≡ before) × WhereTold old new (λ s t. Tears (call number arguments s) s t)
 Calls _ _ _ _ _ _ before after old new = ⊥

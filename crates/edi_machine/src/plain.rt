@@ -1,7 +1,7 @@
 //! The plain instructions: those that are executed most often, but for CALL and RETURN. Their process stays in its frame, and they make no
 //! system call. Each is read, tested and executed at once by its number.
 
-ghost use Rattle.std.specs.Prelude.{◌≡◌, ◌+◌, ◌<◌, ◌≤◌, ◌^◌, ◌∷◌, ⊤, ℕ, Bool, None, false, drop, take, length, MatchOption};
+ghost use Rattle.std.specs.Prelude.{◌≡◌, ◌+◌, ◌<◌, ◌≤◌, ◌^◌, ◌∷◌, ⊤, ℕ, Bool, None, false, drop, take, length, slice_index, MatchOption};
 ghost use Rattle.edi_store.specs.Copied.{IsMemory};
 ghost use Rattle.edi_machine.specs.Activities.{IsOrdered, local_of};
 ghost use Rattle.edi_machine.specs.Numbers.{effect_by, is_plain_number};
@@ -276,6 +276,7 @@ fn execute_front_plainly(
     ensures all { let l = local_of store.old activity.old in
         MatchOption result ((store.new ≡ store.old) × (activity.new ≡ activity.old)) (λ end. (live : ℕ) (first : Bool) →
         Gives (effect_by words.now live first front.now l) end l (local_of store.new activity.new)) }
+    ensures other { result ≡ None → 0 < turns_left.now → 0 < length front.now → is_plain_number (slice_index front.now 0) ≡ false }
     ensures plain { MatchOption result ⊤ (λ end. Plainly turns_left.now end activity.old activity.new) }
     ensures ordered { IsOrdered activity.new }
 {
@@ -288,7 +289,8 @@ fn execute_front_plainly(
 }
 
 /// Executes the instruction at the activity's `pc` where it is a plain one, two words of the code stand behind it, and a turn is left for
-/// the one that is due after it, which is not taken here. `None` tells that nothing was done: `step` executes that instruction.
+/// the one that is due after it, which is not taken here. `None` tells that nothing was done: `step` executes that instruction. With a
+/// turn left and two words behind, only an instruction that is no plain one is left to it.
 ///
 /// What it gives is told as for a step, whatever processes live; all else that `step` tells follows.
 #[inline(always)]
@@ -303,6 +305,8 @@ pub fn step_plainly(
     ensures exact { let before = local_of store.old activity.old in
         MatchOption result ((store.new ≡ store.old) × (activity.new ≡ activity.old)) (λ end. (live : ℕ) (first : Bool) →
         Gives (effect_of words.now live first before) end before (local_of store.new activity.new)) }
+    ensures other { result ≡ None → 0 < turns_left.now → activity.old.pc + 3 ≤ length words.now
+        → is_plain_number (slice_index words.now activity.old.pc) ≡ false }
     ensures plain { MatchOption result ⊤ (λ end. Plainly turns_left.now end activity.old activity.new) }
     ensures ordered { IsOrdered activity.new }
     ensures was_whole { IsMemory store.old }
@@ -315,7 +319,9 @@ pub fn step_plainly(
     if words.len() < at + 3 {
         return None;
     }
-    let front = words.get(at..)?;
+    let Some(front) = words.get(at..) else {
+        return None;
+    };
     let end = execute_front_plainly(store, activity, words, front, turns_left);
     let _whole = store.get(0);
     end

@@ -4,7 +4,7 @@ ghost use Rattle.std.specs.Prelude.{◌≡◌, ◌+◌, ◌<◌, ◌≤◌, ◌^
 ghost use Rattle.edi_told.specs.Told.{WhereTold};
 ghost use Rattle.edi_calls.specs.declared.ends.Outside.{Outside};
 ghost use Rattle.edi_calls.specs.Calls.{argument_words, answer_words, call};
-ghost use Rattle.edi_calls.specs.Ends.{Meets};
+ghost use Rattle.edi_calls.specs.Ends.{MayEnd, Meets};
 ghost use Rattle.edi_calls.specs.Ends as ends;
 ghost use Rattle.edi_store.specs.Memory.{words_at};
 ghost use Rattle.edi_store.specs.Copied.{IsMemory};
@@ -52,6 +52,7 @@ fn make_call<C: Calls>(calls: &mut C, number: u8, arguments: &[u16]) -> Made
     requires working { C.failed calls.old None }
     ensures exact { WhereTold (C.state calls.old) (C.state calls.new)
         (λ s t. Meets (call number arguments.now s) result.end (take (answer_words number) (result.word ∷ [])) s t) }
+    ensures may { MayEnd number result.end (take (answer_words number) (result.word ∷ [])) }
     ensures later { (outside : Outside) → C.faults calls.old outside ≤ C.faults calls.new outside }
     ensures blame { ends.Blames result.end (C.failed calls.new) (C.faults calls.old) (C.faults calls.new) }
     ensures references { C.references calls.new ≡ C.references calls.old }

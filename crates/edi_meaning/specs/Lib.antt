@@ -3,6 +3,7 @@ pub mod Store
 pub mod Evaluation
 pub mod Whole
 pub mod Step
+pub mod Places
 pub mod Permitted
 pub mod Select
 pub mod Arrivals

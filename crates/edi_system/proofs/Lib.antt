@@ -12,5 +12,6 @@ pub mod CloseCalls
 pub mod InState
 pub mod Protecting
 pub mod Calling
+pub mod Limits
 pub mod Due
 pub mod Chained

@@ -6,4 +6,5 @@ pub mod Pairs
 pub mod Reaching
 pub mod Queues
 pub mod Running
+pub mod Refused
 pub mod Shares

@@ -11,6 +11,7 @@ pub mod Memory
 pub mod Effect
 pub mod Perform
 pub mod Mach
+pub mod Attempts
 pub mod Moments
 pub mod Pasts
 pub mod Arrivals

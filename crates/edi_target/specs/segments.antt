@@ -1,3 +1,4 @@
 -- Helper. The files of `segments`.
 pub mod Nested
+pub mod Refused
 pub mod Shares

@@ -7,11 +7,11 @@ use Rattle.edi_calls.specs.Ready.{stays, joins, Taking, nobody, taking, take_nex
 use Rattle.edi_calls.specs.State.{State}
 use Rattle.edi_target.specs.Op.{Instruction, address_of_words}
 use Rattle.edi_target.specs.Memory.{word}
-use Rattle.edi_target.specs.Effect.{again}
 use Rattle.edi_target.specs.Fetch.{fetch}
 use Rattle.edi_target.specs.Check.{CodeParts}
-use Rattle.edi_target.specs.Mach.{Answer, turned, local_step, running_of, is_first, Standing, ready, at_when, waiting, Activity, Machine, Stepped, went, ended}
+use Rattle.edi_target.specs.Mach.{Standing, ready, at_when, waiting, Activity, Machine, Stepped, went, ended}
 use Rattle.edi_target.specs.Mach.{step, entered}
+use Rattle.edi_target.specs.Attempts.{attempt_fails}
 use Rattle.edi_kernel.specs.Kept.{leads_down}
 use Rattle.edi_timeline.specs.Stints.{Start, End, arrives, waits, tries, forks, ends, over, Stint}
 use Rattle.edi_timeline.specs.Adding.{is_at, start_after}
@@ -36,16 +36,6 @@ module _ (words : List ℕ) where
   place memory first base pc = line_before pc ∷ call_lines 4 memory first base
 
 -- ---- how a stint ends
-
--- the turn of an attempt of which no condition was true
-abbrev pub is_failed : Answer → Bool
-is_failed (turned (again marks) r) = true
-is_failed answer = false
-
--- whether the next instruction of a process is the end of an attempt that has failed
-abbrev pub attempt_fails : (ℕ → Option (Instruction × ℕ)) → Machine → Name → Option Activity → Bool
-attempt_fails fetch m p None = false
-attempt_fails fetch m p (Some a) = is_failed (local_step fetch (length m.activities) (is_first p) (running_of m a))
 
 abbrev pub is_marked : List Name → Bool
 is_marked [] = false

@@ -9,7 +9,8 @@ use Rattle.edi_calls.specs.State.{State}
 use Rattle.edi_unit.specs.Tree as tree
 use Rattle.edi_unit.specs.Tree.{Act, Acts, Clauses, ProgramUnit}
 use Rattle.edi_unit.specs.Need.{block_at}
-use Rattle.edi_meaning.specs.Step.{Position, Work, procedure_end, Standing, ready, at_when, waiting, Process, Processes, Stepped, went, ended, step, start}
+use Rattle.edi_meaning.specs.Step.{Position, Work, Standing, ready, at_when, waiting, Process, Processes, Stepped, went, ended, step, start}
+use Rattle.edi_meaning.specs.Places.{attempts, call_lines}
 
 -- ---- where a process stands
 
@@ -48,12 +49,6 @@ line_at _ = 0
 abbrev pub when_line : ProgramUnit → Position → ℕ
 when_line unit position = line_at (led (statements (block_at unit.blocks position.of).body) position.path)
 
--- the lines of the calls of the procedures in which a process is, the innermost first
-abbrev pub call_lines : List Work → List ℕ
-call_lines [] = []
-call_lines (procedure_end line ∷ work) = line ∷ call_lines work
-call_lines (_ ∷ work) = call_lines work
-
 -- A PLACE: the line of a `when`, and those of the calls that lead there, the innermost first; at most five
 abbrev pub place : ProgramUnit → Position → List Work → List ℕ
 place unit position work = take 5 (when_line unit position ∷ call_lines work)
@@ -87,15 +82,6 @@ pub record Stint : Type 0 where
   pub shown : List ℕ
 
 -- ---- along an execution
-
--- whether a step is an attempt: its process stands at its `when` before it
-abbrev pub is_at_when : Standing → Bool
-is_at_when (at_when cs position) = true
-is_at_when standing = false
-
-abbrev pub attempts : Option Process → Bool
-attempts None = false
-attempts (Some q) = is_at_when q.standing
 
 module _ (unit : ProgramUnit) where
   -- how a process is taken

@@ -30,10 +30,6 @@ pub(crate) fn write_text<C: ShellCalls>(
     let Ok(bytes) = text.bytes(alloc) else {
         return say_on(calls, b"no memory\n");
     };
-    // No text is so long; what `bytes` promises does not say so.
-    if bytes.len() > u32::MAX as usize {
-        return say_on(calls, b"no memory\n");
-    }
     match calls.store(f, FileKind::Text, &bytes) {
         Ok(()) => Ok(true),
         Err(why) => match why {

@@ -38,7 +38,7 @@ false_where : (b : Bool) → (b ≡ true → ⊥) → b ≡ false
 false_where true h = absurd (h refl)
 false_where false h = refl
 
-has-here : (p : Name) (ps : List Name) → has (p ∷ ps) p ≡ true
+pub has-here : (p : Name) (ps : List Name) → has (p ∷ ps) p ≡ true
 has-here p ps = ap (λ b. b || has ps p) (same-refl p)
 
 has-append : (xs ys : List Name) (q : Name) → has (xs ++ ys) q ≡ true → (has xs q ≡ true) ⊎ (has ys q ≡ true)
@@ -93,7 +93,7 @@ abbrev pub TakesFree : Machine → Taking → Type 0
 TakesFree m nobody = ⊤
 TakesFree m (taking p others drawn) = AllFree m (p ∷ others)
 
-taken_free : (m : Machine) (choices : Choices) (drawn : ℕ) (ps : List Name) → AllFree m ps → TakesFree m (take_next choices drawn ps)
+pub taken_free : (m : Machine) (choices : Choices) (drawn : ℕ) (ps : List Name) → AllFree m ps → TakesFree m (take_next choices drawn ps)
 taken_free m choices drawn [] a = tt
 taken_free m choices drawn (p ∷ []) a = a
 taken_free m choices drawn (p ∷ q ∷ ps) a =
@@ -117,13 +117,13 @@ module _ (m : Machine) (p : Name) (others : List Name) (a : AllFree m (p ∷ oth
       go (unchanged e) = record { activity = g.activity; lives = e; free = g.free }
       go (awaited n w e) = absurd (g.free n w)
 
-  goes_on : MayGoOn t p → AllFree t (p ∷ others)
+  pub goes_on : MayGoOn t p → AllFree t (p ∷ others)
   goes_on g = record {
     once = a.once;
     free = λ q h. elim (or_cases (same q p) (has others q) h) [ inl e ↦ subst (MayGoOn t) (sym (same-equal q p e)) g | inr e ↦ still_free q e ];
   }
 
-  joined : (ps : List Name) → Join m p t ps → AllFree t (others ++ ps)
+  pub joined : (ps : List Name) → Join m p t ps → AllFree t (others ++ ps)
   joined ps j = record {
     once = once-append others ps a.once.1 j.once (λ q h k. elim (j.new q k) [
       | inl e ↦ not_both (has others p) (subst (λ x. has others x ≡ true) e h) a.once.0
@@ -165,7 +165,7 @@ module _ (words : List ℕ) (are : AreWords words) (choices : Choices) where
       (step_leaves m p g.activity g.lives g.free s (fetch words) (allowed_at words are g.activity.first g.activity.last) others)
       (step_queues m p g.activity g.lives g.free s (fetch words) others) ending t d e
 
-  alone_free : (m : Machine) → MayGoOn m [] → AllFree m ([] ∷ [])
+  pub alone_free : (m : Machine) → MayGoOn m [] → AllFree m ([] ∷ [])
   alone_free m g = record { once = (refl, tt); free = λ q h. subst (MayGoOn m) (sym (in_one [] q h)) g }
 
   from_start : (n : ℕ) (x : Stepped) → Starts x → (ending : Ending) (t : Machine) (d : ℕ) → after_step choices (run (fetch words) choices n) [] [] 0 x

@@ -1,7 +1,9 @@
 use Rattle.std.proofs.Common.{◌≡◌, length, Ok, Some, sym, ◌∙◌, subst}
 use Rattle.edi_calls.specs.Calls.{call, answer_words}
 use Rattle.edi_explore.specs.Systems.{Reaches, system_of}
+use Rattle.edi_calls.specs.declared.ends.CallEnd.TheVariants as end
 use Rattle.edi_calls.proofs.Lasting.{leaves}
+use Rattle.edi_calls.proofs.Limits.{meets_may}
 use Rattle.edi_explore.proofs.Reached.{set_one, reached_count, reached_meets}
 use Rattle.edi_explore.proofs.offline.OfflineCalls.call.Goals as goal
 
@@ -17,3 +19,8 @@ returns-in-Some-clause-exact c =
     (leaves c.args.number c.args.args.now before c.requires.from c.requires.to) reached in
     let one : length c.args.answer.now ≡ 1 = c.requires.answers ∙ sym count in
     reached_meets result (Some c.in-Some.word) _ before after (set_one c.args.answer.now c.in-Some.word one) reached
+
+pub returns-in-Some-clause-may : goal.returns-in-Some-clause-may
+returns-in-Some-clause-may c =
+    meets_may c.args.number c.args.args.now end.Ok _ (system_of c.args.self.now) (system_of c.step.new.self) c.requires.from c.requires.to
+    (returns-in-Some-clause-exact c)

@@ -2,7 +2,9 @@ use Rattle.std.proofs.Common.{◌≡◌, length, Ok, Some, sym, ◌∙◌, subst
 use Rattle.edi_calls.specs.Calls.{call, answer_words}
 use Rattle.edi_memory.specs.Memory.{state_of, Reaches}
 use Rattle.edi_memory.specs.MemoryCalls.{system_of}
+use Rattle.edi_calls.specs.declared.ends.CallEnd.TheVariants as end
 use Rattle.edi_calls.proofs.Lasting.{leaves}
+use Rattle.edi_calls.proofs.Limits.{meets_may}
 use Rattle.edi_memory.proofs.Reached.{set_one, reached_count, reached_meets}
 use Rattle.edi_memory.proofs.memory.MemoryCallsCalls.call.Goals as goal
 
@@ -18,3 +20,8 @@ returns-in-Some-clause-exact c =
     (leaves c.args.number c.args.args.now before c.requires.from c.requires.to) reached in
     let one : length c.args.answer.now ≡ 1 = c.requires.answers ∙ sym count in
     reached_meets result (Some c.in-Some.word) _ before after (set_one c.args.answer.now c.in-Some.word one) reached
+
+pub returns-in-Some-clause-may : goal.returns-in-Some-clause-may
+returns-in-Some-clause-may c =
+    meets_may c.args.number c.args.args.now end.Ok _ (system_of c.args.self.now) (state_of c.step.new.self) c.requires.from c.requires.to
+    (returns-in-Some-clause-exact c)

@@ -18,12 +18,6 @@ returns-in_default-clause-exact g c = λ s a t.
     c.args.text.now (codes "no memory") (codes "no memory\n") s c.say_on.result c.say_on.new.calls (inr refl) refl c.say_on.ensures.left
     (c.say_on.ensures.exact s a t)
 
-pub returns-then-len-clause-exact : goal.returns-then-len-clause-exact
-returns-then-len-clause-exact g c = λ s a t.
-    said g.C.ShellCalls.ready g.C.ShellCalls.failed g.C.ShellCalls.at g.C.ShellCalls.stands (Writes c.args.f.now c.args.text.now s) c.args.f.now
-    c.args.text.now (codes "no memory") (codes "no memory\n") s c.say_on-then-len.result c.say_on-then-len.new.calls (inr refl) refl
-    c.say_on-then-len.ensures.left (c.say_on-then-len.ensures.exact s a t)
-
 pub returns-in-Ok-store-clause-exact : goal.returns-in-Ok-store-clause-exact
 returns-in-Ok-store-clause-exact g c = λ s a t.
     stored g.C.ShellCalls.at g.C.ShellCalls.stands c.args.f.now c.deref.result.now c.args.text.now s c.store.new.self
