@@ -15,8 +15,8 @@ pub mod Exits
 pub mod Sharing
 pub mod Forking
 pub mod Handled
-pub mod Going
 pub mod Placing
+pub mod Going
 pub mod Choosing
 pub mod Starting
 pub mod Moments
@@ -29,3 +29,7 @@ pub mod Passed
 pub mod Keeping
 pub mod PutBacks
 pub mod Again
+pub mod NameLists
+pub mod Remembered
+pub mod Remembering
+pub mod StandsStill
