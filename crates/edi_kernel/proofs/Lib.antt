@@ -33,3 +33,4 @@ pub mod NameLists
 pub mod Remembered
 pub mod Remembering
 pub mod StandsStill
+pub mod LastInstruction

@@ -11,3 +11,4 @@ pub mod Passed
 pub mod Kept
 pub mod Frames
 pub mod StandsStill
+pub mod LastInstruction
