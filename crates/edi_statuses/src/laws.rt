@@ -37,7 +37,7 @@ pub fn some_status()
     ensures not_none { NotRefuted }
 {}
 
-/// Contents that are told decide all that a command leaves, but for `boot` and `explore`: the files, but for the code of `compile` and the log of `watch`;
+/// Contents that are told decide all that a command leaves, but for `boot` and `explore`: the files, but for the code of `compile`;
 /// the number of blocks and the files on them, wherever these lie; the input, the bytes printed and the turns of the kernel.
 pub fn one_end()
     ensures law { OneEnd }

@@ -1,5 +1,5 @@
 -- `newdisk --from`: there is an image with the files of the old one, where they have room.
-use Rattle.std.proofs.Common.{◌≡◌, ℕ, zero, suc, ◌+◌, ◌-◌, ◌*◌, ◌/◌, ◌≤◌, ◌<◌, Bool, true, false, List, [], ◌∷◌, ◌++◌, length, take, drop, Option, Some, None, refl}
+use Rattle.std.proofs.Common.{◌≡◌, ℕ, zero, suc, ◌+◌, ◌-◌, ◌*◌, ◌/◌, ◌≤◌, ◌<◌, true, List, [], ◌∷◌, ◌++◌, length, drop, Some, None, refl}
 use Rattle.std.proofs.Common.{ap, sym, subst, ◌∙◌, arith, inl, inr, length-append, length-drop}
 use Rattle.std.specs.Prelude.{◌&&◌, ◌==◌, map, min, nat_le, nat_lt, replicate}
 use Rattle.std.specs.List.{list_all}
@@ -18,9 +18,8 @@ use Rattle.edi_image.specs.declared.faults.MountFault.TheVariants as fault
 use Rattle.edi_image.specs.declared.migrate.migrating.MigrateEnd.TheVariants as end
 use Rattle.edi_image.specs.Entries.{block_at, is_data}
 use Rattle.edi_image.specs.Image.{entry_rules, header_rules, numbers_in, numbers_of, slot_rules, titles_in}
-use Rattle.edi_image.specs.Records.{FileRecord}
 use Rattle.edi_image.specs.Rules.{first_broken, used_by}
-use Rattle.edi_image.specs.Stored.{StoredFile, blocks_taken, stored_of}
+use Rattle.edi_image.specs.Stored.{blocks_taken, stored_of}
 use Rattle.edi_image.specs.migrate.Migrated.{migrated_bytes}
 use Rattle.edi_image.specs.migrate.OldFiles.{is_old_fit, is_old_record, is_old_stored, old_files_of}
 use Rattle.edi_image.specs.migrate.OldImage.{old_entries_from, old_entries_of, old_entry_at, old_fault_of, old_slots_of}
@@ -30,7 +29,7 @@ use Rattle.edi_image.proofs.migrate.Migrations.{migration_leaves, refusal_told}
 use Rattle.edi_image.proofs.migrate.OldRules.{old_entry_fits, old_shape}
 use Rattle.edi_words.specs.Words as words
 use Rattle.edi_statuses.specs.Outside.{Outside, Devices, KernelLeft}
-use Rattle.edi_statuses.specs.Steps.{goes, ◌>>=◌, ChecksOld, Fetches, HasRoom, Ready}
+use Rattle.edi_statuses.specs.Steps.{goes, ◌>>=◌, ChecksOld, HasRoom, Ready}
 use Rattle.edi_statuses.specs.Commands.{AreMigrated, IsDone, OldSteps, OnlyBlocks}
 use Rattle.edi_statuses.specs.Always.{MayEnd, told_outside}
 use Rattle.edi_statuses.proofs.always.Steps.{old_steps_some}
@@ -139,9 +138,11 @@ migrated given valid count least most room before =
     let old : List (List ℕ) = blocks_of given in
     let bytes : List ℕ = migrated_bytes old count (old_files_of old) in
     let between : List (List ℕ) = resized [] count in
-    let new : List (List ℕ) = blocks_of bytes ++ drop (length (blocks_of bytes)) between in
-    (new, migration_leaves given old (blocks_of bytes) count bytes bytes [] between new refl (valid, same_room given valid count least room) refl
-    (files_stored old (old_long given) valid) refl refl least most refl (λ fits. refl))
+    let new : List (List ℕ) = blocks_of bytes ++ drop (length (blocks_of bytes)) between in (
+      new,
+      migration_leaves given old (blocks_of bytes) count bytes bytes [] between new refl (valid, same_room given valid count least room) refl
+          (files_stored old (old_long given) valid) refl refl least most refl (λ fits. refl),
+    )
 
 -- ---- the command
 

@@ -1,16 +1,16 @@
 -- `check` and `explain`: it is false that neither of them can end so. What they show tells of each two branches whether they are disjoint, and of each
 -- kind of symbol whether it may stand; that one of the two answers is right is known here in that it is not false.
-use Rattle.std.proofs.Common.{◌≡◌, ◌<◌, ◌≤◌, ℕ, zero, suc, Bool, true, false, List, [], ◌∷◌, ◌++◌, length, take, Result, Ok, Err, refl, sym, ap, subst, inl, inr}
-use Rattle.std.proofs.Common.{arith, ◌∙◌}
-use Rattle.std.specs.Prelude.{◌⊎◌, ◌==◌, nat_lt, if◌then◌else◌}
+use Rattle.std.proofs.Common.{◌≡◌, ◌<◌, ◌≤◌, ℕ, zero, suc, Bool, true, false, List, [], ◌∷◌, length, take, Result, Ok, Err, refl, sym, ap, subst, inl, inr}
+use Rattle.std.proofs.Common.{arith}
+use Rattle.std.specs.Prelude.{◌==◌, nat_lt, if◌then◌else◌}
 use Rattle.std.specs.Bool.{Decides}
 use Rattle.std.proofs.lemmas.Bool.{cases_lt, cases_eq, eq-eqb, le-ltb, lt-ltb}
 use Rattle.std.proofs.Common.{ne_eqb}
-use Rattle.edi_disjoint.specs.Footprints.{Disjoint, IsBranch}
+use Rattle.edi_disjoint.specs.Footprints.{Disjoint}
 use Rattle.edi_disjoint.specs.Report.{IsReport, forks_in_order, report_of}
 use Rattle.edi_explain.specs.expected.Reaches.{May}
 use Rattle.edi_explain.specs.expected.MayStand.{MayStand}
-use Rattle.edi_explain.specs.told.Explained.{IsExplainedBy, accepted_text, index_of, lexical_text, static_text, wrong_text}
+use Rattle.edi_explain.specs.told.Explained.{IsExplainedBy, accepted_text, index_of, lexical_text, static_text}
 use Rattle.edi_grammar.specs.Kind.{kind_of}
 use Rattle.edi_lex.specs.declared.symbol.Mark.{Mark}
 use Rattle.edi_lex.specs.declared.symbol.Symbol.{Symbol}
@@ -29,7 +29,7 @@ use Rattle.edi_statuses.specs.declared.status.Status.TheVariants as status
 use Rattle.edi_statuses.specs.Outside.{Devices, KernelLeft}
 use Rattle.edi_statuses.specs.Steps.{AfterStep, goes, stops, Fetches}
 use Rattle.edi_statuses.specs.Commands.{CommandEffect, Does, Explains, IsDone, ShowsReport, TextSteps}
-use Rattle.edi_statuses.specs.Always.{IsNotNone, MayCome, MayEnd, NotRefuted, told_outside}
+use Rattle.edi_statuses.specs.Always.{IsNotNone, MayCome, NotRefuted, told_outside}
 use Rattle.edi_statuses.proofs.always.Steps.{ComesTo, fetches_some, text_some}
 use Rattle.edi_statuses.proofs.always.Ends.{each_shows, effected, of_table, only_shows, showing, stopped}
 
@@ -47,10 +47,13 @@ module _ {B : Type 0} (b : B) (P : ℕ → B → Type 0) (each : (k : ℕ) → I
   AllBelow n = (f : ℕ → B) × ((k : ℕ) → k < n → P k (f k))
 
   one_more : (n : ℕ) → AllBelow n → ((x : B) × P n x) → AllBelow (suc n)
-  one_more n so here = (with_value so.0 n here.0, λ k h. elim (cases_eq k n) [
-    | inl same ↦ subst (P k) (sym (ap (λ t. if t then here.0 else so.0 k) (eq-eqb k n same))) (subst (λ m. P m here.0) (sym same) here.1)
-    | inr other ↦ subst (P k) (sym (ap (λ t. if t then here.0 else so.0 k) (ne_eqb k n other))) (so.1 k (omega (arith, h, other)))
-  ])
+  one_more n so here = (
+    with_value so.0 n here.0,
+    λ k h. elim (cases_eq k n) [
+      | inl same ↦ subst (P k) (sym (ap (λ t. if t then here.0 else so.0 k) (eq-eqb k n same))) (subst (λ m. P m here.0) (sym same) here.1)
+      | inr other ↦ subst (P k) (sym (ap (λ t. if t then here.0 else so.0 k) (ne_eqb k n other))) (so.1 k (omega (arith, h, other)))
+    ],
+  )
 
   -- for finitely many numbers
   all_below : (n : ℕ) → IsNotNone (AllBelow n)
@@ -136,10 +139,13 @@ none_above before (suc a) h m = absurd (omega (arith, h, m.1, kind_small m.0.sym
 may_not_none : (before : List Mark) → IsNotNone ((may : ℕ → Bool) × ((k : ℕ) → May before k (may k)))
 may_not_none before =
     not_none
-    (λ so. ((λ k. if nat_lt k 51 then so.0 k else false), λ k. elim (cases_lt k 51) [
-      | inl h ↦ subst (May before k) (sym (ap (λ t. if t then so.0 k else false) (lt-ltb k 51 h))) (so.1 k h)
-      | inr h ↦ subst (May before k) (sym (ap (λ t. if t then so.0 k else false) (le-ltb k 51 h))) (none_above before k h)
-    ]))
+    (λ so. (
+      (λ k. if nat_lt k 51 then so.0 k else false),
+      λ k. elim (cases_lt k 51) [
+        | inl h ↦ subst (May before k) (sym (ap (λ t. if t then so.0 k else false) (lt-ltb k 51 h))) (so.1 k h)
+        | inr h ↦ subst (May before k) (sym (ap (λ t. if t then so.0 k else false) (le-ltb k 51 h))) (none_above before k h)
+      ],
+    ))
     (may_below before)
 
 -- ---- explanations
