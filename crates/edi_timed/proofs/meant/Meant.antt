@@ -1,11 +1,12 @@
 -- From the start: the stints of a run of the code are those of the execution.
-use Rattle.std.proofs.Common.{◌≡◌, ℕ, zero, suc, false, List, [], ◌∷◌, length, None, refl, sym, subst, ap, ◌∙◌, arith}
+use Rattle.std.proofs.Common.{◌≡◌, ℕ, zero, suc, false, List, [], ◌∷◌, ◌++◌, length, None, refl, sym, subst, ap, ◌∙◌, arith}
 use Rattle.edi_calls.specs.Choice.{Choices}
 use Rattle.edi_calls.specs.Names.{Name}
 use Rattle.edi_calls.specs.Outcome as outcome
 use Rattle.edi_calls.specs.Outcome.{Ending}
 use Rattle.edi_calls.specs.Ready.{stays}
 use Rattle.edi_calls.specs.State.{State, Traced}
+use Rattle.edi_unit.specs.Tree.{ProgramUnit}
 use Rattle.edi_meaning.specs.Step as source
 use Rattle.edi_meaning.specs.Step.{Process, Processes}
 use Rattle.edi_meaning.specs.Select as selection
@@ -19,6 +20,7 @@ use Rattle.edi_target.specs.Mach.{Machine}
 use Rattle.edi_scheme.specs.Code.{code_of}
 use Rattle.edi_scheme.specs.Laws.{parts_of}
 use Rattle.edi_scheme.proofs.WordedBlocks.{code_is_words}
+use Rattle.edi_follows.specs.Theorem.{CanBeCoded}
 use Rattle.edi_follows.specs.places.Coded.{Coded}
 use Rattle.edi_follows.specs.places.Lands.{StepClaim, StepsQueue, StartClaim, Begins, BeginsNot}
 use Rattle.edi_follows.proofs.Coding.{coded}
@@ -27,11 +29,11 @@ use Rattle.edi_follows.proofs.kernel.Meaning.{steps_queue}
 use Rattle.edi_timeline.specs.Stints as meant
 use Rattle.edi_timeline.specs.Stints.{over, Stint, Begun, along, stints_of}
 use Rattle.edi_timed.specs.Ran.{Open, closed, timed_after, timed, stints_of_code}
-use Rattle.edi_timed.specs.meant.Laws.{StintsAreMeant}
+use Rattle.edi_timed.specs.meant.Laws.{StintsAreMeant, StintsBegin}
 use Rattle.edi_timed.proofs.meant.Stays.{StepsOn, step_on}
 use Rattle.edi_timed.proofs.meant.Remembered.{Remembers, remembers_on}
 use Rattle.edi_timed.proofs.meant.Stints.{ready_attempts, Times, Agrees, main}
-use Rattle.edi_timed.proofs.meant.Ends.{ends_same}
+use Rattle.edi_timed.proofs.meant.Ends.{ends_same, begins_same}
 
 module _ (g : Coded) (words : List ℕ) (is : g.fetched ≡ fetch words) (fine : AreWords words) (claim : StepClaim g) (queues : StepsQueue)
     (start : StartClaim g) (choices : Choices) (system : State) where
@@ -76,7 +78,7 @@ module _ (g : Coded) (words : List ℕ) (is : g.fetched ≡ fetch words) (fine :
     r.machine,
     ap (target.after_step choices (target.run (fetch words) choices r.steps) [] [] 0) (read_entry (suc k) (target.went b.machine stays) b.entered) ∙ r.ends,
     ap (timed_after words choices (suc k) (timed words choices (suc k) r.steps) false (first (suc k)) [] [] [] 0)
-        (read_entry (suc k) (target.went b.machine stays) b.entered) ∙ r.stints ∙ sym behind,
+        (read_entry (suc k) (target.went b.machine stays) b.entered) ∙ r.stints ∙ sym after_entry,
   )
     where
       b : Begins g system k
@@ -117,9 +119,9 @@ module _ (g : Coded) (words : List ℕ) (is : g.fetched ≡ fetch words) (fine :
           (first_begun (suc k)) (first (suc k)) [] agrees ending end turns drawn order
           (sym (ap (selection.after_step choices (select g.unit choices n) [] [] [] 0) b.stepped) ∙ e)
 
-      behind : stints_of g.unit system (suc k) ([] ∷ order)
+      after_entry : stints_of g.unit system (suc k) ([] ∷ order)
           ≡ along g.unit (suc k) order (first_begun (suc k)) b.state
-      behind =
+      after_entry =
           ap (λ x. meant.onward g.unit (suc k) x false [] order
           (first_begun (suc k)) (along g.unit (suc k) order)) b.stepped
 
@@ -138,12 +140,32 @@ module _ (g : Coded) (words : List ℕ) (is : g.fetched ≡ fetch words) (fine :
           (source.step g.unit (source.start g.unit system bound) [])) ending end turns drawn order h in
           subst (λ o. TimesAll bound ending drawn (stints_of g.unit system bound o)) before.2 (first_times n bound ending end turns drawn before.0 before.1)
 
+module _ (unit : ProgramUnit) (c : CanBeCoded unit) (system : State) (bound : ℕ) (choices : Choices) (ending : Ending) (end : Traced)
+    (turns drawn : ℕ) (order : List Name) (e : selection.Ends unit system bound choices ending end turns drawn order) where
+  words : AreWords (code_of unit)
+  words = code_is_words unit c.fits c.parts c.lines (omega (arith, c.short))
+
+  whole : TimesAll (coded unit c) (code_of unit) refl words (steps (coded unit c)) steps_queue (starts (coded unit c)) choices system bound ending drawn
+      (stints_of unit system bound order)
+  whole =
+      all_times (coded unit c) (code_of unit) refl words (steps (coded unit c)) steps_queue (starts (coded unit c)) choices system bound ending end turns
+      drawn order e
+
+  same : (n : ℕ) (x : Ending) (m : Machine) (d : ℕ) →
+      target.run_from_start (fetch (code_of unit)) 0 unit.calls system bound choices n ≡ target.finished x m d →
+      stints_of_code (parts_of unit) system bound choices 0 n ≡ stints_of unit system bound order
+  same n x m d f = ends_same (parts_of unit) choices system bound 0 n whole.0 (x, m, d, f) (ending, whole.1, drawn, whole.2) ∙ whole.3
+
+  first_ones : (n : ℕ) → (more : List Stint) × (stints_of unit system bound order ≡ stints_of_code (parts_of unit) system bound choices 0 n ++ more)
+  first_ones n =
+      let r : (more : List Stint) × (stints_of_code (parts_of unit) system bound choices 0 whole.0
+      ≡ stints_of_code (parts_of unit) system bound choices 0 n ++ more) =
+      begins_same (parts_of unit) choices system bound 0 n whole.0 (ending, whole.1, drawn, whole.2) in
+      (r.0, sym whole.3 ∙ r.1)
+
 pub stints_are_meant : StintsAreMeant
 stints_are_meant unit c system bound choices ending end turns drawn order e n x m d f =
-    let g : Coded = coded unit c in
-    let words : AreWords (code_of unit) = code_is_words unit c.fits c.parts c.lines (omega (arith, c.short)) in
-    let h : TimesAll (coded unit c) (code_of unit) refl words (steps (coded unit c)) steps_queue (starts (coded unit c)) choices system bound ending drawn
-    (stints_of unit system bound order) =
-    all_times (coded unit c) (code_of unit) refl words (steps (coded unit c)) steps_queue (starts (coded unit c)) choices system bound ending end turns drawn
-    order e in
-    ends_same (parts_of unit) choices system bound 0 n h.0 (x, m, d, f) (ending, h.1, drawn, h.2) ∙ h.3
+    same unit c system bound choices ending end turns drawn order e n x m d f
+
+pub stints_begin : StintsBegin
+stints_begin unit c system bound choices ending end turns drawn order e n = first_ones unit c system bound choices ending end turns drawn order e n
