@@ -128,6 +128,16 @@ fn type_before(before: Option<&Mark>, seen: &Seen) -> Option<&'static str>
 
 // ---- the note
 
+// That note, or else that of the first row that fits; nothing where there is none.
+fn row_note(before: Option<&Mark>, seen: &Seen) -> &'static str
+    ensures exact { result.now ≡ spec.or_else (spec.type_before (option_copied before.entry) (seen_of seen.now)) (spec.first_fit spec.note_rows (seen_of seen.now)) }
+{
+    if let Some(note) = type_before(before, seen) {
+        return note;
+    }
+    first_fit(&ROWS, seen)
+}
+
 // The note at what stands there and what stands before it; nothing where there is none.
 fn note_of(here: Option<&Mark>, before: Option<&Mark>, seen: &Seen) -> &'static str
     ensures exact { result.now ≡ spec.note_of (option_copied here.entry) (option_copied before.entry) (seen_of seen.now) }
@@ -138,10 +148,7 @@ fn note_of(here: Option<&Mark>, before: Option<&Mark>, seen: &Seen) -> &'static 
     if let Some(note) = mark_note(before) {
         return note;
     }
-    if let Some(note) = type_before(before, seen) {
-        return note;
-    }
-    first_fit(&ROWS, seen)
+    row_note(before, seen)
 }
 
 /// Puts the line of the note behind bytes, if there is one.

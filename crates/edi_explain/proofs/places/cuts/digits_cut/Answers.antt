@@ -1,4 +1,6 @@
-use Rattle.std.proofs.Common.{rules, ◌∷◌, suc, arith, length, ◌<◌, ◌∙◌}
+use Rattle.std.proofs.Common.{rules, ◌≡◌, [], ◌∷◌, suc, arith, length, drop, ◌<◌, ◌∙◌, ap, sym}
+use Rattle.std.proofs.lemmas.List.{at_drop_all}
+use Rattle.edi_lex.specs.Spelling.{number_from}
 use Rattle.edi_lex.proofs.Numbers.{number_of-above}
 use Rattle.edi_explain.proofs.places.Numerals.{too_great_cut, fits_cut}
 use Rattle.edi_explain.proofs.places.cuts.digits_cut.Goals as goal
@@ -12,4 +14,10 @@ returns-then-value-gt32767 c =
     }
 
 pub returns : goal.returns
-returns c = record { exact = fits_cut (c.args.first ∷ c.args.digits.now) c.loop-digit.value _ _ (search rules) c.loop-digit.invariant.small; within = (search rules) }
+returns c =
+    let none : drop c.loop-digit.digit-index c.args.digits.now ≡ [] = at_drop_all (λ l. l) c.args.digits.now c.loop-digit.digit-index (search rules) in
+    let value : c.loop-digit.value ≡ number_from 0 (c.args.first ∷ c.args.digits.now) =
+    ap (λ l. number_from c.loop-digit.value l) (sym none) ∙ c.loop-digit.invariant.goes_on in record {
+      exact = fits_cut (c.args.first ∷ c.args.digits.now) c.loop-digit.value _ _ value c.loop-digit.invariant.small (search rules);
+      within = (search rules);
+    }
