@@ -36,9 +36,11 @@ fn stray_note(b: u8) -> &'static str
         37 => "'mod' gives what a division leaves.",
         38 | 124 => "conditions are joined by 'and' and 'or'.",
         39 => "an apostrophe ends a string; ''' is the string of one apostrophe.",
-        47 => "'div' gives a quotient, and 'mod' what is left; a comment stands between quotation marks.",
+        47 =>
+            "'div' gives a quotient, and 'mod' what is left; a comment stands between quotation marks.",
         95 => "a name begins with a letter.",
-        123 | 125 => "a comment stands between quotation marks; statements stand between 'do' and 'end'.",
+        123 | 125 =>
+            "a comment stands between quotation marks; statements stand between 'do' and 'end'.",
         _ => "",
     }
 }
