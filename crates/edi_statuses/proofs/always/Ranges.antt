@@ -1,6 +1,6 @@
 -- What the words of a command give: the ranges of its numbers, and a title.
 use Rattle.std.proofs.Common.{◌≡◌, ◌≤◌, ℕ, Bool, true, false, List, [], ◌∷◌, Option, Some, None, unwrap_or, option_map, refl, ap, subst}
-use Rattle.std.specs.Prelude.{◌&&◌, codes, if◌then◌else◌, nat_le, ⊤}
+use Rattle.std.specs.Prelude.{◌&&◌, codes, if◌then◌else◌, nat_le}
 use Rattle.std.specs.Option.{option_and_then}
 use Rattle.std.specs.Str.{bytes_eq}
 use Rattle.std.proofs.lemmas.Bool.{and_parts, leb-true}
