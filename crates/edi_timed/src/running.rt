@@ -1,0 +1,147 @@
+//! A run of code that fills a timeline.
+
+ghost use Rattle.std.specs.Prelude.{◌≡◌, ◌+◌, ◌-◌, ◌<◌, ◌≤◌, ◌^◌, None, Some, IsSome, Option, ℕ, false, length, nat_le};
+ghost use Rattle.edi_told.specs.Told.{WhereTold};
+ghost use Rattle.edi_calls.specs.declared.ends.Outside.{Outside};
+ghost use Rattle.edi_calls.specs.Ends.{CallsLast};
+ghost use Rattle.edi_calls.specs.Names.{Name};
+ghost use Rattle.edi_calls.specs.State.{State};
+ghost use Rattle.edi_trace.specs.Drawn.{Drawn};
+ghost use Rattle.edi_target.specs.Mach.{Machine};
+ghost use Rattle.edi_kernel.specs.Stretch.{Blamed};
+ghost use Rattle.edi_kernel.specs.Table.{ready_slots};
+ghost use Rattle.edi_kernel.specs.Kernel.{ended_by, fault_of, is_over};
+ghost use Rattle.edi_timed.specs.Leaving as spec;
+ghost use Rattle.edi_timed.specs.Leaving.{AddsBy, Begins};
+ghost use Rattle.edi_timed.specs.Seats.{Fits};
+ghost use Rattle.edi_timed.specs.Timed.{Going, RoundsTo, Timed};
+
+use crate::heard::Heard;
+use crate::leaving::{Begun, begun, came_of, ended_as};
+use crate::seats::Seats;
+use edi_calls::Calls;
+use edi_kernel::{Ending, Kernel, StintEnd};
+use edi_target::Code;
+use edi_timeline::{Came, Said, Seat, Timeline};
+use edi_trace::Choices;
+
+/// The process with which a run begins, before its first stint.
+const FIRST: Seat = Seat {
+    born: 0,
+    fork: 0,
+    branch: 0,
+    before: 0,
+};
+
+/// Nothing was shown.
+const NOTHING: Said = Said {
+    characters: [0; 7],
+    many: 0,
+};
+
+// How the run has ended, if it has by a stint that ended so.
+fn ended_by(end: StintEnd) -> Option<Ending>
+    ensures exact { result ≡ ended_by end }
+{
+    match end {
+        StintEnd::Over { ending, .. } => Some(ending),
+        _ => None,
+    }
+}
+
+// Adds the stint that has ended so.
+fn add_stint(
+    kernel: &Kernel,
+    code: &Code,
+    begun: Begun,
+    end: StintEnd,
+    said: Said,
+    seats: &mut Seats,
+    timeline: &mut Timeline,
+)
+    requires inside { begun.slot < 32 }
+    requires free { is_over end ≡ false → kernel.now.taken ≡ None }
+    requires said { said.many ≤ 7 }
+    requires fits { Fits seats.old.items timeline.old }
+    requires small { timeline.old.count < 2 ^ 64 - 1 }
+    requires turns { kernel.now.used < 2 ^ 32 }
+    ensures exact { AddsBy (nat_le 100000 timeline.old.count) code.now.words kernel.now begun end said seats.old.items seats.new.items timeline.old timeline.new }
+    ensures fits { is_over end ≡ false → Fits seats.new.items timeline.new }
+    ensures count { timeline.new.count ≡ timeline.old.count + 1 }
+{
+    if timeline.is_full() {
+        timeline.skip();
+        return;
+    }
+    let seated = seats.at(begun.slot);
+    let came = came_of(kernel, code, seated.stands, begun, end);
+    timeline.add(seated.seat, came, kernel.turns_used() as u32, said);
+    seats.move_on(kernel, begun.slot, begun.others, came, timeline.count() as u32);
+}
+
+// What the timeline gets of a stint. The answer is the ending, if the run has ended by it.
+fn note(
+    kernel: &Kernel,
+    code: &Code,
+    begun: Begun,
+    end: StintEnd,
+    said: Said,
+    seats: &mut Seats,
+    timeline: &mut Timeline,
+) -> Option<Ending>
+{
+    let ended = ended_by(end);
+    if ended != Some(Ending::Fault) {
+        add_stint(kernel, code, begun, end, said, seats, timeline);
+    }
+    ended
+}
+
+// A stint, what the timeline gets of it, and the choice of the next process. The answer is the ending, if the run has ended.
+fn timed_round<C: Calls>(
+    kernel: &mut Kernel,
+    code: &Code,
+    heard: &mut Heard<C>,
+    bound: u32,
+    choices: &mut Choices,
+    seats: &mut Seats,
+    timeline: &mut Timeline,
+) -> Option<Ending>
+{
+    let begun = begun(kernel);
+    heard.listen();
+    let left = u64::from(bound) - kernel.turns_used();
+    let stint = kernel.stint(code, heard, left);
+    let end = ended_as(kernel.ready(), stint);
+    if let Some(ending) = note(kernel, code, begun, end, heard.said(), seats, timeline) {
+        return Some(ending);
+    }
+    kernel.choose(choices);
+    None
+}
+
+/// Runs the code from its start until the run ends, with at most `bound` turns, and fills a timeline that has no stint. It takes no memory.
+///
+/// The ending comes as that of `Kernel::run`. After any ending but `Fault` the timeline tells all stints of the run (`stints_of_code`). After `Fault`
+/// nothing is said of it.
+pub fn timed<C: Calls>(
+    kernel: &mut Kernel,
+    code: &Code,
+    calls: &mut Heard<C>,
+    bound: u32,
+    choices: &mut Choices,
+    timeline: &mut Timeline,
+) -> Ending
+{
+    kernel.start(code);
+    let mut seats = Seats::new();
+    if bound == 0 {
+        timeline.add(FIRST, Came::Over(Ending::Turns), 0, NOTHING);
+        return Ending::Turns;
+    }
+    'rounds: loop {
+        if let Some(ending) = timed_round(kernel, code, calls, bound, choices, &mut seats, timeline) {
+            return ending;
+        }
+    }
+}
