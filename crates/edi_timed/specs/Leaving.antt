@@ -13,7 +13,7 @@ use Rattle.edi_machine.specs.declared.activity.Activity.{Activity}
 use Rattle.edi_timeline.specs.Stints.{End, arrives, waits, tries, forks, ends, over}
 use Rattle.edi_timeline.specs.Told.{meant}
 use Rattle.edi_timeline.specs.Timelines.{Told}
-use Rattle.edi_timeline.specs.Adding.{added, counted, end_of}
+use Rattle.edi_timeline.specs.Adding.{added, counted, end_of, has_failed}
 use Rattle.edi_timeline.specs.declared.entry.Came.{Came}
 use Rattle.edi_timeline.specs.declared.entry.Said.{Said}
 use Rattle.edi_timed.specs.declared.seats.Seated.{Seated}
@@ -64,12 +64,18 @@ module _ (words : List ℕ) (k : KernelState) (stands : Bool) (b : Begun) where
   left_at (stint_end.Exited used) = ends
   left_at (stint_end.Over used e) = over (meant e)
 
+-- whether the run has ended so because an object outside failed
+abbrev pub is_fault : Option Ending → Bool
+is_fault (Some ending.Fault) = true
+is_fault ended = false
+
 -- ---- what is told of it
 
 -- what a stint of this end adds, where there is room for it
 pub record AddsStint (words : List ℕ) (k : KernelState) (b : Begun) (end : StintEnd) (said : Said) (old new : List Seated) (before after : Told) : Type 0 where
   pub came : Came
   pub is : end_of came ≡ left_at words k (seat_at old b.slot).stands b end
+  pub failed : has_failed came ≡ true → (seat_at old b.slot).stands ≡ true
   pub told : after ≡ added before (seat_at old b.slot).seat came k.used said
   pub seats : new ≡ seats_after came (suc before.count) b.slot (drop b.others (ready_slots k.table)) old
 

@@ -63,6 +63,7 @@ pub record FitsSeat (t : Told) (s : Seated) : Type 0 where
   pub forks : s.forks ≤ length t.stints
 
 pub record Fitting (seats : List Seated) (t : Told) : Type 0 where
+  pub wide : length seats ≡ 32
   pub whole : length t.stints ≡ t.count
   pub going : is_going t.stints ≡ true
   pub each : (slot : ℕ) → FitsSeat t (seat_at seats slot)

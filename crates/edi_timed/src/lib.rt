@@ -2,5 +2,10 @@
 #![tactic(auto)]
 
 mod heard;
+mod leaving;
+mod places;
+mod running;
+mod seats;
 
 pub use heard::Heard;
+pub use running::timed;

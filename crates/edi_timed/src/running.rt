@@ -1,6 +1,6 @@
 //! A run of code that fills a timeline.
 
-ghost use Rattle.std.specs.Prelude.{◌≡◌, ◌+◌, ◌-◌, ◌<◌, ◌≤◌, ◌^◌, None, Some, IsSome, Option, ℕ, false, length, nat_le};
+ghost use Rattle.std.specs.Prelude.{◌≡◌, ◌+◌, ◌-◌, ◌<◌, ◌≤◌, ◌^◌, [], None, Some, IsSome, Option, ℕ, List, false, length, nat_le, ⊥};
 ghost use Rattle.edi_told.specs.Told.{WhereTold};
 ghost use Rattle.edi_calls.specs.declared.ends.Outside.{Outside};
 ghost use Rattle.edi_calls.specs.Ends.{CallsLast};
@@ -12,9 +12,10 @@ ghost use Rattle.edi_kernel.specs.Stretch.{Blamed};
 ghost use Rattle.edi_kernel.specs.Table.{ready_slots};
 ghost use Rattle.edi_kernel.specs.Kernel.{ended_by, fault_of, is_over};
 ghost use Rattle.edi_timed.specs.Leaving as spec;
-ghost use Rattle.edi_timed.specs.Leaving.{AddsBy, Begins};
+ghost use Rattle.edi_timed.specs.Leaving.{AddsBy};
 ghost use Rattle.edi_timed.specs.Seats.{Fits};
-ghost use Rattle.edi_timed.specs.Timed.{Going, RoundsTo, Timed};
+ghost use Rattle.edi_timed.specs.Timed.{Timed};
+ghost use Rattle.edi_timed.specs.Underway.{Going, RoundsTo};
 
 use crate::heard::Heard;
 use crate::leaving::{Begun, begun, came_of, ended_as};
@@ -46,6 +47,16 @@ fn ended_by(end: StintEnd) -> Option<Ending>
     match end {
         StintEnd::Over { ending, .. } => Some(ending),
         _ => None,
+    }
+}
+
+// Whether the run has ended so because an object outside failed.
+fn is_fault(ended: Option<Ending>) -> bool
+    ensures { result ≡ spec.is_fault ended }
+{
+    match ended {
+        Some(Ending::Fault) => true,
+        _ => false,
     }
 }
 
@@ -89,11 +100,23 @@ fn note(
     seats: &mut Seats,
     timeline: &mut Timeline,
 ) -> Option<Ending>
+    requires inside { begun.slot < 32 }
+    requires free { is_over end ≡ false → kernel.now.taken ≡ None }
+    requires said { said.many ≤ 7 }
+    requires fits { Fits seats.old.items timeline.old }
+    requires small { timeline.old.count < 2 ^ 64 - 1 }
+    requires turns { kernel.now.used < 2 ^ 32 }
+    ensures exact { result ≡ ended_by end }
+    ensures adds { (ended_by end ≡ Some Ending.Fault → ⊥) →
+        AddsBy (nat_le 100000 timeline.old.count) code.now.words kernel.now begun end said seats.old.items seats.new.items timeline.old timeline.new }
+    ensures fits { result ≡ None → Fits seats.new.items timeline.new }
+    ensures count { result ≡ None → timeline.new.count ≡ timeline.old.count + 1 }
 {
     let ended = ended_by(end);
-    if ended != Some(Ending::Fault) {
-        add_stint(kernel, code, begun, end, said, seats, timeline);
+    if is_fault(ended) {
+        return ended;
     }
+    add_stint(kernel, code, begun, end, said, seats, timeline);
     ended
 }
 
@@ -107,6 +130,24 @@ fn timed_round<C: Calls>(
     seats: &mut Seats,
     timeline: &mut Timeline,
 ) -> Option<Ending>
+    requires taken { IsSome kernel.old.taken }
+    requires working { C.failed heard.old.calls None }
+    requires used { kernel.old.used ≤ bound }
+    requires fits { Fits seats.old.items timeline.old }
+    requires count { timeline.old.count ≤ kernel.old.used }
+    ensures exact { choices.old.drawn + (bound - kernel.old.used) < 2 ^ 64 → WhereTold (C.state heard.old.calls) (C.state heard.new.calls) (λ x y.
+        (s : State) (first : Drawn) → first.source ≡ choices.old.source →
+        Going code.now s bound first kernel.old x choices.old seats.old.items timeline.old →
+        RoundsTo code.now s bound first result kernel.new y choices.new seats.new.items timeline.new) }
+    ensures taken { result ≡ None → IsSome kernel.new.taken }
+    ensures used { kernel.new.used ≤ bound }
+    ensures spent { result ≡ None → kernel.old.used < kernel.new.used }
+    ensures source { choices.new.source ≡ choices.old.source }
+    ensures drawn { choices.new.drawn + kernel.old.used ≤ choices.old.drawn + kernel.new.used }
+    ensures blame { Blamed (fault_of result) (C.failed heard.new.calls) (C.faults heard.old.calls) (C.faults heard.new.calls) }
+    ensures lasts { CallsLast C.faults C.references C.leads heard.old.calls heard.new.calls }
+    ensures fits { result ≡ None → Fits seats.new.items timeline.new }
+    ensures count { result ≡ None → timeline.new.count ≤ kernel.new.used }
 {
     let begun = begun(kernel);
     heard.listen();
@@ -132,6 +173,17 @@ pub fn timed<C: Calls>(
     choices: &mut Choices,
     timeline: &mut Timeline,
 ) -> Ending
+    requires working { C.failed calls.old.calls None }
+    requires empty { timeline.old ≡ record { stints = []; count = 0 } }
+    ensures exact { choices.old.drawn + bound < 2 ^ 64 → WhereTold (C.state calls.old.calls) (C.state calls.new.calls) (λ s t.
+        Timed code.now s bound choices.old result kernel.new t choices.new timeline.new) }
+    ensures used { kernel.new.used ≤ bound }
+    ensures source { choices.new.source ≡ choices.old.source }
+    ensures drawn { choices.new.drawn ≤ choices.old.drawn + bound }
+    ensures later { (outside : Outside) → C.faults calls.old.calls outside ≤ C.faults calls.new.calls outside }
+    ensures blame { Blamed (fault_of (Some result)) (C.failed calls.new.calls) (C.faults calls.old.calls) (C.faults calls.new.calls) }
+    ensures references { C.references calls.new.calls ≡ C.references calls.old.calls }
+    ensures leads { (start : C) → C.leads start calls.old.calls → C.leads start calls.new.calls }
 {
     kernel.start(code);
     let mut seats = Seats::new();

@@ -31,6 +31,7 @@ const FIRST: Seated = Seated {
 };
 
 /// What is kept of the process at each of the 32 slots of a kernel.
+#[derive(Drop)]
 pub(crate) struct Seats {
     pub(crate) items: [Seated; 32],
 }
