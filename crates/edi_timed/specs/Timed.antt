@@ -1,5 +1,5 @@
 -- Words of contracts. A run of code with its timeline.
-use Rattle.std.specs.Prelude.{◌≡◌, ℕ, ⊥}
+use Rattle.std.specs.Prelude.{◌≡◌, ℕ}
 use Rattle.edi_calls.specs.Outcome as outcome
 use Rattle.edi_calls.specs.State.{State}
 use Rattle.edi_target.specs.Check.{CodeParts}
