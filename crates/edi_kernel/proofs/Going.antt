@@ -267,19 +267,22 @@ module _ (words : List ℕ) (old mid new : KernelState) (slot left left1 used : 
         slots : SlotsStay old.table new.table
         slots = put_slots (marked_with mid.table slot) (at_its_when (process_at mid.table slot) a) put (λ i. refl) marked.taken.homeless
 
-        abbrev held : Holds new after None (others ++ p ∷ [])
-        held = record {
-          naming = n;
-          stands =
-              stood (marked_with mid.table slot) new.table slot a marked.table marked.taken put n
-              (record m { marks = p ∷ marks_after (fetch words) m p others (n.forks slot) cleared }) k b (p ∷ k.marks)
-              (marks_after (fetch words) m p others (n.forks slot) cleared) r mid.store marked.stands
-              (follows_marks m k p (n.forks slot) (marks_after (fetch words) m p others (n.forks slot) cleared)
-              (p ∷ marks_after (fetch words) m p others (n.forks slot) cleared) b f) (ap (λ ms. p ∷ ms) f.marks_are) (sym (ap (λ x. x.local) e));
-          memory = sym (ap (λ x. x.local.memory) e) ∙ sym same;
-          is_taken = sym (ap (option_map n.name) g.none_taken);
-          is_ready = sym (ap (map n.name) ready ∙ map-append n.name (ready_slots mid.table) (slot ∷ []) ∙ ap (λ xs. map n.name xs ++ p ∷ []) same_ready);
-        }
+        held : (h : Holds new (back k p (activity_of r.local b.forks mach.at_when) (p ∷ k.marks) r) None (others ++ p ∷ [])) × (h.naming ≡ n)
+        held = (
+          record {
+            naming = n;
+            stands =
+                stood (marked_with mid.table slot) new.table slot a marked.table marked.taken put n
+                (record m { marks = p ∷ marks_after (fetch words) m p others (n.forks slot) cleared }) k b (p ∷ k.marks)
+                (marks_after (fetch words) m p others (n.forks slot) cleared) r mid.store marked.stands
+                (follows_marks m k p (n.forks slot) (marks_after (fetch words) m p others (n.forks slot) cleared)
+                (p ∷ marks_after (fetch words) m p others (n.forks slot) cleared) b f) (ap (λ ms. p ∷ ms) f.marks_are) (sym (ap (λ x. x.local) e));
+            memory = sym (ap (λ x. x.local.memory) e) ∙ sym same;
+            is_taken = sym (ap (option_map n.name) g.none_taken);
+            is_ready = sym (ap (map n.name) ready ∙ map-append n.name (ready_slots mid.table) (slot ∷ []) ∙ ap (λ xs. map n.name xs ++ p ∷ []) same_ready);
+          },
+          refl,
+        )
 
         comes_to : (x : Bool) → all_marked (p ∷ k.marks) (p ∷ others) ≡ x →
             stint (fetch words) steps m p others ≡ stint_after (λ m. stint (fetch words) rest m p others)
@@ -305,9 +308,9 @@ module _ (words : List ℕ) (old mid new : KernelState) (slot left left1 used : 
             },
             left_standing k b (p ∷ k.marks) r e arrival,
             sym (ap (λ x. x.local.memory) e) ∙ sym same,
-            held,
+            held.0,
           ),
-          refl,
+          held.1,
           slots,
         )
         by_marks false h = (
@@ -317,13 +320,13 @@ module _ (words : List ℕ) (old mid new : KernelState) (slot left left1 used : 
               machine = back k p (activity_of r.local b.forks mach.at_when) (p ∷ k.marks) r;
               joined = p ∷ [];
               is = comes_to false (sym tested ∙ h);
-              holds = held;
+              holds = held.0;
               system = sym (ap (λ x. x.system) e);
               turns = sym (ap (λ x. x.turns) e) ∙ sym g.spent;
             },
             left_standing k b (p ∷ k.marks) r e arrival,
           ),
-          refl,
+          held.1,
           slots,
           last (back k p (activity_of r.local b.forks mach.at_when) (p ∷ k.marks) r) (p ∷ [])
               (ap (λ y. if y then ended outcome.standstill (back k p (activity_of r.local b.forks mach.at_when) (p ∷ k.marks) r) else went

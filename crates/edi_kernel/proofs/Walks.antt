@@ -8,7 +8,8 @@ use Rattle.edi_calls.proofs.Tables.{find-with_at-same, find-with_at-other}
 use Rattle.edi_target.specs.Op.{Instruction}
 use Rattle.edi_target.specs.Effect.{Turn, entering, leaving, looping, arriving, again, forking, exiting, finishing}
 use Rattle.edi_target.specs.Mach.{Running, Answer, on, behind, turned, over, local_step, Activity, ready, Machine, running_of, activity_of, back, at_turn}
-use Rattle.edi_target.specs.Mach.{kernel, is_first, step_of, step}
+use Rattle.edi_target.specs.Mach.{went, kernel, is_first, step_of, step}
+use Rattle.edi_calls.specs.Ready.{stays}
 use Rattle.edi_kernel.specs.Stretch.{Paused, going, pausing, stopping, after_answer, after_turn, stretch, walk_turn, walk_on, walked}
 use Rattle.edi_kernel.specs.Stints as stints
 use Rattle.edi_kernel.specs.Stints.{Stint, stint, stint_after, goes_with, followed}
