@@ -36,7 +36,7 @@ use Rattle.edi_timed.proofs.Families.{as_many_children}
 abbrev pub Marks : Machine → Name → List Name → Type 0
 Marks t p ps = ((t.marks ≡ []) ⊎ (has t.marks p ≡ true)) × (ps ≡ p ∷ [])
 
-marks_in : Stepped → List Name
+abbrev marks_in : Stepped → List Name
 marks_in (went m next) = m.marks
 marks_in (ended ending m) = m.marks
 
@@ -141,10 +141,10 @@ module _ (words : List ℕ) (k : KernelState) (t : Machine) (p : Name) (b : Open
   pub forked_is : (n : Naming) (slot others number used : ℕ) → TableIsMachine k.table n t → is_live k.table slot ≡ true → n.name slot ≡ p →
       (process_at k.table slot).standing ≡ standing.Waiting number → begun.others ≡ others → length (ready_slots k.table) ≡ others + number →
       left_at words k stands begun (stint_end.Forked used) ≡ end_in words failed from b t (find t.activities p)
-  forked_is n slot others number used table live name waits beside ready =
+  forked_is n slot others number used table live name stays_so beside ready =
       let a : Activity = entry_of (process_at k.table slot) (n.forks slot) in
       ap forks (omega (arith, beside, ready))
-      ∙ sym (ap (λ s. left_as words failed from b t a (standing_of s)) waits)
+      ∙ sym (ap (λ s. left_as words failed from b t a (standing_of s)) stays_so)
       ∙ sym (ap (end_in words failed from b t) (ap (find t.activities) (sym name) ∙ table.found slot live))
 
 -- as many are ready as were, and the branches

@@ -47,8 +47,14 @@ dropped f (q ∷ qs) ps (x ∷ xs) (suc n) few e = let rest : qs ++ ps ≡ map f
 dropped_at : (xs : List ℕ) (n k i : ℕ) → slice_get xs (n + k) ≡ Some i → slice_get (drop n xs) k ≡ Some i
 dropped_at [] zero k i e = e
 dropped_at [] (suc n) k i e = e
-dropped_at (x ∷ xs) zero k i e = e
-dropped_at (x ∷ xs) (suc n) k i e = dropped_at xs n k i e
+dropped_at (x ∷ xs) zero k i e = ap (slice_get (x ∷ xs)) (none_more k) ∙ e
+  where
+    none_more : (k : ℕ) → k ≡ 0 + k
+    none_more k = omega arith
+dropped_at (x ∷ xs) (suc n) k i e = dropped_at xs n k i (ap (slice_get (x ∷ xs)) (one_more n k) ∙ e)
+  where
+    one_more : (n k : ℕ) → suc (n + k) ≡ suc n + k
+    one_more n k = omega arith
 
 named_at : (p : Name) (f n b k : ℕ) (q : Name) → slice_get (children p f b n) k ≡ Some q → q ≡ child p f (b + k)
 named_at p f zero b k q e = let w : None ≡ Some q = e in absurd (cc)
@@ -80,8 +86,8 @@ a_fork (came.Over x) n e = absurd (cc)
 -- ---- one process
 
 -- another process sits where it sat
-pub sits_other : (xs : List Stint) (x : Stint) (p : Name) (forks : ℕ) (s : Seated) → same x.process p ≡ false → Sits xs p forks s → Sits (xs ++ x ∷ []) p forks s
-sits_other xs x p forks s none h = record {
+pub sits_other : (xs : List Stint) (x : Stint) (p : Name) (forked : ℕ) (s : Seated) → same x.process p ≡ false → Sits xs p forked s → Sits (xs ++ x ∷ []) p forked s
+sits_other xs x p forked s none h = record {
   named = ap (λ o. process_after o s.seat.fork s.seat.branch) (nth_earlier xs x s.seat.born h.born) ∙ h.named;
   born = omega (arith, h.born, one_longer xs x);
   before = nth_earlier xs x s.seat.before h.within ∙ h.before ∙ sym (newest_other xs x p none);
@@ -215,11 +221,15 @@ module _ (t u : Table) (n : Naming) (m : Machine) (h : TableIsMachine t n m) (xs
               (ap (λ q. same q (below (child (n.name slot) fork b.number) longer)) process ∙ not_below (n.name slot) fork b.number longer)
               ∙ unborn slot live fork b.number longer later_one
 
+      no_more : (k : ℕ) → 0 + k ≡ k
+      no_more k = omega arith
+
       -- the names of those that are ready
       child_at : (k i : ℕ) → slice_get (drop before (ready_slots u)) k ≡ Some i → after.name i ≡ child (n.name slot) fork k
       child_at k i e =
           named_at (n.name slot) fork number 0 k (after.name i)
           (sym (ap (λ qs. slice_get qs k) (sym (dropped after.name others ps (ready_slots u) before few ready) ∙ are)) ∙ mapped after.name (drop before (ready_slots u)) k i e)
+          ∙ ap (child (n.name slot) fork) (no_more k)
 
       abbrev Kids : List ℕ
       Kids = drop before (ready_slots u)
@@ -270,7 +280,7 @@ module _ (t u : Table) (n : Naming) (m : Machine) (h : TableIsMachine t n m) (xs
       by_sat i l true was (branch k e s) =
           absurd (g.fresh i k was (sym (g.names i was) ∙ child_at k i e ∙ sym (ap (λ j. child (n.name j) fork k) same_slot)))
       by_sat i l false was (branch k e s) =
-          subst (Sits (xs ++ x ∷ []) (after.name i) (after.forks i)) (sym (s ∙ ap (λ f. seated_at (suc count) f k) own_forks))
+          subst (Sits (xs ++ x ∷ []) (after.name i) (after.forks i)) (sym (s ∙ (λ z. seated_at (suc count) (own_forks z) (no_more k z))))
           (child_sits k i was l (child_at k i e))
       by_sat i l true was (other s none) = old_sits i was s
       by_sat i l false was (other s none) =

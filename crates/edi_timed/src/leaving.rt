@@ -44,7 +44,7 @@ fn spot_by(standing: Standing, activity: &Activity) -> Option<Spot>
 }
 
 /// The stint of the process that is taken.
-pub(crate) fn begun(kernel: &Kernel) -> Begun
+pub(crate) fn at_start(kernel: &Kernel) -> Begun
     requires taken { IsSome kernel.now.taken }
     ensures { Begins kernel.now result }
 {

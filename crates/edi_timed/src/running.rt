@@ -18,7 +18,7 @@ ghost use Rattle.edi_timed.specs.Timed.{Timed};
 ghost use Rattle.edi_timed.specs.Underway.{Going, RoundsTo};
 
 use crate::heard::Heard;
-use crate::leaving::{Begun, begun, came_of, ended_as};
+use crate::leaving::{Begun, at_start, came_of, ended_as};
 use crate::seats::Seats;
 use edi_calls::Calls;
 use edi_kernel::{Ending, Kernel, StintEnd};
@@ -149,7 +149,7 @@ fn timed_round<C: Calls>(
     ensures fits { result ≡ None → Fits seats.new.items timeline.new }
     ensures count { result ≡ None → timeline.new.count ≤ kernel.new.used }
 {
-    let begun = begun(kernel);
+    let begun = at_start(kernel);
     heard.listen();
     let left = u64::from(bound) - kernel.turns_used();
     let stint = kernel.stint(code, heard, left);
