@@ -6,3 +6,4 @@ pub mod Seating
 pub mod Seated
 pub mod Left
 pub mod Rounds
+pub mod Arms

@@ -90,10 +90,26 @@ chosen_lives old new before after kernel w i l = elim (cases_eq i w.slot) [
 
 -- ---- a stint
 
-module _ (code : CodeParts) (s : State) (bound : ℕ) (first : Drawn) (old k : KernelState) (x y : State) (now : Drawn) (begun : Begun) (start said : Said)
-    (seats after : List Seated) (told later : Told) (w : Going code s bound first old x now seats told) (begins : Begins old begun)
-    (old_kernel : IsKernel old) (kernel : IsKernel k) (within : old.used ≤ bound) (small : k.used ≤ bound) (nothing : said_in start ≡ [])
-    (heard : HasShown start said x y) (few : said.many ≤ 7) (fits : Fits seats told) (same_source : first.source ≡ now.source) where
+-- what is known of a stint, and of the seats and the timeline before it
+pub record HasGone (code : CodeParts) (s : State) (bound : ℕ) (first : Drawn) (old k : KernelState) (x y : State) (now : Drawn) (begun : Begun) (said : Said)
+    (seats : List Seated) (told : Told) : Type 0 where
+  pub w : Going code s bound first old x now seats told
+  pub begins : Begins old begun
+  pub old_kernel : IsKernel old
+  pub kernel : IsKernel k
+  pub within : old.used ≤ bound
+  pub small : k.used ≤ bound
+  pub start : Said
+  pub nothing : said_in start ≡ []
+  pub few : said.many ≤ 7
+  pub fits : Fits seats told
+  pub same_source : first.source ≡ now.source
+
+module _ (code : CodeParts) (s : State) (bound : ℕ) (first : Drawn) (old k : KernelState) (x y : State) (now : Drawn) (begun : Begun) (said : Said)
+    (seats after : List Seated) (told later : Told) (f : HasGone code s bound first old k x y now begun said seats told) where
+  abbrev w : Going code s bound first old x now seats told
+  w = f.w
+
   abbrev m : Machine
   m = w.machine
 
@@ -103,55 +119,59 @@ module _ (code : CodeParts) (s : State) (bound : ℕ) (first : Drawn) (old k : K
   abbrev xs : List Stint
   xs = w.stints
 
-  abbrev Own : Seated
+  abbrev pub Own : Seated
   Own = seat_at seats begun.slot
 
-  abbrev Closed : End → Machine → Stint
+  abbrev pub Closed : End → Machine → Stint
   Closed e t = closed bound w.begun xs e t.turns t.system.shown
 
   abbrev All : End → Machine → List Stint
   All e t = with_closed code.words first.source bound w.begun xs e t
 
-  live : is_live old.table begun.slot ≡ true
+  pub live : is_live old.table begun.slot ≡ true
   live =
-      let taken : IsTaken old.table begun.slot = subst (IsTakenIn old.table) begins.taken old_kernel.taken in
-      live_of_home old.table begun.slot begins.inside (ap is_free_home taken.homeless)
+      let taken : IsTaken old.table begun.slot = subst (IsTakenIn old.table) f.begins.taken f.old_kernel.taken in
+      live_of_home old.table begun.slot f.begins.inside (ap is_free_home taken.homeless)
 
-  table : TableIsMachine old.table w.naming m
+  pub table : TableIsMachine old.table w.naming m
   table = let holds = w.by.holds in subst (λ n. TableIsMachine old.table n m) w.by.by holds.stands
 
-  name_is : p ≡ w.naming.name begun.slot
+  pub name_is : p ≡ w.naming.name begun.slot
   name_is =
       let holds = w.by.holds in
-      some (holds.is_taken ∙ ap (option_map holds.naming.name) begins.taken) ∙ ap (λ (n : Naming). n.name begun.slot) w.by.by
+      some (holds.is_taken ∙ ap (option_map holds.naming.name) f.begins.taken) ∙ ap (λ (n : Naming). n.name begun.slot) w.by.by
     where
       some : {a b : Name} → Some a ≡ Some b → a ≡ b
       some e = cc
 
-  process_is : (e : End) (t : Machine) → (Closed e t).process ≡ w.naming.name begun.slot
+  pub process_is : (e : End) (t : Machine) → (Closed e t).process ≡ w.naming.name begun.slot
   process_is e t = w.has_begun.process ∙ name_is
 
-  count_is : told.count ≡ length xs
+  pub count_is : told.count ≡ length xs
   count_is = ap (λ (t : Told). t.count) w.told_is
 
-  sits : length xs < 100000 → Sits xs p (w.naming.forks begun.slot) Own
+  pub sits : length xs < 100000 → Sits xs p (w.naming.forks begun.slot) Own
   sits l = subst (λ q. Sits xs q (w.naming.forks begun.slot) Own) (sym name_is) (w.seated l begun.slot live)
 
-  stood_is : is_at (start_in xs p) ≡ true → spot_in begun.stood ≡ w.begun.stood
+  pub stood_is : is_at (start_in xs p) ≡ true → spot_in begun.stood ≡ w.begun.stood
   stood_is h =
       let process : Process = process_at old.table begun.slot in
       let a : Activity = entry_of process (w.naming.forks begun.slot) in
-      begins.stood
+      f.begins.stood
       ∙ sym (spot_same a process process.standing refl refl)
       ∙ sym (ap spot_of (ap (find m.activities) name_is ∙ table.found begun.slot live))
       ∙ sym (w.has_begun.stood h)
 
   -- ---- what is told then
 
-  shown_is : (t : Machine) → t.system ≡ y → take 7 (said_in said) ≡ take 7 (drop w.begun.shown t.system.shown)
-  shown_is t is =
+  -- the timeline gets it, with what was heard in it
+  abbrev pub AddsHeard : StintEnd → Type 0
+  AddsHeard end = AddsBy (nat_le 100000 told.count) code.words k begun end said seats after told later × HasShown f.start said x y
+
+  shown_is : (t : Machine) → HasShown f.start said x y → t.system ≡ y → take 7 (said_in said) ≡ take 7 (drop w.begun.shown t.system.shown)
+  shown_is t heard is =
       let more : List ℕ = heard.0 in
-      let said_is : said_in said ≡ take 7 more = heard.2 ∙ ap (λ c. take 7 (c ++ more)) nothing in
+      let said_is : said_in said ≡ take 7 more = heard.2 ∙ ap (λ c. take 7 (c ++ more)) f.nothing in
       let twice : take 7 (take 7 more) ≡ take 7 more =
       ap (take 7) (sym (append-nil (take 7 more))) ∙ of_the_first 7 more [] ∙ ap (take 7) (append-nil more) in
       let dropped : drop w.begun.shown t.system.shown ≡ more =
@@ -165,31 +185,31 @@ module _ (code : CodeParts) (s : State) (bound : ℕ) (first : Drawn) (old k : K
 
   module _ (e : End) (t : Machine) (end : StintEnd) (left : length xs < 100000 → left_at code.words k Own.stands begun end ≡ e) (system : t.system ≡ y)
       (turns : t.turns ≡ bound - k.used) where
-    kept_is : length xs < 100000 → (a : AddsStint code.words k begun end said seats after told later) →
+    kept_is : length xs < 100000 → HasShown f.start said x y → (a : AddsStint code.words k begun end said seats after told later) →
         kept (stint_after xs Own.seat (end_of a.came) k.used (said_in said)) ≡ kept (Closed e t)
-    kept_is l a =
+    kept_is l heard a =
         let h : Sits xs p (w.naming.forks begun.slot) Own = sits l in
-        let first_is : suc (used_by 0 xs) ≡ suc (bound - w.begun.turns) = omega (arith, w.used, w.has_begun.turns, within) in
-        let last_is : k.used ≡ bound - t.turns = omega (arith, turns, small) in
+        let first_is : suc (used_by 0 xs) ≡ suc (bound - w.begun.turns) = omega (arith, w.used, w.has_begun.turns, f.within) in
+        let last_is : k.used ≡ bound - t.turns = omega (arith, turns, f.small) in
         λ i. record {
           process = (h.named ∙ sym w.has_begun.process) i;
           first = first_is i;
           last = last_is i;
           from = (ap start_after h.before ∙ ap (start_in xs) (sym w.has_begun.process)) i;
           end = (a.is ∙ left l) i;
-          shown = shown_is t system i;
+          shown = shown_is t heard system i;
         }
 
-    pub told_now : AddsBy (nat_le 100000 told.count) code.words k begun end said seats after told later → later ≡ told_of (All e t)
-    told_now adds = go (nat_le 100000 told.count) refl adds
+    pub told_now : AddsHeard end → later ≡ told_of (All e t)
+    told_now adds = go (nat_le 100000 told.count) refl adds.0
       where
         go : (full : Bool) → nat_le 100000 told.count ≡ full → AddsBy full code.words k begun end said seats after told later → later ≡ told_of (All e t)
         go true is a = a ∙ ap counted w.told_is ∙ told_counts xs (Closed e t) (omega (arith, leb-true 100000 told.count is, count_is))
         go false is a =
             let l : length xs < 100000 = omega (arith, leb-false 100000 told.count is, count_is) in
             let seat_is : later ≡ added (told_of xs) Own.seat a.came k.used said = a.told ∙ ap (λ o. added o Own.seat a.came k.used said) w.told_is in
-            seat_is ∙ told_adds xs Own.seat a.came k.used said l few
-            ∙ told_last xs (stint_after xs Own.seat (end_of a.came) k.used (said_in said)) (Closed e t) l (kept_is l a)
+            seat_is ∙ told_adds xs Own.seat a.came k.used said l f.few
+            ∙ told_last xs (stint_after xs Own.seat (end_of a.came) k.used (said_in said)) (Closed e t) l (kept_is l adds.1 a)
 
   -- ---- a stint that ends the run
 
@@ -205,7 +225,7 @@ module _ (code : CodeParts) (s : State) (bound : ℕ) (first : Drawn) (old k : K
             same = h.same;
             memory = h.memory;
             system_is = h.system;
-            turns = omega (arith, h.turns, turns, small);
+            turns = omega (arith, h.turns, turns, f.small);
           },
           record {
             end = h.end;
@@ -217,7 +237,7 @@ module _ (code : CodeParts) (s : State) (bound : ℕ) (first : Drawn) (old k : K
         )
 
     told_over : (e : Ending) (used : ℕ) → (h : EndsRun code.words left e k y m p w.others) →
-        AddsBy (nat_le 100000 told.count) code.words k begun (stint_end.Over used e) said seats after told later → later ≡ told_of (All (over h.end) h.machine)
+        AddsHeard (stint_end.Over used e) → later ≡ told_of (All (over h.end) h.machine)
     told_over e used h adds =
         told_now (over h.end) h.machine (stint_end.Over used e) (λ l. ap over (meant_is h.end e h.same)) h.system (h.turns ∙ turns) adds
 
@@ -231,47 +251,47 @@ module _ (code : CodeParts) (s : State) (bound : ℕ) (first : Drawn) (old k : K
             is = r.1;
             fails = h.fails;
             drawn = refl;
-            turns = omega (arith, h.turns, turns, small);
+            turns = omega (arith, h.turns, turns, f.small);
           };
           all = λ other. absurd (other refl);
         }
 
     ends_plainly : (e : Ending) (used : ℕ) → EndsRun code.words left e k y m p w.others →
-        AddsBy (nat_le 100000 told.count) code.words k begun (stint_end.Over used e) said seats after told later →
+        AddsHeard (stint_end.Over used e) →
         RunsAs code s bound first e k.store k.used y now × HasStints code s bound first later
     ends_plainly e used h adds = timed_as e h (told_over e used h adds)
 
   -- so it ends, unless by a fault, where the timeline has got the stint
   pub over_at : (e : Ending) (used full : ℕ) → full - used ≡ bound - k.used → GoesTo code.words (stint_end.Over used e) full k y m p w.others →
-      ((e ≡ ending.Fault → ⊥) → AddsBy (nat_le 100000 told.count) code.words k begun (stint_end.Over used e) said seats after told later) →
+      ((e ≡ ending.Fault → ⊥) → AddsHeard (stint_end.Over used e)) →
       Timed code s bound first e k y now later
   over_at ending.Done used full turns g adds =
-      let r = ends_plainly (full - used) turns ending.Done used g (adds (λ f. absurd (cc))) in record { ran = r.0; all = λ f. r.1 }
+      let r = ends_plainly (full - used) turns ending.Done used g (adds (λ e. absurd (cc))) in record { ran = r.0; all = λ e. r.1 }
   over_at (ending.Halted line) used full turns g adds =
-      let r = ends_plainly (full - used) turns (ending.Halted line) used g (adds (λ f. absurd (cc))) in record { ran = r.0; all = λ f. r.1 }
+      let r = ends_plainly (full - used) turns (ending.Halted line) used g (adds (λ e. absurd (cc))) in record { ran = r.0; all = λ e. r.1 }
   over_at (ending.Failed cause line) used full turns g adds =
-      let r = ends_plainly (full - used) turns (ending.Failed cause line) used g (adds (λ f. absurd (cc))) in record { ran = r.0; all = λ f. r.1 }
+      let r = ends_plainly (full - used) turns (ending.Failed cause line) used g (adds (λ e. absurd (cc))) in record { ran = r.0; all = λ e. r.1 }
   over_at ending.Turns used full turns g adds =
-      let r = ends_plainly (full - used) turns ending.Turns used g (adds (λ f. absurd (cc))) in record { ran = r.0; all = λ f. r.1 }
+      let r = ends_plainly (full - used) turns ending.Turns used g (adds (λ e. absurd (cc))) in record { ran = r.0; all = λ e. r.1 }
   over_at (ending.Bad at) used full turns g adds =
-      let r = ends_plainly (full - used) turns (ending.Bad at) used g (adds (λ f. absurd (cc))) in record { ran = r.0; all = λ f. r.1 }
+      let r = ends_plainly (full - used) turns (ending.Bad at) used g (adds (λ e. absurd (cc))) in record { ran = r.0; all = λ e. r.1 }
   over_at ending.Standstill used full turns g adds =
-      let r = ends_plainly (full - used) turns ending.Standstill used g.0 (adds (λ f. absurd (cc))) in record { ran = r.0; all = λ f. r.1 }
+      let r = ends_plainly (full - used) turns ending.Standstill used g.0 (adds (λ e. absurd (cc))) in record { ran = r.0; all = λ e. r.1 }
   over_at ending.Fault used full turns g adds = breaks (full - used) turns g
 
   -- ---- a stint that switches
 
   module _ (left : ℕ) (turns : left ≡ bound - k.used) (h : Switches code.words left k y m p w.others)
       (b : EndsBy code.words k.failed m p w.others h.machine h.joined) where
-    abbrev fails : Bool
+    abbrev pub fails : Bool
     fails = attempt_fails (fetch code.words) b.before p (find b.before.activities p)
 
-    abbrev End_now : End
+    abbrev pub End_now : End
     End_now = end_in code.words fails (start_in xs p) w.begun h.machine (find h.machine.activities p)
 
     -- where nobody is ready any more, the run is at a standstill
     pub unready : (used : ℕ) → length (ready_slots k.table) ≡ 0 →
-        AddsBy (nat_le 100000 told.count) code.words k begun (stint_end.Over used ending.Standstill) said seats after told later →
+        AddsHeard (stint_end.Over used ending.Standstill) →
         Timed code s bound first ending.Standstill k y now later
     unready used none adds =
         let holds = h.holds in
@@ -289,7 +309,7 @@ module _ (code : CodeParts) (s : State) (bound : ℕ) (first : Drawn) (old k : K
             same = tt;
             memory = tt;
             system_is = h.system;
-            turns = omega (arith, h.turns, turns, small);
+            turns = omega (arith, h.turns, turns, f.small);
           };
           all = λ other. record {
             end = outcome.standstill;
@@ -306,7 +326,7 @@ module _ (code : CodeParts) (s : State) (bound : ℕ) (first : Drawn) (old k : K
 
     -- and else the next goes on
     pub goes_further : (next : KernelState) (drawn : Drawn) (end : StintEnd) → (length xs < 100000 → left_at code.words k Own.stands begun end ≡ End_now) →
-        AddsBy (nat_le 100000 told.count) code.words k begun end said seats after told later →
+        AddsHeard end →
         (let holds = h.holds in AreUnborn (xs ++ Closed End_now h.machine ∷ []) k.table holds.naming) →
         (length xs < 100000 → let holds = h.holds in AreSeated (xs ++ Closed End_now h.machine ∷ []) k.table holds.naming after) →
         (let holds = h.holds in ChoosesBy holds.naming next h.machine now drawn (w.others ++ h.joined)) → SlotsStay k.table next.table →
@@ -327,14 +347,14 @@ module _ (code : CodeParts) (s : State) (bound : ℕ) (first : Drawn) (old k : K
           by = record { holds = c.holds; by = chooses.1 };
           underway =
               goes_on code first.source bound s first.drawn b.steps m b.before h.machine p c.name w.others c.others h.joined now.drawn drawn.drawn w.begun xs
-              w.underway b.reached b.last (ap (λ z. take_next z now.drawn (w.others ++ h.joined)) same_source ∙ c.is);
+              w.underway b.reached b.last (ap (λ z. take_next z now.drawn (w.others ++ h.joined)) f.same_source ∙ c.is);
           has_begun = record {
             process = refl;
             turns = h.turns ∙ turns ∙ ap (λ n. bound - n) (sym used);
             shown = ap (λ (z : State). length z.shown) h.system;
-            stood = λ f. refl;
+            stood = λ e. refl;
           };
-          used = used_more 0 xs (Closed End_now h.machine) ∙ omega (arith, h.turns, turns, used, small);
+          used = used_more 0 xs (Closed End_now h.machine) ∙ omega (arith, h.turns, turns, used, f.small);
           unborn = λ i l. unborn i (stay i l);
           seated = λ l i live_i. seated (omega (arith, l, one_longer xs (Closed End_now h.machine))) i (stay i live_i);
           told_is = told_now End_now h.machine end left_is h.system (h.turns ∙ turns) adds;

@@ -145,6 +145,46 @@ module _ (t u : Table) (n : Naming) (m : Machine) (h : TableIsMachine t n m) (xs
   unborn_on stay unborn i l f j path later =
       newest_other xs x (below (child (n.name i) f j) path) (none_later i f j path (stay i l) later) ∙ unborn i (stay i l) f j path later
 
+  -- the same behind a fork
+  module _ (after : Naming) (fork number : ℕ) (taken : Option ℕ) (is_taken : taken ≡ Some slot) (g : NamesGrow fork number taken t u n after) where
+    same_slot : g.slot ≡ slot
+    same_slot = some (sym g.was ∙ is_taken)
+      where
+        some : {a b : ℕ} → Some a ≡ Some b → a ≡ b
+        some e = cc
+
+    next_fork : fork ≡ suc (n.forks slot)
+    next_fork = g.next ∙ ap (λ i. suc (n.forks i)) same_slot
+
+    pub unborn_forked : AreUnborn xs t n → AreUnborn (xs ++ x ∷ []) u after
+    unborn_forked unborn i l f j path later = go (is_live t i) refl
+      where
+        go : (b : Bool) → is_live t i ≡ b → newest_of (xs ++ x ∷ []) (below (child (after.name i) f j) path) ≡ None
+        go true was =
+            let more : n.forks i ≤ after.forks i = elim (cases_eq i slot) [
+              | inl e ↦ omega (
+                arith,
+                ap after.forks (e ∙ sym same_slot),
+                g.forked,
+                next_fork,
+                ap n.forks e,
+              )
+              | inr ne ↦ let same : after.forks i ≡ n.forks i = g.forks i was (λ e. ne (e ∙ same_slot)) in omega (arith, same)
+            ] in
+            let before_it : n.forks i < f = omega (arith, more, later) in
+            ap (λ q. newest_of (xs ++ x ∷ []) (below (child q f j) path)) (g.names i was)
+            ∙ newest_other xs x (below (child (n.name i) f j) path) (none_later i f j path was before_it) ∙ unborn i was f j path before_it
+        go false was =
+            let b : IsBorn (n.name g.slot) fork (length (ready_slots t)) u after i = g.born i was l in
+            let name : after.name i ≡ child (n.name slot) fork b.number = b.named ∙ ap (λ k. child (n.name k) fork b.number) same_slot in
+            let longer : List (ℕ × ℕ) = path ++ (f, j) ∷ [] in
+            let later_one : n.forks slot < fork = omega (arith, next_fork) in
+            ap (λ q. newest_of (xs ++ x ∷ []) (below (child q f j) path)) name
+            ∙ ap (newest_of (xs ++ x ∷ [])) (below_again (child (n.name slot) fork b.number) f j path)
+            ∙ newest_other xs x (below (child (n.name slot) fork b.number) longer)
+            (ap (λ q. same q (below (child (n.name slot) fork b.number) longer)) process ∙ not_below (n.name slot) fork b.number longer)
+            ∙ unborn slot live fork b.number longer later_one
+
   module _ (seats : List Seated) (c : Came) (count : ℕ) (seated : AreSeated xs t n seats) (from : x.from ≡ start_in xs (n.name slot))
       (end : x.end ≡ end_of c) (failed : has_failed c ≡ true → (seat_at seats slot).stands ≡ true) (counted : count ≡ length xs)
       (wide : length seats ≡ 32) where
@@ -183,43 +223,11 @@ module _ (t u : Table) (n : Naming) (m : Machine) (h : TableIsMachine t n m) (xs
     module _ (branches : ℕ) (has_forked : c ≡ came.Forked branches) (after : Naming) (fork number before : ℕ) (taken : Option ℕ) (is_taken : taken ≡ Some slot)
         (g : NamesGrow fork number taken t u n after) (others ps : List Name) (beside : before ≡ length (ready_slots t)) (few : length others ≡ before)
         (ready : others ++ ps ≡ map after.name (ready_slots u)) (are : ps ≡ children (n.name slot) fork 0 number) (unborn : AreUnborn xs t n) where
-      same_slot : g.slot ≡ slot
-      same_slot = some (sym g.was ∙ is_taken)
-        where
-          some : {a b : ℕ} → Some a ≡ Some b → a ≡ b
-          some e = cc
+      slot_is : g.slot ≡ slot
+      slot_is = same_slot after fork number taken is_taken g
 
       fork_is : fork ≡ suc (n.forks slot)
-      fork_is = g.next ∙ ap (λ i. suc (n.forks i)) same_slot
-
-      pub unborn_forked : AreUnborn (xs ++ x ∷ []) u after
-      unborn_forked i l f j path later = go (is_live t i) refl
-        where
-          go : (b : Bool) → is_live t i ≡ b → newest_of (xs ++ x ∷ []) (below (child (after.name i) f j) path) ≡ None
-          go true was =
-              let more : n.forks i ≤ after.forks i = elim (cases_eq i slot) [
-                | inl e ↦ omega (
-                  arith,
-                  ap after.forks (e ∙ sym same_slot),
-                  g.forked,
-                  fork_is,
-                  ap n.forks e,
-                )
-                | inr ne ↦ let same : after.forks i ≡ n.forks i = g.forks i was (λ e. ne (e ∙ same_slot)) in omega (arith, same)
-              ] in
-              let before_it : n.forks i < f = omega (arith, more, later) in
-              ap (λ q. newest_of (xs ++ x ∷ []) (below (child q f j) path)) (g.names i was)
-              ∙ newest_other xs x (below (child (n.name i) f j) path) (none_later i f j path was before_it) ∙ unborn i was f j path before_it
-          go false was =
-              let b : IsBorn (n.name g.slot) fork (length (ready_slots t)) u after i = g.born i was l in
-              let name : after.name i ≡ child (n.name slot) fork b.number = b.named ∙ ap (λ k. child (n.name k) fork b.number) same_slot in
-              let longer : List (ℕ × ℕ) = path ++ (f, j) ∷ [] in
-              let later_one : n.forks slot < fork = omega (arith, fork_is) in
-              ap (λ q. newest_of (xs ++ x ∷ []) (below (child q f j) path)) name
-              ∙ ap (newest_of (xs ++ x ∷ [])) (below_again (child (n.name slot) fork b.number) f j path)
-              ∙ newest_other xs x (below (child (n.name slot) fork b.number) longer)
-              (ap (λ q. same q (below (child (n.name slot) fork b.number) longer)) process ∙ not_below (n.name slot) fork b.number longer)
-              ∙ unborn slot live fork b.number longer later_one
+      fork_is = next_fork after fork number taken is_taken g
 
       no_more : (k : ℕ) → 0 + k ≡ k
       no_more k = omega arith
@@ -265,8 +273,8 @@ module _ (t u : Table) (n : Naming) (m : Machine) (h : TableIsMachine t n m) (xs
           (elim (moved i was) [
             | inl a ↦ subst (λ f. Sits_now i f (seat_at (put_at seats slot Own) i))
                 (ap (λ e. forks_after e (n.forks i)) has_forked ∙ ap (λ k. suc (n.forks k)) a.0 ∙ sym fork_is ∙ sym g.forked
-                ∙ ap after.forks (same_slot ∙ sym a.0)) a.1
-            | inr a ↦ subst (λ f. Sits_now i f (seat_at (put_at seats slot Own) i)) (sym (g.forks i was (λ e. a.0 (e ∙ same_slot)))) a.1
+                ∙ ap after.forks (slot_is ∙ sym a.0)) a.1
+            | inr a ↦ subst (λ f. Sits_now i f (seat_at (put_at seats slot Own) i)) (sym (g.forks i was (λ e. a.0 (e ∙ slot_is)))) a.1
           ]))
 
       abbrev Seats_now : List Seated
@@ -278,7 +286,7 @@ module _ (t u : Table) (n : Naming) (m : Machine) (h : TableIsMachine t n m) (xs
       by_sat : (i : ℕ) → is_live u i ≡ true → (was : Bool) → is_live t i ≡ was → Sat (suc count) Own.forks 0 Kids (put_at seats slot Own) i →
           Sits (xs ++ x ∷ []) (after.name i) (after.forks i) (seat_at Seats_now i)
       by_sat i l true was (branch k e s) =
-          absurd (g.fresh i k was (sym (g.names i was) ∙ child_at k i e ∙ sym (ap (λ j. child (n.name j) fork k) same_slot)))
+          absurd (g.fresh i k was (sym (g.names i was) ∙ child_at k i e ∙ sym (ap (λ j. child (n.name j) fork k) slot_is)))
       by_sat i l false was (branch k e s) =
           subst (Sits (xs ++ x ∷ []) (after.name i) (after.forks i)) (sym (s ∙ (λ z. seated_at (suc count) (own_forks z) (no_more k z))))
           (child_sits k i was l (child_at k i e))
