@@ -10,3 +10,4 @@ pub mod Named
 pub mod Passed
 pub mod Kept
 pub mod Frames
+pub mod StandsStill

@@ -7,3 +7,4 @@ pub mod Seated
 pub mod Left
 pub mod Rounds
 pub mod Arms
+pub mod meant

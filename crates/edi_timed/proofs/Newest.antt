@@ -1,13 +1,13 @@
 -- Stints by their numbers and by their processes, with one more.
-use Rattle.std.proofs.Common.{◌≡◌, ◌≤◌, ◌<◌, ℕ, zero, suc, ◌+◌, Bool, true, false, if◌then◌else◌, List, [], ◌∷◌, ◌++◌, length, Option, Some, None, refl, ap, sym, ◌∙◌}
-use Rattle.std.proofs.Common.{arith, map, take, length-append}
+use Rattle.std.proofs.Common.{◌≡◌, ◌≤◌, ◌<◌, ℕ, zero, suc, ◌+◌, Bool, true, false, if◌then◌else◌, List, [], ◌∷◌, ◌++◌, length, Option}
+use Rattle.std.proofs.Common.{Some, None, refl, ap, sym, ◌∙◌, arith, map, take, length-append}
 use Rattle.std.specs.Prelude.{slice_get}
 use Rattle.std.proofs.lemmas.List.{map-append}
 use Rattle.edi_calls.specs.Names.{Name, same}
 use Rattle.edi_calls.proofs.Tables.{same-refl}
 use Rattle.edi_timeline.specs.Stints.{Stint}
 use Rattle.edi_timeline.specs.Text.{most_lines, kept}
-use Rattle.edi_timeline.specs.Timelines.{Told, told_of}
+use Rattle.edi_timeline.specs.Timelines.{told_of}
 use Rattle.edi_timeline.specs.Adding.{nth_stint, used_by}
 use Rattle.edi_timeline.proofs.Counting.{taken_whole}
 use Rattle.edi_timed.specs.Ran.{or_else, newest_of}

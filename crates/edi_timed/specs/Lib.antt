@@ -5,3 +5,4 @@ pub mod Seats
 pub mod Leaving
 pub mod Timed
 pub mod Underway
+pub mod meant

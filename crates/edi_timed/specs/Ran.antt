@@ -5,7 +5,7 @@ use Rattle.edi_calls.specs.Names.{Name, same, find}
 use Rattle.edi_calls.specs.Outcome as outcome
 use Rattle.edi_calls.specs.Ready.{stays, joins, Taking, nobody, taking, take_next}
 use Rattle.edi_calls.specs.State.{State}
-use Rattle.edi_target.specs.Op.{Instruction, address_of_words}
+use Rattle.edi_target.specs.Op.{address_of_words}
 use Rattle.edi_target.specs.Memory.{word}
 use Rattle.edi_target.specs.Fetch.{fetch}
 use Rattle.edi_target.specs.Check.{CodeParts}

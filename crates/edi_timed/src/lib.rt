@@ -2,6 +2,7 @@
 #![tactic(auto)]
 
 mod heard;
+pub mod laws;
 mod leaving;
 mod places;
 mod running;

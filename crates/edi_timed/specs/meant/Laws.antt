@@ -1,0 +1,27 @@
+-- Words of contracts. THE LAW of stints: those of a run of the code are those of the program's execution.
+use Rattle.std.specs.Prelude.{◌≡◌, ℕ, List}
+use Rattle.edi_calls.specs.Choice.{Choices}
+use Rattle.edi_calls.specs.Names.{Name}
+use Rattle.edi_calls.specs.Outcome.{Ending}
+use Rattle.edi_calls.specs.State.{State, Traced}
+use Rattle.edi_unit.specs.Tree.{ProgramUnit}
+use Rattle.edi_meaning.specs.Select as source
+use Rattle.edi_target.specs.Fetch.{fetch}
+use Rattle.edi_target.specs.Mach as target
+use Rattle.edi_target.specs.Mach.{Machine}
+use Rattle.edi_scheme.specs.Code.{code_of}
+use Rattle.edi_scheme.specs.Laws.{parts_of}
+use Rattle.edi_follows.specs.Theorem.{CanBeCoded}
+use Rattle.edi_timeline.specs.Stints.{stints_of}
+use Rattle.edi_timed.specs.Ran.{stints_of_code}
+
+-- Where an execution of a program ends, each run of its code that has ended has the stints of that execution, one by one: with their turns,
+-- processes and places, how each began and ended, and what was shown in it.
+abbrev pub StintsAreMeant : Type 0
+StintsAreMeant =
+    (unit : ProgramUnit) → CanBeCoded unit → (system : State) (bound : ℕ) (choices : Choices) (ending : Ending) (end : Traced) (turns drawn : ℕ)
+    (order : List Name) →
+    source.Ends unit system bound choices ending end turns drawn order →
+    (n : ℕ) (e : Ending) (m : Machine) (d : ℕ) →
+    target.run_from_start (fetch (code_of unit)) 0 unit.calls system bound choices n ≡ target.finished e m d →
+    stints_of_code (parts_of unit) system bound choices 0 n ≡ stints_of unit system bound order
