@@ -2,8 +2,8 @@ use Rattle.std.proofs.Common.{◌≡◌, ◌≤◌, ◌<◌, ◌+◌, ◌-◌, �
 use Rattle.edi_timed.specs.Ran.{call_lines, place}
 use Rattle.edi_timed.proofs.places.place_of.Given as goal
 
-abbrev pub invariant-loop : goal.invariant-loop
-invariant-loop l = record {
+abbrev pub invariant-loop-many : goal.invariant-loop-many
+invariant-loop-many l = record {
   lines : take l.many l.lines ++ call_lines l.code.words (5 - l.many) l.kernel.store l.activity.segment.first l.base
       ≡ place l.code.words l.kernel.store l.activity.segment.first l.activity.base l.activity.pc;
   some : 1 ≤ l.many;
@@ -12,5 +12,5 @@ invariant-loop l = record {
   wide : length l.lines ≡ 5;
 }
 
-abbrev pub decreases-loop : goal.decreases-loop
-decreases-loop l = 5 - l.many
+abbrev pub decreases-loop-many : goal.decreases-loop-many
+decreases-loop-many l = 5 - l.many
