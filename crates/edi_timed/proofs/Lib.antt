@@ -4,6 +4,7 @@ pub mod Families
 pub mod Along
 pub mod Placing
 pub mod Seating
+pub mod Adding
 pub mod Seated
 pub mod Left
 pub mod Rounds

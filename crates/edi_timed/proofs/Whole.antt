@@ -1,5 +1,5 @@
 -- Rounds of a timed run, where the system tells its state; its start, and its end.
-use Rattle.std.proofs.Common.{◌≡◌, ◌≤◌, ◌<◌, ◌⊎◌, inl, inr, ℕ, zero, suc, ◌-◌, Bool, true, false, nat_le, if◌then◌else◌, List, [], ◌∷◌, length, drop, take}
+use Rattle.std.proofs.Common.{◌≡◌, ◌≤◌, ◌<◌, ◌⊎◌, inl, inr, ℕ, zero, suc, ◌+◌, ◌-◌, Bool, true, false, nat_le, if◌then◌else◌, List, [], ◌∷◌, length, drop, take}
 use Rattle.std.proofs.Common.{Option, Some, None, refl, sym, ap, ◌∙◌, subst, arith, slice_index_or}
 use Rattle.std.specs.Prelude.{replicate}
 use Rattle.edi_told.specs.Told.{WhereTold}
@@ -129,6 +129,7 @@ module _ (code : CodeParts) (bound : ℕ) (old k : KernelState) (now : Drawn) (b
 
   pub told_over : (e : Ending) (o n : Option State) → ended_by (ended_as (length (ready_slots k.table)) end) ≡ Some e → WhereTold o n Names →
       ((e ≡ ending.Fault → ⊥) → WhereTold o n (HasShown start said)) → ((e ≡ ending.Fault → ⊥) → Adds) → WhereTold o n (AnyRound (Some e) k now)
+  unfolding gone
   told_over e o n is names heard adds = go (fault_or e)
     where
       go : (e ≡ ending.Fault) ⊎ (e ≡ ending.Fault → ⊥) → WhereTold o n (AnyRound (Some e) k now)
@@ -147,6 +148,7 @@ module _ (code : CodeParts) (bound : ℕ) (old k : KernelState) (now : Drawn) (b
       WhereTold o n Names → WhereTold o n (HasShown start said) → Adds → k.taken ≡ None →
       ((names : Naming) (m : Machine) (ns : List Name) → HoldsBy names k m None ns → ChoosesBy names next m now drawn ns) → SlotsStay k.table next.table →
       next.used ≡ k.used → next.entering ≡ false → WhereTold o n (AnyRound None next drawn)
+  unfolding gone
   told_on next drawn o n is names heard adds free chooses stay used entering =
       told_both Names (HasShown start said) (AnyRound None next drawn) o n
       (λ x y g h s first source w.

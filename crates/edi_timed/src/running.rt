@@ -76,6 +76,7 @@ fn add_stint(
     requires fits { Fits seats.old.items timeline.old }
     requires small { timeline.old.count < 2 ^ 64 - 1 }
     requires turns { kernel.now.used < 2 ^ 32 }
+    requires few { length (ready_slots kernel.now.table) ≤ 32 }
     ensures exact { AddsBy (nat_le 100000 timeline.old.count) code.now.words kernel.now begun end said seats.old.items seats.new.items timeline.old timeline.new }
     ensures fits { is_over end ≡ false → Fits seats.new.items timeline.new }
     ensures count { timeline.new.count ≡ timeline.old.count + 1 }
@@ -106,6 +107,7 @@ fn note(
     requires fits { Fits seats.old.items timeline.old }
     requires small { timeline.old.count < 2 ^ 64 - 1 }
     requires turns { kernel.now.used < 2 ^ 32 }
+    requires few { length (ready_slots kernel.now.table) ≤ 32 }
     ensures exact { result ≡ ended_by end }
     ensures adds { (ended_by end ≡ Some Ending.Fault → ⊥) →
         AddsBy (nat_le 100000 timeline.old.count) code.now.words kernel.now begun end said seats.old.items seats.new.items timeline.old timeline.new }
