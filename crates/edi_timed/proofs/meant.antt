@@ -7,3 +7,4 @@ pub mod Remembered
 pub mod Stints
 pub mod Ends
 pub mod Meant
+pub mod Selected

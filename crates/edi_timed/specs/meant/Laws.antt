@@ -25,3 +25,13 @@ StintsAreMeant =
     (n : ℕ) (e : Ending) (m : Machine) (d : ℕ) →
     target.run_from_start (fetch (code_of unit)) 0 unit.calls system bound choices n ≡ target.finished e m d →
     stints_of_code (parts_of unit) system bound choices 0 n ≡ stints_of unit system bound order
+
+-- And where a run of the code has ended, an execution ends so that the choices select: with the same ending, system, turns and choices drawn.
+-- The run has the stints of that one.
+abbrev pub RunsHaveStints : Type 0
+RunsHaveStints =
+    (unit : ProgramUnit) → CanBeCoded unit → (system : State) (bound : ℕ) (choices : Choices) (n : ℕ) (ending : Ending) (m : Machine) (drawn : ℕ) →
+    target.run_from_start (fetch (code_of unit)) 0 unit.calls system bound choices n ≡ target.finished ending m drawn →
+    (end : Traced) × (turns : ℕ) × (order : List Name) × source.Ends unit system bound choices ending end turns drawn order
+    × (m.system ≡ end.now) × (m.turns ≡ turns)
+    × (stints_of_code (parts_of unit) system bound choices 0 n ≡ stints_of unit system bound order)
