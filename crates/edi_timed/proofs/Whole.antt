@@ -88,6 +88,15 @@ none_failed F before now ready (stint_end.Arrived used) other b = b
 none_failed F before now ready (stint_end.Forked used) other b = b
 none_failed F before now ready (stint_end.Exited used) other b = b
 
+pub not_over_before : (ready : ℕ) (end : StintEnd) → ended_by (ended_as ready end) ≡ None → is_over end ≡ false
+not_over_before ready (stint_end.Over used e) is = absurd (cc)
+not_over_before ready (stint_end.Arrived used) is = refl
+not_over_before ready (stint_end.Forked used) is = refl
+not_over_before ready (stint_end.Exited used) is = refl
+
+pub same_ending : {e f : Ending} → Some e ≡ Some f → e ≡ f
+same_ending h = cc
+
 -- ---- a round
 
 module _ (code : CodeParts) (bound : ℕ) (old k : KernelState) (now : Drawn) (begun : Begun) (start said : Said) (seats after : List Seated) (told later : Told)

@@ -10,7 +10,7 @@ ghost use Rattle.edi_trace.specs.Drawn.{Drawn};
 ghost use Rattle.edi_target.specs.Mach.{Machine};
 ghost use Rattle.edi_kernel.specs.Stretch.{Blamed};
 ghost use Rattle.edi_kernel.specs.Table.{ready_slots};
-ghost use Rattle.edi_kernel.specs.Kernel.{ended_by, fault_of, is_over};
+ghost use Rattle.edi_kernel.specs.Kernel.{IsKernel, ended_by, fault_of, is_over};
 ghost use Rattle.edi_timed.specs.Leaving as spec;
 ghost use Rattle.edi_timed.specs.Leaving.{AddsBy};
 ghost use Rattle.edi_timed.specs.Seats.{Fits};
@@ -133,6 +133,7 @@ fn timed_round<C: Calls>(
     timeline: &mut Timeline,
 ) -> Option<Ending>
     requires taken { IsSome kernel.old.taken }
+    requires kernel { IsKernel kernel.old }
     requires working { C.failed heard.old.calls None }
     requires used { kernel.old.used ≤ bound }
     requires fits { Fits seats.old.items timeline.old }
@@ -142,6 +143,7 @@ fn timed_round<C: Calls>(
         Going code.now s bound first kernel.old x choices.old seats.old.items timeline.old →
         RoundsTo code.now s bound first result kernel.new y choices.new seats.new.items timeline.new) }
     ensures taken { result ≡ None → IsSome kernel.new.taken }
+    ensures kernel { result ≡ None → IsKernel kernel.new }
     ensures used { kernel.new.used ≤ bound }
     ensures spent { result ≡ None → kernel.old.used < kernel.new.used }
     ensures source { choices.new.source ≡ choices.old.source }
