@@ -128,11 +128,12 @@ WITHOUT = [(n, *session(some)) for n in range(1, 6) for some in itertools.combin
 EXPLAINED = b"""2: begin f end
          ^
 the name 'f' seems to mean nothing here
-A name of this line means nothing here. A name means something from its declaration to the end of
-the procedure, module or program round it. Look for another spelling, small and capital letters too;
-for a declaration that stands further down: 'pre proc' announces a procedure; for a name of a module
-that has no '*'; for a field that the record has not; for display or another call that the heading
-of the program does not name.
+A name of this line means nothing here. Each of these may be the reason:
+- It is display or another call of the system, and the heading of the program does not name it.
+- It is spelled in another way. Small and capital letters differ. The standard types are int, char and bool.
+- It is declared further down. A procedure may be announced before, by 'pre proc' with its heading.
+- It is declared in a procedure or a module that has ended. A name of a module is seen outside if it has a '*'.
+- It is a field that the record has not.
 """
 
 # A text that is explored. Where branch 2 is first, branch 1 waits for ever: entry, fork, two arrivals, an end and an attempt; else both end.

@@ -33,4 +33,3 @@ pub mod NameLists
 pub mod Remembered
 pub mod Remembering
 pub mod StandsStill
-pub mod LastInstruction

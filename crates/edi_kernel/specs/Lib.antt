@@ -11,4 +11,3 @@ pub mod Passed
 pub mod Kept
 pub mod Frames
 pub mod StandsStill
-pub mod LastInstruction

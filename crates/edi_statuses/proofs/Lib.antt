@@ -15,4 +15,5 @@ pub mod Watched
 pub mod Walked
 pub mod Explored
 pub mod always
+pub mod OneLog
 pub mod OneEnd

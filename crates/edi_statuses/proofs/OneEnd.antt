@@ -19,7 +19,7 @@ use Rattle.edi_words.specs.Words as words
 use Rattle.edi_words.specs.Words.{Command}
 use Rattle.edi_statuses.specs.declared.status.Status.{Status}
 use Rattle.edi_statuses.specs.Outside.{Outside, Devices, Kept, KernelLeft, system_on, with_kept, without_names}
-use Rattle.edi_statuses.specs.Steps.{AfterStep, goes, stops, Fetches, Ready}
+use Rattle.edi_statuses.specs.Steps.{AfterStep, goes, stops, Fetches, FindsPoints, Ready}
 use Rattle.edi_statuses.specs.Executions.{Runnable, text, code, HasRun, record_of}
 use Rattle.edi_statuses.specs.Walked.{Walks}
 use Rattle.edi_statuses.specs.Commands.{Comes, CommandEffect, Demonstrates, Does, Explains, IsDone, IsNothing, KeepsCode, OnlyBlocks, OnlyKeeps, OnlyShows}
@@ -28,6 +28,8 @@ use Rattle.edi_statuses.specs.Commands.{PutSteps, GetSteps, ListSteps, DemoSteps
 use Rattle.edi_statuses.specs.Decided.{IsTold, is_decided}
 use Rattle.edi_statuses.specs.Always.{lent_from, told_outside}
 use Rattle.edi_statuses.specs.OneEnd.{LeaveSame, OneEnd, names_free}
+use Rattle.edi_statuses.proofs.OneLog.{one_log}
+use Rattle.edi_statuses.proofs.always.Programs.{watch_then}
 use Rattle.edi_statuses.proofs.StepLemmas.{IsOne, TextsAreOne, fetches_one, not_both, ready_one, value_or}
 use Rattle.edi_statuses.proofs.OneStatus.{outcome_same, text_steps, watch_steps, code_steps, compile_steps, old_steps, put_steps, get_steps, list_steps}
 use Rattle.edi_statuses.proofs.OneStatus.{demo_steps}
@@ -54,31 +56,6 @@ gone_same files name bytes other =
     ∙ either_gone (is_named name q) (Some bytes) (Some other) (map.get files q)
     ∙ sym (map.get-remove nat_list_cmp_total (map.insert files name other) name q
     ∙ ap (λ o. cond (is_named name q) None o) (map.get-insert nat_list_cmp_total files name other q)))
-
-later_gone : (same again : Bool) (x y z rest : Option (List ℕ))
-    → cond same None (cond again z (cond same x rest)) ≡ cond same None (cond again z (cond same y rest))
-later_gone true again x y z rest = refl
-later_gone false again x y z rest = refl
-
--- another file kept after it
-gone_under : (files : Contents) (name bytes other next more : List ℕ)
-    → map.remove (map.insert (map.insert files name bytes) next more) name ≡ map.remove (map.insert (map.insert files name other) next more) name
-gone_under files name bytes other next more =
-    map.same_map nat_list_cmp_total (slice_cmp-IsAntisymmetric nat_cmp-IsAntisymmetric) _ _ (λ q.
-    seen bytes q ∙ later_gone (is_named name q) (is_named next q) (Some bytes) (Some other) (Some more) (map.get files q) ∙ sym (seen other q)) where
-      seen : (x q : List ℕ) → map.get (map.remove (map.insert (map.insert files name x) next more) name) q
-          ≡ cond (is_named name q) None (cond (is_named next q) (Some more) (cond (is_named name q) (Some x) (map.get files q)))
-      seen x q =
-          map.get-remove nat_list_cmp_total (map.insert (map.insert files name x) next more) name q
-          ∙ ap (λ o. cond (is_named name q) None o) (map.get-insert nat_list_cmp_total (map.insert files name x) next more q
-          ∙ ap (λ o. cond (is_named next q) (Some more) o) (map.get-insert nat_list_cmp_total files name x q))
-
--- so with a record
-log_gone : (files : Contents) (out log other : List ℕ) (record_file : Option (List ℕ)) (choices : Choices) (drawn : ℕ)
-    → map.remove (with_kept ((out, log) ∷ record_of record_file choices drawn) files) out
-    ≡ map.remove (with_kept ((out, other) ∷ record_of record_file choices drawn) files) out
-log_gone files out log other None choices drawn = gone_same files out log other
-log_gone files out log other (Some name) choices drawn = gone_under files out log other name _
 
 -- ---- two runs of a program
 
@@ -133,7 +110,7 @@ module _ (each : TextsAreOne) (files : Contents) (d : Devices) (kernel : KernelL
       h.kernel_same k.kernel_same
 
   does_end : {A : Type 0} (names : List (List ℕ)) (steps : AfterStep A → Type 0) (effect : A → CommandEffect) → IsOne steps
-      → ((a : A) → EndsOne names (effect a)) → EndsOne names (Does steps effect)
+      → ((a : A) → steps (goes a) → EndsOne names (effect a)) → EndsOne names (Does steps effect)
   does_end names steps effect one_step ones s t one other e f shown bytes left also (inl h) (inl k) =
       nothing_one names one other e f shown bytes left also h.1 k.1
   does_end names steps effect one_step ones s t one other e f shown bytes left also (inl h) (inr k) =
@@ -142,7 +119,7 @@ module _ (each : TextsAreOne) (files : Contents) (d : Devices) (kernel : KernelL
       absurd (not_both h.0 t (one_step (goes h.0) (stops t) h.1 k.0))
   does_end names steps effect one_step ones s t one other e f shown bytes left also (inr h) (inr k) =
       let same = ap (λ x. value_or h.0 x) (one_step (goes h.0) (goes k.0) h.1 k.1) in
-      ones k.0 s t one other e f shown bytes left also
+      ones k.0 k.1 s t one other e f shown bytes left also
       (subst (λ a. effect a s (told_outside files d) (told_outside one e) shown (lent_from kernel left)) same h.2) k.2
 
   -- ---- effects that touch one object
@@ -236,15 +213,15 @@ module _ (each : TextsAreOne) (files : Contents) (d : Devices) (kernel : KernelL
         turns = same.turns;
       }
 
-  -- the log is that of the execution; that a text has one log is not claimed here
-  watches_end : (program : List ℕ) (points : List Watched) (bound : ℕ) (choices : Choices) (out : List ℕ) (record_file : Option (List ℕ))
-      → EndsOne (out ∷ []) (Watches program points bound choices out record_file)
-  watches_end program points bound choices out record_file s t one other e f shown bytes left also h k =
-      let same = runs_leave (text program) bound choices h.ending k.ending h.drawn k.drawn d e f shown bytes left also h.ran k.ran in record {
+  watches_end : (program lines : List ℕ) (points : List Watched) → FindsPoints program lines (goes points) → (bound : ℕ) (choices : Choices)
+      (out : List ℕ) (record_file : Option (List ℕ)) → EndsOne [] (Watches program points bound choices out record_file)
+  watches_end program lines points finds bound choices out record_file s t one other e f shown bytes left also h k =
+      let same = runs_leave (text program) bound choices h.ending k.ending h.drawn k.drawn d e f shown bytes left also h.ran k.ran in
+      let log : h.log ≡ k.log = one_log program lines points finds (system_on d) bound choices h.log k.log h.log_is k.log_is in record {
         files_ =
-            ap (λ x. map.remove x out) h.keeps ∙ log_gone files out h.log k.log record_file choices h.drawn
-            ∙ ap (λ n. map.remove (with_kept ((out, k.log) ∷ record_of record_file choices n) files) out) same.draws
-            ∙ sym (ap (λ x. map.remove x out) k.keeps);
+            h.keeps ∙ ap (λ x. with_kept ((out, x) ∷ record_of record_file choices h.drawn) files) log
+            ∙ ap (λ n. with_kept ((out, k.log) ∷ record_of record_file choices n) files) same.draws
+            ∙ sym k.keeps;
         slots = same.slots;
         count = same.count;
         input = same.input;
@@ -262,36 +239,37 @@ module _ (each : TextsAreOne) (files : Contents) (d : Devices) (kernel : KernelL
 
   ends_one : (c : Command) → is_decided c ≡ true → EndsOne (names_free c) (Comes c)
   ends_one (words.run file o) decided = does_end [] (RunSteps before file o.choices) (λ a. Runs (text a.0) o.turns a.1 o.record_file)
-      (text_steps each before before before told told told file o.choices) (λ a. runs_end (text a.0) o.turns a.1 o.record_file)
+      (text_steps each before before before told told told file o.choices) (λ a went. runs_end (text a.0) o.turns a.1 o.record_file)
   ends_one (words.replay file choices turns) decided = does_end [] (RunSteps before file (words.file choices)) (λ a. Runs (text a.0) turns a.1 None)
-      (text_steps each before before before told told told file (words.file choices)) (λ a. runs_end (text a.0) turns a.1 None)
+      (text_steps each before before before told told told file (words.file choices)) (λ a went. runs_end (text a.0) turns a.1 None)
   ends_one (words.exec file o) decided = does_end [] (ExecSteps before file o.choices) (λ a. Runs (code a.0) o.turns a.1 o.record_file)
-      (code_steps each before before before told told told file o.choices) (λ a. runs_end (code a.0) o.turns a.1 o.record_file)
+      (code_steps each before before before told told told file o.choices) (λ a went. runs_end (code a.0) o.turns a.1 o.record_file)
   ends_one (words.boot o) decided = absurd (true≢false (sym decided))
   ends_one (words.compile file out) decided = does_end (out ∷ []) (TextSteps before file) (λ a. IsDone (KeepsCode out a.0))
-      (compile_steps each before before before told told told file) (λ a. code_end out a.0)
+      (compile_steps each before before before told told told file) (λ a went. code_end out a.0)
   ends_one (words.newdisk blocks None) decided = does_end [] (Ready blocks) (λ n. IsDone (OnlyBlocks (AreNew n))) (ready_one blocks)
-      (λ n. blocks_end (AreNew n) (λ a b h k. (h.1.files ∙ sym k.1.files, h.0 ∙ sym k.0)))
+      (λ n went. blocks_end (AreNew n) (λ a b h k. (h.1.files ∙ sym k.1.files, h.0 ∙ sym k.0)))
   ends_one (words.newdisk blocks (Some file)) decided =
       does_end [] (OldSteps before blocks file) (λ old. IsDone (OnlyBlocks (AreMigrated blocks old))) (old_steps each before before before told told told blocks file)
-      (λ old. blocks_end (AreMigrated blocks old) (λ a b h k. (h.1.files ∙ sym k.1.files, h.0 ∙ sym k.0)))
+      (λ old went. blocks_end (AreMigrated blocks old) (λ a b h k. (h.1.files ∙ sym k.1.files, h.0 ∙ sym k.0)))
   ends_one (words.put file title) decided = does_end [] (PutSteps before file title) (λ bytes. IsDone (OnlyBlocks (ArePut title bytes)))
       (put_steps each before before before told told told file title)
-      (λ bytes. blocks_end (ArePut title bytes) (λ a b h k. (h.1.files ∙ sym k.1.files, h.0 ∙ sym k.0)))
+      (λ bytes went. blocks_end (ArePut title bytes) (λ a b h k. (h.1.files ∙ sym k.1.files, h.0 ∙ sym k.0)))
   ends_one (words.get title file) decided = does_end [] (GetSteps before title) (λ bytes. IsDone (OnlyKeeps ((file, bytes) ∷ [])))
-      (get_steps each before before before told told told title) (λ bytes. keeps_end ((file, bytes) ∷ []))
+      (get_steps each before before before told told told title) (λ bytes went. keeps_end ((file, bytes) ∷ []))
   ends_one (words.list file) decided = does_end [] (ListSteps before file) (λ parts. IsDone (OnlyShows (listing_of parts.words)))
-      (list_steps each before before before told told told file) (λ parts. shows_end (listing_of parts.words))
+      (list_steps each before before before told told told file) (λ parts went. shows_end (listing_of parts.words))
   ends_one (words.demo n o) decided = does_end [] (DemoSteps before o.choices) (λ choices. Demonstrates n o.turns choices o.record_file)
-      (demo_steps each before before before told told told o.choices) (λ choices. demo_end n o.turns choices o.record_file)
+      (demo_steps each before before before told told told o.choices) (λ choices went. demo_end n o.turns choices o.record_file)
   ends_one (words.check file) decided = does_end [] (TextSteps before file) (λ a. IsDone (ShowsReport a.1))
-      (compile_steps each before before before told told told file) (λ a. report_end a.1)
-  ends_one (words.explain file) decided = does_end [] (Fetches before file) Explains (fetches_one before told.files file) explains_end
+      (compile_steps each before before before told told told file) (λ a went. report_end a.1)
+  ends_one (words.explain file) decided = does_end [] (Fetches before file) Explains (fetches_one before told.files file) (λ bytes went. explains_end bytes)
   ends_one (words.walk file choices turns) decided = does_end [] (RunSteps before file (words.file choices)) (λ a. Walks a.0 turns a.1)
-      (text_steps each before before before told told told file (words.file choices)) (λ a. walks_end a.0 turns a.1)
+      (text_steps each before before before told told told file (words.file choices)) (λ a went. walks_end a.0 turns a.1)
   ends_one (words.watch file points_file out o) decided =
-      does_end (out ∷ []) (WatchSteps before file points_file o.choices) (λ a. Watches a.0 a.2 o.turns a.1 out o.record_file)
-      (watch_steps each before before before told told told file points_file o.choices) (λ a. watches_end a.0 a.2 o.turns a.1 out o.record_file)
+      does_end [] (WatchSteps before file points_file o.choices) (λ a. Watches a.0 a.2 o.turns a.1 out o.record_file)
+      (watch_steps each before before before told told told file points_file o.choices) (λ a went. let found = (watch_then before file points_file o.choices a went).0.1 in
+      watches_end a.0 found.0 a.2 found.1 o.turns a.1 out o.record_file)
   ends_one (words.explore file o) decided = absurd (true≢false (sym decided))
 
 -- THE LAW

@@ -10,4 +10,6 @@ pub mod Walks
 pub mod Plain
 pub mod Programs
 pub mod Puts
+pub mod OldDisks
+pub mod Refuted
 pub mod Law

@@ -84,7 +84,6 @@ IsInRange c = ⊤
 -- the commands of which the law speaks
 abbrev pub is_open : Command → Bool
 is_open (words.boot o) = false
-is_open (words.newdisk blocks (Some file)) = false
 is_open (words.check file) = false
 is_open (words.explain file) = false
 is_open c = true
@@ -92,4 +91,15 @@ is_open c = true
 -- THE LAW. Each of these commands may end at a decisive status, whatever the files are, the blocks of the drive, the input, the terminal, the printer
 -- and the kernel: want of memory is never the only answer that is left.
 abbrev pub SomeStatus : Type 0
-SomeStatus = (c : Command) (files : Contents) (d : Devices) (kernel : KernelLeft) → is_open c ≡ true → IsInRange c → HasBlocks d → MayEnd c files d kernel
+SomeStatus =
+    (c : Command) (files : Contents) (d : Devices) (kernel : KernelLeft) → is_open c ≡ true → IsInRange c → HasBlocks d → MayEnd c files d kernel
+
+-- it is false that there is none
+abbrev pub IsNotNone : Type 0 → Type 0
+IsNotNone A = (A → ⊥) → ⊥
+
+-- Of `check` and `explain` no end is given, but it is false that there is none.
+abbrev pub NotRefuted : Type 0
+NotRefuted =
+    (file : List ℕ) (files : Contents) (d : Devices) (kernel : KernelLeft)
+    → IsNotNone (MayEnd (words.check file) files d kernel) × IsNotNone (MayEnd (words.explain file) files d kernel)

@@ -10,11 +10,9 @@ use Rattle.edi_statuses.specs.Commands.{Comes}
 use Rattle.edi_statuses.specs.Decided.{is_decided}
 use Rattle.edi_statuses.specs.Always.{lent_from, told_outside}
 
--- The files of whose bytes nothing is said here: of a text any code may be kept that may be made of it; and the log of `watch`, which is told by the
--- order of an execution (`IsLogOf`).
+-- The files of whose bytes nothing is said: of a text any code may be kept that may be made of it.
 abbrev pub names_free : Command → List (List ℕ)
 names_free (words.compile file out) = out ∷ []
-names_free (words.watch file points_file out o) = out ∷ []
 names_free c = []
 
 -- Two calls have left the same: the same files, but for those of these names; as many blocks with the same files on them, wherever these lie; the

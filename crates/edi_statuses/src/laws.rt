@@ -1,6 +1,6 @@
 //! Laws of statuses. Each function does nothing, and its contract is the law.
 
-ghost use Rattle.edi_statuses.specs.Always.{SomeStatus, SomeStep};
+ghost use Rattle.edi_statuses.specs.Always.{NotRefuted, SomeStatus, SomeStep};
 ghost use Rattle.edi_statuses.specs.Decided.{LinesEnd, OneRefusal, OneStatus};
 ghost use Rattle.edi_statuses.specs.OneEnd.{OneEnd};
 
@@ -30,13 +30,14 @@ pub fn some_step()
 {}
 
 /// Whatever is told before a command, there is an end of it at a status that words and contents decide. So want of memory is never the only answer that
-/// the contracts leave. The law speaks of `run`, `replay`, `exec`, `walk`, `watch`, `demo`, `compile`, `newdisk` without an old image, `put`, `get`, `list` and
-/// `explore`, whose drives have blocks of 512 bytes.
+/// the contracts leave. The law speaks of every command but `boot`, on drives that have blocks of 512 bytes. Of `check` and `explain` it is only false
+/// that there is no such end.
 pub fn some_status()
     ensures law { SomeStatus }
+    ensures not_none { NotRefuted }
 {}
 
-/// Contents that are told decide all that a command leaves, but for `boot` and `explore`: the files, but for the code of `compile` and the log of `watch`;
+/// Contents that are told decide all that a command leaves, but for `boot` and `explore`: the files, but for the code of `compile`;
 /// the number of blocks and the files on them, wherever these lie; the input, the bytes printed and the turns of the kernel.
 pub fn one_end()
     ensures law { OneEnd }

@@ -1,14 +1,17 @@
 -- What is put part by part, and so of a syntax fault.
 use Rattle.std.proofs.Common.{◌≡◌, ◌∙◌, ◌++◌, ℕ, Bool, List, Option, Result, Ok, Err, OnOk, take, ap, append_assoc}
-use Rattle.std.specs.Prelude.{slice_get}
+use Rattle.std.specs.Prelude.{slice_get, slice_index_or}
 use Rattle.edi_lex.specs.declared.symbol.Mark.{Mark}
 use Rattle.edi_syntax.specs.Refusal.{line_of}
 use Rattle.edi_explain.specs.declared.expected.waiting.Held.{Held}
 use Rattle.edi_explain.specs.expected.Opened.{opened}
-use Rattle.edi_explain.specs.told.Explained.{held_lines, innermost, instead_text, place_text, seen_by, wrong_text}
+use Rattle.edi_texts.specs.declared.kind.RefusalKind.TheVariants as kind
+use Rattle.edi_explain.specs.told.Advice.{advice_of}
+use Rattle.edi_explain.specs.told.Explained.{character_text, held_lines, innermost, instead_text, place_text, seen_by, stray_lines, wrong_text}
 use Rattle.edi_explain.specs.told.Names.{before_of}
 use Rattle.edi_explain.specs.told.Notes.{Seen, note_line, note_of}
-use Rattle.edi_explain.specs.told.Source.{line_bytes}
+use Rattle.edi_explain.specs.told.Source.{line_bytes, pointed_line}
+use Rattle.edi_explain.specs.told.Stray.{stray_of}
 
 pub four : (out one two three all a b c d : List ℕ) → one ≡ out ++ a → two ≡ one ++ b → three ≡ two ++ c → all ≡ three ++ d
     → all ≡ out ++ (a ++ (b ++ (c ++ d)))
@@ -47,3 +50,15 @@ module _ (text : List ℕ) (marks : List Mark) (last index : ℕ) (may : ℕ →
       λ i. of_parts (is_here i) (is_before i) (is_held i) in
       put_as r out all _ _ (first ∙ second) (four_put r out one two three all (place_text text index last here) (instead_text here seen.may)
       (held_lines inner) (note_line (note_of here before seen)) f s t l)
+
+-- so of a place at which no piece stands
+pub character_put : {B E : Type 0} (r : Result B E) (out one two all text : List ℕ) (line place b : ℕ) → place ≡ stray_of text
+    → b ≡ slice_index_or text place 0 → one ≡ out ++ pointed_line text line place → two ≡ one ++ stray_lines b
+    → OnOk r (all ≡ two ++ advice_of kind.InvalidCharacter) → OnOk r (all ≡ out ++ character_text text line)
+character_put (Err e) out one two all text line place b p q f s l = l
+character_put (Ok x) out one two all text line place b p q f s l =
+    let advice : List ℕ = advice_of kind.InvalidCharacter in
+    let byte : b ≡ slice_index_or text (stray_of text) 0 = q ∙ ap (λ n. slice_index_or text n 0) p in
+    l ∙ ap (λ t. t ++ advice) (s ∙ ap (λ o. o ++ stray_lines b) f) ∙ append_assoc (out ++ pointed_line text line place) (stray_lines b) advice
+    ∙ append_assoc out (pointed_line text line place) (stray_lines b ++ advice)
+    ∙ (λ i. out ++ (pointed_line text line (p i) ++ (stray_lines (byte i) ++ advice)))

@@ -21,11 +21,11 @@ scanned text found e = by (is_too_long text) e where
   by true e = absurd (cc)
   by false e = (found, e)
 
-pub stray_scanned : (text : List ℕ) (line : ℕ) → symbols_of text ≡ Err (lex.BadCharacter line) → HasStray text
-stray_scanned text line e = by (is_too_long text) e where
-  by : (b : Bool) → (if b then Err lex.TooLong else symbols_from text 0 1) ≡ Err (lex.BadCharacter line) → HasStray text
-  by true e = absurd (cc)
-  by false e = (line, e)
+pub stray_scanned : (text : List ℕ) (fault : LexFault) → (lex.TooLong ≡ fault → ⊥) → symbols_of text ≡ Err fault → HasStray text
+stray_scanned text fault other e = by (is_too_long text) e where
+  by : (b : Bool) → (if b then Err lex.TooLong else symbols_from text 0 1) ≡ Err fault → HasStray text
+  by true e = let same : lex.TooLong ≡ fault = cc in absurd (other same)
+  by false e = (fault, e)
 
 -- ---- the whole
 

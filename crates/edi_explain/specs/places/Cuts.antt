@@ -14,12 +14,12 @@ belongs class.Names = is_name_byte
 belongs class.Strings = is_string_byte
 belongs class.Comments = is_comment_byte
 
--- the piece that stands here, without its symbol; a numeral that is too great is told as a symbol
+-- the piece that stands here, without its symbol; at a numeral that is too great no piece stands
 abbrev pub Cuts : Piece → Cut → Type 0
 Cuts (space k) c = c ≡ cut.Space k
 Cuts (stands symbol k) c = c ≡ cut.Symbol k
 Cuts stray c = c ≡ cut.Stray
-Cuts too_great c = Unit {0}
+Cuts too_great c = c ≡ cut.Stray
 
 abbrev pub is_there : Option Symbol → Bool
 is_there None = false

@@ -15,7 +15,7 @@ advice_lines kind.TextTooLong =
     codes "The text has more than 262144 bytes or more than 65534 line ends. Shorten it."
     ∷ []
 advice_lines kind.InvalidSyntax =
-    codes "All that stands before is the beginning of some program; with this symbol it is none."
+    codes "Up to here it could still become a program. With this symbol it cannot."
     ∷ codes "So the mistake is here or earlier: look at the line before, and at what is open."
     ∷ []
 advice_lines kind.NestingTooDeep =
@@ -27,11 +27,12 @@ advice_lines kind.NotInProfile =
     ∷ codes "and the standard names addr, obtain, place and sense."
     ∷ []
 advice_lines kind.UndeclaredName =
-    codes "A name of this line means nothing here. A name means something from its declaration to the end of"
-    ∷ codes "the procedure, module or program round it. Look for another spelling, small and capital letters too;"
-    ∷ codes "for a declaration that stands further down: 'pre proc' announces a procedure; for a name of a module"
-    ∷ codes "that has no '*'; for a field that the record has not; for display or another call that the heading"
-    ∷ codes "of the program does not name."
+    codes "A name of this line means nothing here. Each of these may be the reason:"
+    ∷ codes "- It is display or another call of the system, and the heading of the program does not name it."
+    ∷ codes "- It is spelled in another way. Small and capital letters differ. The standard types are int, char and bool."
+    ∷ codes "- It is declared further down. A procedure may be announced before, by 'pre proc' with its heading."
+    ∷ codes "- It is declared in a procedure or a module that has ended. A name of a module is seen outside if it has a '*'."
+    ∷ codes "- It is a field that the record has not."
     ∷ []
 advice_lines kind.AmbiguousName =
     codes "A name of this line is declared twice in one procedure, module, heading, record or enumeration; or it is"
@@ -43,24 +44,29 @@ advice_lines kind.InvalidNameKind =
     ∷ codes "the function f alone."
     ∷ []
 advice_lines kind.IncompatibleTypes =
-    codes "Two types of this line do not fit. Both sides of ':=' and of a comparison have one type, and only one"
-    ∷ codes "declaration is one type; a condition is of type bool; 'div' and 'mod' take numbers, '+', '-' and '*' numbers"
-    ∷ codes "or sets, 'and' and 'or' conditions. int(c) is the number of the character c, and char(n) the character of"
-    ∷ codes "the number n."
+    codes "Two types of this line do not fit. Each of these may be the reason:"
+    ∷ codes "- Both sides of ':=' and of a comparison have one type. Each declaration of a type makes another type."
+    ∷ codes "- A condition is of type bool. 'and' and 'or' join conditions. 'not' takes the next operand alone: not (x = 0)."
+    ∷ codes "- '+', '-' and '*' take numbers or sets, 'div' and 'mod' numbers."
+    ∷ codes "- int(c) is the number of the character c, and char(n) the character of the number n."
+    ∷ codes "- Only an array has an index, which is of the type of its bounds. Only a record has fields."
     ∷ []
 advice_lines kind.InvalidRange =
     codes "A value of this line is too great or too small: a character has a number from 0 to 127, a lower bound"
     ∷ codes "is not above the upper one, and a type, a procedure and its variables take at most 65535 words."
     ∷ []
 advice_lines kind.InvalidCall =
-    codes "A call of this line does not fit the heading of what is called: as many arguments, each of the type of"
-    ∷ codes "its parameter, for a 'var' parameter a variable alone. A function stands in an expression, and any other"
-    ∷ codes "procedure is a statement. Compare the call with the heading, letter by letter."
+    codes "A call of this line does not fit the heading of what is called. Compare the two, letter by letter:"
+    ∷ codes "- It has as many arguments, each of the type of its parameter. For a 'var' parameter a variable stands alone."
+    ∷ codes "- A function stands in an expression, and any other procedure is a statement."
+    ∷ codes "- display takes one character: display(char(int('0') + n)) shows the digit n."
     ∷ []
 advice_lines kind.InvalidConstructor =
-    codes "A value of this line is not made as its type asks: an array and a record have a value for each part, as"
-    ∷ codes "in t(1, 2, 3). A string of more than one character stands only as an argument of an array of char, for"
-    ∷ codes "which it gives its characters, as in t('abc'); display takes one character, as in display('a')."
+    codes "A value of this line is not made as its type asks:"
+    ∷ codes "- An array and a record have a value for each part, as in t(1, 2, 3)."
+    ∷ codes "- A string of more than one character stands only for the parts of an array of char, as in t('abc')."
+    ∷ codes "- Of such a string each character is one value, so it is as long as the array."
+    ∷ codes "- display takes one character, as in display('a')."
     ∷ []
 advice_lines kind.InvalidSplitProcedure =
     codes "A procedure in two parts is 'pre proc' with its heading and, later in the same procedure or module,"

@@ -1,5 +1,5 @@
 -- Definition. WHAT `explain` SHOWS of a text, by its first fault.
-use Rattle.std.specs.Prelude.{◌≡◌, ◌⊎◌, ℕ, ◌-◌, ◌==◌, Bool, List, [], ◌∷◌, ◌++◌, length, take, drop, Option, Some, None, Result, Ok, Err}
+use Rattle.std.specs.Prelude.{◌≡◌, ◌⊎◌, ℕ, ◌-◌, ◌==◌, ◌||◌, Bool, List, [], ◌∷◌, ◌++◌, length, take, drop, Option, Some, None, Result, Ok, Err}
 use Rattle.std.specs.Prelude.{slice_get, slice_index_or, if◌then◌else◌, codes}
 use Rattle.std.specs.Fmt.{decimal}
 use Rattle.std.specs.List.{list_any}
@@ -42,14 +42,30 @@ stray_text b =
     else if b == 39 then codes "this string is empty, is not ended on its line, or holds a character that it may not hold\n"
     else codes "this character begins no symbol\n"
 
+-- what another language means by a byte, and how this one says it; empty where nothing is known of the byte
+abbrev pub stray_note : ℕ → List ℕ
+stray_note b =
+    if b == 33 then codes "'<>' compares for not being equal; 'not' stands before a condition."
+    else if b == 35 then codes "'<>' compares for not being equal; a comment stands between quotation marks."
+    else if b == 37 then codes "'mod' gives what a division leaves."
+    else if b == 38 || b == 124 then codes "conditions are joined by 'and' and 'or'."
+    else if b == 39 then codes "an apostrophe ends a string; ''' is the string of one apostrophe."
+    else if b == 47 then codes "'div' gives a quotient, and 'mod' what is left; a comment stands between quotation marks."
+    else if b == 95 then codes "a name begins with a letter."
+    else if b == 123 || b == 125 then codes "a comment stands between quotation marks; statements stand between 'do' and 'end'."
+    else []
+
+abbrev pub stray_lines : ℕ → List ℕ
+stray_lines b = stray_text b ++ note_line (stray_note b)
+
 -- the line of the place where no piece stands, and what begins there
 abbrev pub character_text : List ℕ → (line : ℕ) → List ℕ
 character_text text line =
-    pointed_line text line (stray_of text) ++ (stray_text (slice_index_or text (stray_of text) 0) ++ advice_of kind.InvalidCharacter)
+    pointed_line text line (stray_of text) ++ (stray_lines (slice_index_or text (stray_of text) 0) ++ advice_of kind.InvalidCharacter)
 
 abbrev pub lexical_text : List ℕ → LexFault → List ℕ
 lexical_text text (lex.BadCharacter line) = character_text text line
-lexical_text text (lex.BadNumeral line) = whole_line text line ++ advice_of kind.InvalidNumeral
+lexical_text text (lex.BadNumeral line) = pointed_line text line (stray_of text) ++ advice_of kind.InvalidNumeral
 lexical_text text lex.TooLong = advice_of kind.TextTooLong
 lexical_text text lex.NoMemory = []
 
@@ -133,7 +149,7 @@ abbrev pub name_text : List ℕ → List Mark → (line : ℕ) → Found → Lis
 name_text text marks line None = whole_line text line
 name_text text marks line (Some one) =
     pointed_line text line (place_of text one.0).0
-    ++ (name_of_letters one.1 ++ (codes " seems to mean nothing here\n" ++ later_text (declared_from one.1 0 (drop one.0 marks))))
+    ++ (name_of_letters one.1 ++ (codes " seems to mean nothing here\n" ++ later_text (declared_from one.1 0 0 (drop one.0 marks))))
 
 abbrev pub static_line : List ℕ → List Mark → RefusalKind → (line : ℕ) → List ℕ
 static_line text marks kind.UndeclaredName line = name_text text marks line (only_name marks line)

@@ -2,7 +2,6 @@
 -- is no call of the system that the heading of the program names before it. Each other name of a line means something there.
 use Rattle.std.specs.Prelude.{ℕ, zero, suc, ◌+◌, ◌-◌, ◌==◌, Bool, true, false, not, ◌&&◌, ◌||◌, List, [], ◌∷◌, length, take, Option, Some, None}
 use Rattle.std.specs.Prelude.{slice_get, if◌then◌else◌, codes}
-use Rattle.std.specs.List.{list_any}
 use Rattle.std.specs.Str.{bytes_eq}
 use Rattle.edi_lex.specs.declared.symbol.Symbol.{Symbol}
 use Rattle.edi_lex.specs.declared.symbol.Symbol.TheVariants as is
@@ -10,12 +9,10 @@ use Rattle.edi_lex.specs.declared.symbol.Mark.{Mark}
 use Rattle.edi_grammar.specs.Kinds as kind
 use Rattle.edi_grammar.specs.Kind.{kind_of, kind_at}
 use Rattle.edi_explain.specs.told.Groups.{is_among}
+use Rattle.edi_explain.specs.told.Words.{is_text_of}
 
 abbrev pub standard_names : List (List ℕ)
 standard_names = codes "int" ∷ codes "char" ∷ codes "bool" ∷ codes "false" ∷ codes "true" ∷ codes "halt" ∷ []
-
-abbrev pub is_text_of : List ℕ → List (List ℕ) → Bool
-is_text_of letters texts = list_any (bytes_eq letters) texts
 
 -- ---- names that are declared at their place
 
@@ -120,7 +117,9 @@ only_name marks line = only_from marks line 0 (length marks) None
 
 -- ---- a procedure of that name further down
 
-abbrev pub declared_from : List ℕ → (last : ℕ) → List Mark → Option ℕ
-declared_from letters last [] = None
-declared_from letters last (m ∷ marks) =
-    if (last == kind.Proc) && is_name letters (name_in m.symbol) then Some m.line else declared_from letters (kind_of m.symbol) marks
+-- So many parentheses are open. A name after `proc` in a parenthesis is a parameter.
+abbrev pub declared_from : List ℕ → (open_ last : ℕ) → List Mark → Option ℕ
+declared_from letters open_ last [] = None
+declared_from letters open_ last (m ∷ marks) =
+    if (open_ == 0) && (last == kind.Proc) && is_name letters (name_in m.symbol) then Some m.line
+    else declared_from letters (opened_by open_ (kind_of m.symbol)) (kind_of m.symbol) marks

@@ -1,6 +1,6 @@
 -- Definition. THE NOTES: what is often meant at a syntax fault. Each says how the language is, not what the writer meant. At most one is shown: that
 -- of a word, else the first row that fits.
-use Rattle.std.specs.Prelude.{ℕ, Bool, true, false, not, ◌&&◌, ◌||◌, List, [], ◌∷◌, ◌++◌, Option, Some, None, if◌then◌else◌, codes}
+use Rattle.std.specs.Prelude.{ℕ, ◌==◌, Bool, true, false, not, ◌&&◌, ◌||◌, List, [], ◌∷◌, ◌++◌, Option, Some, None, if◌then◌else◌, codes}
 use Rattle.std.specs.List.{list_all, list_any}
 use Rattle.std.specs.Str.{bytes_eq}
 use Rattle.edi_lex.specs.declared.symbol.Symbol.{Symbol}
@@ -8,6 +8,7 @@ use Rattle.edi_lex.specs.declared.symbol.Symbol.TheVariants as is
 use Rattle.edi_lex.specs.declared.symbol.Mark.{Mark}
 use Rattle.edi_grammar.specs.Kinds as kind
 use Rattle.edi_explain.specs.told.Groups.{is_among, statement, declaration, comparison}
+use Rattle.edi_explain.specs.told.Words.{is_text_of}
 
 -- ---- words that other languages have and this one has not
 
@@ -95,11 +96,35 @@ enders = kind.Begin ∷ kind.Close ∷ declaration
 abbrev pub worded : List ℕ
 worded = kind.Begin ∷ kind.Cobegin ∷ kind.If ∷ kind.When ∷ kind.While ∷ []
 
+abbrev pub signs : List ℕ
+signs = kind.Plus ∷ kind.Minus ∷ []
+
+-- what may stand after a name, a number or a bracket besides `(` where more than that may stand
+abbrev pub beside_open : List ℕ
+beside_open =
+    kind.Name ∷ kind.Begin ∷ kind.Do ∷ kind.Plus ∷ kind.Colon ∷ kind.Becomes ∷ kind.Semicolon ∷ kind.Close ∷ kind.CloseBracket ∷ []
+
+abbrev pub branch_note : List ℕ
+branch_note = codes "each branch begins with a constant and 'do', as in cobegin 1 do p also 2 do q end."
+
+abbrev pub also_note : List ℕ
+also_note = codes "'also' stands between two branches."
+
+abbrev pub type_note : List ℕ
+type_note = codes "a type is declared as array t [1:10] (int), enum e (a, b), record r (a: int; b: char) or set s (int)."
+
 -- THE TABLE
 abbrev pub note_rows : List Row
 note_rows =
     record (asking [] (kind.Numeral ∷ kind.Char ∷ []) (codes "a character or a string stands between apostrophes; quotation marks hold a comment."))
     { quoted = true }
+    ∷ record (asking [] (kind.Do ∷ []) branch_note) { inside = kind.Cobegin ∷ [] }
+    ∷ record (asking [] [] branch_note) { last = kind.Cobegin ∷ kind.Also ∷ [] }
+    ∷ record (asking (kind.Numeral ∷ kind.Char ∷ []) [] also_note) { last = kind.Semicolon ∷ []; inside = kind.Cobegin ∷ [] }
+    ∷ record (asking (kind.Do ∷ []) (kind.Also ∷ []) also_note) { inside = kind.Cobegin ∷ [] }
+    ∷ record (asking (kind.Name ∷ []) [] (codes "a module has no name.")) { last = kind.Module ∷ [] }
+    ∷ record (asking [] [] (codes "after 'else' comes a condition: 'else CONDITION do' is a further case, and 'else true do' takes all other cases."))
+    { last = kind.Else ∷ [] }
     ∷ asking (kind.Becomes ∷ []) (kind.Do ∷ [])
     (codes "a condition stands here, up to its 'do', and '=' compares two values; after 'else' comes a condition too: 'else true do'.")
     ∷ record (asking (kind.Becomes ∷ []) (kind.Equal ∷ []) (codes "a ')' or a ']' is missing before this one, or '=' is meant."))
@@ -108,6 +133,7 @@ note_rows =
     ∷ asking (kind.Equal ∷ []) (kind.Becomes ∷ []) (codes "'=' compares two values; ':=' assigns one.")
     ∷ record (asking (kind.Equal ∷ kind.Less ∷ kind.Greater ∷ []) [] (codes "the comparisons are '=', '<>', '<', '<=', '>' and '>='."))
     { last = kind.Equal ∷ kind.Less ∷ kind.Greater ∷ [] }
+    ∷ asking (kind.Begin ∷ []) (kind.Skip ∷ []) (codes "only a procedure and a module have a 'begin'; after 'do' stand statements, up to the 'end'.")
     ∷ record (asking (kind.Semicolon ∷ ends) (kind.Skip ∷ []) (codes "a list of statements is never empty; 'skip' does nothing."))
     { last = kind.Begin ∷ kind.Do ∷ [] }
     ∷ record (asking (kind.Semicolon ∷ ends) (kind.Skip ∷ [])
@@ -115,6 +141,9 @@ note_rows =
     ∷ record (asking enders (kind.Name ∷ []) (codes "a semicolon stands between two groups of names; none stands after the last one."))
     { last = kind.Semicolon ∷ []; not_these = kind.Skip ∷ [] }
     ∷ asking (kind.Semicolon ∷ []) (kind.Begin ∷ []) (codes "no semicolon stands after a heading, a declaration or a procedure.")
+    ∷ record (asking (kind.Period ∷ []) [] (codes "a number is whole: it has no part after a period.")) { last = kind.Numeral ∷ []; not_these = kind.Colon ∷ [] }
+    ∷ record (asking (kind.Comma ∷ []) (kind.CloseBracket ∷ []) (codes "one index stands in brackets; of an array of arrays, as in a[1][2]."))
+    { inside = kind.OpenBracket ∷ [] }
     ∷ asking comparison (kind.Do ∷ []) (codes "a condition has one comparison outside parentheses, as in (x > 0) and (x < 9).")
     ∷ asking (kind.Semicolon ∷ ends) (kind.Do ∷ [])
     (codes "after a condition comes 'do'; after 'else' comes a condition too: 'else true do' takes all other cases.")
@@ -123,6 +152,15 @@ note_rows =
     ∷ asking (kind.Plus ∷ kind.Minus ∷ []) (kind.Becomes ∷ []) (codes "a variable is changed by ':=', as in x := x + 1.")
     ∷ asking (kind.Colon ∷ []) (kind.Becomes ∷ []) (codes "':=' is one symbol; variables are declared before 'begin'.")
     ∷ asking statement (kind.Semicolon ∷ kind.End ∷ []) (codes "a semicolon stands between two statements.")
+    ∷ record (asking (kind.Name ∷ []) (kind.Comma ∷ kind.Colon ∷ []) (codes "a name stands before its type, as in x: int; a comma stands between two names."))
+    { last = kind.Name ∷ [] }
+    ∷ record (asking (kind.Equal ∷ kind.Becomes ∷ []) (kind.Begin ∷ kind.Semicolon ∷ []) (codes "a variable gets its value by a statement, after 'begin', as in x := 1."))
+    { not_these = kind.Open ∷ [] }
+    ∷ record (asking signs (kind.Numeral ∷ []) (codes "a constant has no sign; a statement may compute 0 - 1.")) { not_these = kind.Not ∷ [] }
+    ∷ asking signs (kind.Numeral ∷ kind.Not ∷ []) (codes "a sign stands before the first operand alone, as in 2 * (-1).")
+    ∷ record (asking [] (kind.Open ∷ []) type_note) { not_these = beside_open }
+    ∷ record (asking [] (kind.OpenBracket ∷ []) type_note) { not_these = kind.Open ∷ beside_open }
+    ∷ record (asking [] (kind.Name ∷ []) type_note) { last = kind.Array ∷ kind.Enum ∷ kind.Record ∷ kind.Set ∷ [] }
     ∷ record (asking (kind.Name ∷ []) (kind.Semicolon ∷ []) (codes "a semicolon stands between two groups of names; statements stand after 'begin'.")) { not_these = kind.End ∷ [] }
     ∷ record (asking (kind.Comma ∷ []) (kind.Semicolon ∷ []) (codes "a semicolon stands between two groups of names, as in a: int; b: char."))
     { not_these = kind.End ∷ [] }
@@ -133,9 +171,10 @@ note_rows =
     { last = kind.End ∷ [] }
     ∷ record (asking declaration [] (codes "declarations stand before the 'begin' of their procedure; or an 'end' is missing before this one."))
     { inside = worded }
-    ∷ asking (kind.End_of_text ∷ []) (kind.End ∷ []) (codes "each 'begin', 'if', 'while', 'when' and 'cobegin' has an 'end' of its own.")
-    ∷ asking [] (kind.End_of_text ∷ [])
+    ∷ asking (kind.End_of_text ∷ []) (kind.End ∷ []) (codes "each 'begin', 'if', 'while', 'when' and 'cobegin' has an 'end' of its own; count them from the last one.")
+    ∷ asking declaration (kind.End_of_text ∷ [])
     (codes "the program is one procedure, which has ended here; the other procedures stand in it, before its 'begin'.")
+    ∷ asking [] (kind.End_of_text ∷ []) (codes "the program has ended here: an 'end' too many stands before, or something stands after it.")
     ∷ record (asking (kind.Colon ∷ []) (kind.Equal ∷ []) (codes "a constant has no type of its own, as in const c = 1."))
     { not_these = kind.Plus ∷ [] }
     ∷ record (asking (kind.Array ∷ kind.Enum ∷ kind.Record ∷ kind.Set ∷ []) (kind.Name ∷ [])
@@ -148,16 +187,35 @@ note_rows =
     { last = kind.End_of_text ∷ []; not_these = kind.Begin ∷ [] }
     ∷ []
 
+-- ---- a type in front of a name, where a statement stands
+
+abbrev pub elementary_types : List (List ℕ)
+elementary_types = codes "int" ∷ codes "char" ∷ codes "bool" ∷ []
+
+abbrev pub is_type_name : Symbol → Bool
+is_type_name (is.Name letters) = is_text_of letters elementary_types
+is_type_name symbol = false
+
+abbrev pub is_type_mark : Option Mark → Bool
+is_type_mark None = false
+is_type_mark (Some m) = is_type_name m.symbol
+
+-- an assignment may go on here, and a name stands after one of these types
+abbrev pub type_before : (before : Option Mark) → Seen → Option (List ℕ)
+type_before before seen =
+    if (seen.found == kind.Name) && seen.may kind.Becomes && is_type_mark before then Some (codes "variables are declared as var x: int, before 'begin'.")
+    else None
+
 -- ---- the note
 
-abbrev pub or_else : Option (List ℕ) → Option (List ℕ) → List ℕ → List ℕ
-or_else (Some note) second rest = note
-or_else None (Some note) rest = note
-or_else None None rest = rest
+-- the first of them that is one
+abbrev pub or_else : Option (List ℕ) → List ℕ → List ℕ
+or_else (Some note) rest = note
+or_else None rest = rest
 
 -- THE NOTE at what stands there and what stands before it: none where it is empty
 abbrev pub note_of : (here before : Option Mark) → Seen → List ℕ
-note_of here before seen = or_else (mark_note here) (mark_note before) (first_fit note_rows seen)
+note_of here before seen = or_else (mark_note here) (or_else (mark_note before) (or_else (type_before before seen) (first_fit note_rows seen)))
 
 abbrev pub note_line : List ℕ → List ℕ
 note_line [] = []

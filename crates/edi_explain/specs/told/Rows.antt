@@ -11,7 +11,7 @@ use Rattle.edi_explain.specs.told.Groups.{group_line, may_lines}
 use Rattle.edi_explain.specs.told.Words.{here_text, name_text}
 use Rattle.edi_explain.specs.told.Source.{pointed_line, under_byte, whole_line}
 use Rattle.edi_explain.specs.told.Stray.{stray_from, stray_of}
-use Rattle.edi_explain.specs.told.Names.{only_name}
+use Rattle.edi_explain.specs.told.Names.{declared_from, only_name}
 use Rattle.edi_explain.specs.told.Notes.{Seen, note_of}
 
 abbrev mark : Symbol → Mark
@@ -44,10 +44,20 @@ row_empty_line = refl
 pub row_past_the_end : whole_line (codes "ab") 9 ≡ decimal 9 ++ codes ": \n"
 row_past_the_end = refl
 
--- 200 columns of 300, from 100 before the caret on
-pub row_long : pointed_line (replicate 300 97) 1 250
-    ≡ pointed 1 (codes ": " ++ (replicate 150 97 ++ codes "\n")) (codes "  " ++ (replicate 100 32 ++ codes "^\n"))
+-- 200 columns of a line that is longer, from 100 before the caret on, with the sign of what is not shown before them and after them
+pub row_long_end : pointed_line (replicate 300 97) 1 250
+    ≡ pointed 1 (codes ": .. " ++ (replicate 150 97 ++ codes "\n")) (codes "     " ++ (replicate 100 32 ++ codes "^\n"))
+row_long_end = refl
+
+pub row_long : pointed_line (replicate 400 97) 1 110
+    ≡ pointed 1 (codes ": .. " ++ (replicate 200 97 ++ codes " ..\n")) (codes "     " ++ (replicate 100 32 ++ codes "^\n"))
 row_long = refl
+
+pub row_long_front : whole_line (replicate 201 97) 1 ≡ decimal 1 ++ (codes ": " ++ (replicate 200 97 ++ codes " ..\n"))
+row_long_front = refl
+
+pub row_just_all : whole_line (replicate 200 97) 1 ≡ decimal 1 ++ (codes ": " ++ (replicate 200 97 ++ codes "\n"))
+row_just_all = refl
 
 -- ---- what stands there, and what may
 
@@ -104,6 +114,11 @@ pub row_open_comment : stray_of (97 ∷ 34 ∷ 98 ∷ []) ≡ 1
 unfolding stray_from piece_of
 row_open_comment = refl
 
+-- a number above 32767 is no piece
+pub row_great_numeral : stray_of (codes "a 32767 32768") ≡ 8
+unfolding stray_from piece_of
+row_great_numeral = refl
+
 pub row_no_stray : stray_of (codes "x := 1") ≡ 6
 unfolding stray_from piece_of
 row_no_stray = refl
@@ -127,6 +142,27 @@ row_then = refl
 pub row_semicolon : note_of (Some (mark is.End)) (Some (mark is.Semicolon)) (seen kind.End kind.Semicolon kind.Begin (1 ∷ 9 ∷ 16 ∷ 28 ∷ 29 ∷ 31 ∷ 32 ∷ []))
     ≡ codes "one semicolon stands between two statements; none stands before 'end', 'else' or 'also'."
 row_semicolon = refl
+
+-- int i; among statements: a semicolon is missing after any other name
+pub row_type_before : note_of (Some (mark (is.Name (codes "i")))) (Some (mark (is.Name (codes "int")))) (seen kind.Name kind.Name kind.Begin (14 ∷ 43 ∷ 45 ∷ 46 ∷ 47 ∷ 49 ∷ []))
+    ≡ codes "variables are declared as var x: int, before 'begin'."
+row_type_before = refl
+
+pub row_name_before : note_of (Some (mark (is.Name (codes "i")))) (Some (mark (is.Name (codes "p")))) (seen kind.Name kind.Name kind.Begin (14 ∷ 43 ∷ 45 ∷ 46 ∷ 47 ∷ 49 ∷ []))
+    ≡ codes "a semicolon stands between two statements."
+row_name_before = refl
+
+-- cobegin p also
+pub row_branch : note_of (Some (mark is.Also)) (Some (mark (is.Name (codes "p")))) (seen kind.Also kind.Name kind.Cobegin (12 ∷ 47 ∷ []))
+    ≡ codes "each branch begins with a constant and 'do', as in cobegin 1 do p also 2 do q end."
+row_branch = refl
+
+-- ---- where a procedure is declared further down
+
+-- proc c(proc b) begin end proc b: the parameter is no declaration
+pub row_further : declared_from (codes "b") 0 0 (mark is.Proc ∷ mark (is.Name (codes "c")) ∷ mark is.Open ∷ mark is.Proc ∷ mark (is.Name (codes "b"))
+    ∷ mark is.Close ∷ mark is.Begin ∷ mark is.End ∷ mark is.Proc ∷ record { symbol = is.Name (codes "b"); line = 7 } ∷ []) ≡ Some 7
+row_further = refl
 
 -- ---- the undeclared name
 

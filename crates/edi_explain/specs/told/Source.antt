@@ -1,5 +1,6 @@
--- Definition. How a line of a text is shown, with its number, and the caret below it: at most 200 columns of it, those round the caret.
-use Rattle.std.specs.Prelude.{ℕ, suc, ◌-◌, ◌==◌, Bool, not, ◌&&◌, nat_le, List, [], ◌∷◌, ◌++◌, length, take, drop, map}
+-- Definition. How a line of a text is shown, with its number, and the caret below it: at most 200 columns of it, those round the caret. Two
+-- periods stand where the line has more.
+use Rattle.std.specs.Prelude.{ℕ, suc, ◌-◌, ◌==◌, Bool, not, ◌&&◌, nat_le, nat_lt, List, [], ◌∷◌, ◌++◌, length, take, drop, map}
 use Rattle.std.specs.Prelude.{if◌then◌else◌, codes}
 use Rattle.std.specs.Fmt.{decimal}
 use Rattle.std.specs.List.{prefix_len}
@@ -51,13 +52,25 @@ first_shown size at = if nat_le size most_columns then 0 else at - 100
 abbrev pub numbered : (line : ℕ) → List ℕ → List ℕ
 numbered line bytes = decimal line ++ (codes ": " ++ (bytes ++ codes "\n"))
 
+-- the sign that the line has bytes before this one, which are not shown
+abbrev pub sign_before : (from : ℕ) → List ℕ
+sign_before from = if nat_lt 0 from then codes ".. " else []
+
+-- the sign that of so many bytes not all are shown
+abbrev pub sign_after : (left : ℕ) → List ℕ
+sign_after left = if nat_lt most_columns left then codes " .." else []
+
 -- these bytes of the line, from one on
 abbrev pub shown_line : (line : ℕ) → List ℕ → (from : ℕ) → List ℕ
-shown_line line bytes from = numbered line (map shown_byte (take most_columns (drop from bytes)))
+shown_line line bytes from =
+    decimal line
+    ++ (codes ": "
+    ++ (sign_before from ++ (map shown_byte (take most_columns (drop from bytes)) ++ (sign_after (length bytes - from) ++ codes "\n"))))
 
 abbrev pub caret_line : (line : ℕ) → List ℕ → (from at : ℕ) → List ℕ
 caret_line line bytes from at =
-    map under_byte (decimal line) ++ (codes "  " ++ (map under_byte (take (at - from) (drop from bytes)) ++ codes "^\n"))
+    map under_byte (decimal line)
+    ++ (codes "  " ++ (map under_byte (sign_before from) ++ (map under_byte (take (at - from) (drop from bytes)) ++ codes "^\n")))
 
 -- the line of these bytes with the caret after so many of them
 abbrev pub pointed_bytes : (line : ℕ) → List ℕ → (at : ℕ) → List ℕ

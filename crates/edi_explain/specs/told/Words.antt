@@ -1,5 +1,7 @@
 -- Definition. What each kind of symbol is called, and what is said of a symbol that stands at a place.
-use Rattle.std.specs.Prelude.{ℕ, List, [], ◌∷◌, ◌++◌, Option, Some, None, slice_index_or, take, codes}
+use Rattle.std.specs.Prelude.{ℕ, Bool, List, [], ◌∷◌, ◌++◌, Option, Some, None, slice_index_or, take, codes}
+use Rattle.std.specs.List.{list_any}
+use Rattle.std.specs.Str.{bytes_eq}
 use Rattle.edi_lex.specs.declared.symbol.Symbol.{Symbol}
 use Rattle.edi_lex.specs.declared.symbol.Symbol.TheVariants as is
 use Rattle.edi_lex.specs.declared.symbol.Mark.{Mark}
@@ -18,6 +20,9 @@ kind_names =
 
 abbrev pub kind_name : ℕ → List ℕ
 kind_name kind = slice_index_or kind_names kind []
+
+abbrev pub is_text_of : List ℕ → List (List ℕ) → Bool
+is_text_of letters texts = list_any (bytes_eq letters) texts
 
 -- as many letters of a name as are shown
 abbrev pub most_letters : ℕ

@@ -1,10 +1,11 @@
 //! The piece that stands in front of a text.
 
-ghost use Rattle.std.specs.Prelude.{◌≡◌, ◌+◌, ◌≤◌, ◌<◌, ℕ, List, Ok, drop, length};
+ghost use Rattle.std.specs.Prelude.{◌≡◌, ◌+◌, ◌≤◌, ◌<◌, ◌∷◌, ℕ, List, Ok, drop, length};
 ghost use Rattle.edi_lex.specs.declared.symbol.Mark.{Mark};
 ghost use Rattle.edi_explain.specs.places.Places as places;
 ghost use Rattle.edi_lex.specs.Symbols as text;
 ghost use Rattle.edi_explain.specs.places.Cuts.{Cuts, Within, is_there};
+ghost use Rattle.edi_lex.specs.Spelling.{number_of};
 ghost use Rattle.edi_lex.specs.Specials.{special_of, special_pair};
 
 use crate::places::classes::{Class, length_of};
@@ -43,6 +44,31 @@ fn string(rest: &[u8]) -> Cut
         return Cut::Symbol(length + 1);
     }
     Cut::Stray
+}
+
+/// The digits of a numeral, after its first one, or that it is too great.
+fn digits_cut(first: u8, digits: &[u8]) -> Cut
+    ensures exact { Cuts (text.with_value (number_of (first ∷ digits.now)) (length digits.now)) result }
+    ensures within { Within (length digits.now) result }
+{
+    let mut value: u32 = u32::from(first.saturating_sub(b'0'));
+    for digit in digits {
+        value = value * 10 + u32::from(digit.saturating_sub(b'0'));
+        if value > 32767 {
+            return Cut::Stray;
+        }
+    }
+    Cut::Symbol(digits.len())
+}
+
+/// Behind the first digit.
+fn numeral(byte: u8, rest: &[u8]) -> Cut
+    ensures exact { Cuts (text.numeral_piece byte rest.now) result }
+    ensures within { Within (length rest.now) result }
+{
+    let length = length_of(Class::Digits, rest);
+    let (digits, _) = rest.split_at(length);
+    digits_cut(byte, digits)
 }
 
 /// Whether a special symbol of these two bytes is there.
@@ -108,7 +134,7 @@ pub fn cut_of(byte: u8, rest: &[u8]) -> Cut
         return Cut::Symbol(length_of(Class::Names, rest));
     }
     if is_digit(byte) {
-        return Cut::Symbol(length_of(Class::Digits, rest));
+        return numeral(byte, rest);
     }
     if is_separator(byte) {
         return Cut::Space(0);

@@ -21,7 +21,7 @@ static TEXT_TOO_LONG: [&str; 1] = [
 ];
 
 static INVALID_SYNTAX: [&str; 2] = [
-    "All that stands before is the beginning of some program; with this symbol it is none.",
+    "Up to here it could still become a program. With this symbol it cannot.",
     "So the mistake is here or earlier: look at the line before, and at what is open.",
 ];
 
@@ -35,12 +35,13 @@ static NOT_IN_PROFILE: [&str; 2] = [
     "and the standard names addr, obtain, place and sense.",
 ];
 
-static UNDECLARED_NAME: [&str; 5] = [
-    "A name of this line means nothing here. A name means something from its declaration to the end of",
-    "the procedure, module or program round it. Look for another spelling, small and capital letters too;",
-    "for a declaration that stands further down: 'pre proc' announces a procedure; for a name of a module",
-    "that has no '*'; for a field that the record has not; for display or another call that the heading",
-    "of the program does not name.",
+static UNDECLARED_NAME: [&str; 6] = [
+    "A name of this line means nothing here. Each of these may be the reason:",
+    "- It is display or another call of the system, and the heading of the program does not name it.",
+    "- It is spelled in another way. Small and capital letters differ. The standard types are int, char and bool.",
+    "- It is declared further down. A procedure may be announced before, by 'pre proc' with its heading.",
+    "- It is declared in a procedure or a module that has ended. A name of a module is seen outside if it has a '*'.",
+    "- It is a field that the record has not.",
 ];
 
 static AMBIGUOUS_NAME: [&str; 2] = [
@@ -54,11 +55,13 @@ static INVALID_NAME_KIND: [&str; 3] = [
     "the function f alone.",
 ];
 
-static INCOMPATIBLE_TYPES: [&str; 4] = [
-    "Two types of this line do not fit. Both sides of ':=' and of a comparison have one type, and only one",
-    "declaration is one type; a condition is of type bool; 'div' and 'mod' take numbers, '+', '-' and '*' numbers",
-    "or sets, 'and' and 'or' conditions. int(c) is the number of the character c, and char(n) the character of",
-    "the number n.",
+static INCOMPATIBLE_TYPES: [&str; 6] = [
+    "Two types of this line do not fit. Each of these may be the reason:",
+    "- Both sides of ':=' and of a comparison have one type. Each declaration of a type makes another type.",
+    "- A condition is of type bool. 'and' and 'or' join conditions. 'not' takes the next operand alone: not (x = 0).",
+    "- '+', '-' and '*' take numbers or sets, 'div' and 'mod' numbers.",
+    "- int(c) is the number of the character c, and char(n) the character of the number n.",
+    "- Only an array has an index, which is of the type of its bounds. Only a record has fields.",
 ];
 
 static INVALID_RANGE: [&str; 2] = [
@@ -66,16 +69,19 @@ static INVALID_RANGE: [&str; 2] = [
     "is not above the upper one, and a type, a procedure and its variables take at most 65535 words.",
 ];
 
-static INVALID_CALL: [&str; 3] = [
-    "A call of this line does not fit the heading of what is called: as many arguments, each of the type of",
-    "its parameter, for a 'var' parameter a variable alone. A function stands in an expression, and any other",
-    "procedure is a statement. Compare the call with the heading, letter by letter.",
+static INVALID_CALL: [&str; 4] = [
+    "A call of this line does not fit the heading of what is called. Compare the two, letter by letter:",
+    "- It has as many arguments, each of the type of its parameter. For a 'var' parameter a variable stands alone.",
+    "- A function stands in an expression, and any other procedure is a statement.",
+    "- display takes one character: display(char(int('0') + n)) shows the digit n.",
 ];
 
-static INVALID_CONSTRUCTOR: [&str; 3] = [
-    "A value of this line is not made as its type asks: an array and a record have a value for each part, as",
-    "in t(1, 2, 3). A string of more than one character stands only as an argument of an array of char, for",
-    "which it gives its characters, as in t('abc'); display takes one character, as in display('a').",
+static INVALID_CONSTRUCTOR: [&str; 5] = [
+    "A value of this line is not made as its type asks:",
+    "- An array and a record have a value for each part, as in t(1, 2, 3).",
+    "- A string of more than one character stands only for the parts of an array of char, as in t('abc').",
+    "- Of such a string each character is one value, so it is as long as the array.",
+    "- display takes one character, as in display('a').",
 ];
 
 static INVALID_SPLIT_PROCEDURE: [&str; 2] = [

@@ -33,8 +33,8 @@ static ALL_KINDS: [u8; 51] = [
 
 // ---- which groups are shown
 
-// Whether a symbol of this kind may stand.
-fn may(expected: &Expected, kind: u8) -> bool
+/// Whether a symbol of this kind may stand.
+pub(crate) fn may(expected: &Expected, kind: u8) -> bool
     ensures exact { result ≡ may_of expected.now kind }
 {
     match expected.kinds.get(usize::from(kind)) {

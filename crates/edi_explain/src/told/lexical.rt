@@ -6,7 +6,8 @@ ghost use Rattle.edi_explain.specs.told.Explained as spec;
 ghost use Rattle.edi_explain.specs.told.Scanned.{HasStray};
 
 use crate::told::advice::put_advice;
-use crate::told::source::{put_pointed, put_whole};
+use crate::told::notes::put_note_line;
+use crate::told::source::put_pointed;
 use crate::told::stray::stray_of;
 use edi_lex::LexFault;
 use edi_texts::RefusalKind;
@@ -23,6 +24,33 @@ fn stray_text(b: u8) -> &'static str
         return "this string is empty, is not ended on its line, or holds a character that it may not hold\n";
     }
     "this character begins no symbol\n"
+}
+
+// What another language means by a byte, and how this one says it; empty where nothing is known of the byte.
+fn stray_note(b: u8) -> &'static str
+    ensures exact { result.now ≡ spec.stray_note b }
+{
+    match b {
+        33 => "'<>' compares for not being equal; 'not' stands before a condition.",
+        35 => "'<>' compares for not being equal; a comment stands between quotation marks.",
+        37 => "'mod' gives what a division leaves.",
+        38 | 124 => "conditions are joined by 'and' and 'or'.",
+        39 => "an apostrophe ends a string; ''' is the string of one apostrophe.",
+        47 =>
+            "'div' gives a quotient, and 'mod' what is left; a comment stands between quotation marks.",
+        95 => "a name begins with a letter.",
+        123 | 125 =>
+            "a comment stands between quotation marks; statements stand between 'do' and 'end'.",
+        _ => "",
+    }
+}
+
+// Puts behind bytes what begins at a byte at which no piece stands.
+fn put_stray(out: &mut Vec<u8>, b: u8) -> Result<(), AllocError>
+    ensures { OnOk result (out.new.items ≡ out.old.items ++ spec.stray_lines b) }
+{
+    out.extend_from_slice(stray_text(b).as_bytes())?;
+    put_note_line(out, stray_note(b).as_bytes())
 }
 
 // The byte at a place; 0 where the text has ended.
@@ -42,7 +70,7 @@ fn put_character(out: &mut Vec<u8>, text: &[u8], line: u16) -> Result<(), AllocE
 {
     let place = stray_of(text);
     put_pointed(out, text, line, place)?;
-    out.extend_from_slice(stray_text(byte_at(text, place)).as_bytes())?;
+    put_stray(out, byte_at(text, place))?;
     put_advice(out, RefusalKind::InvalidCharacter)
 }
 
@@ -55,7 +83,7 @@ pub(crate) fn put_lexical(out: &mut Vec<u8>, text: &[u8], fault: LexFault) -> Re
     match fault {
         LexFault::BadCharacter(line) => put_character(out, text, line),
         LexFault::BadNumeral(line) => {
-            put_whole(out, text, line)?;
+            put_pointed(out, text, line, stray_of(text))?;
             put_advice(out, RefusalKind::InvalidNumeral)
         }
         LexFault::TooLong => put_advice(out, RefusalKind::TextTooLong),

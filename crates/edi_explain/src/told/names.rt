@@ -2,10 +2,11 @@
 
 ghost use Rattle.std.specs.Prelude.{◌≡◌, ◌≤◌, ◌<◌, option_copied, option_map, drop, length, slice_get, take, Some};
 ghost use Rattle.edi_explain.specs.told.Names as spec;
-ghost use Rattle.edi_explain.specs.told.Tables.{found_of, texts_of};
+ghost use Rattle.edi_explain.specs.told.Tables.{found_of};
 
 use crate::told::groups::is_among;
 use crate::told::numbers::kind_at;
+use crate::told::words::is_text_of;
 use edi_lex::{Mark, Symbol};
 
 // The standard names.
@@ -51,24 +52,13 @@ pub(crate) fn marks_to(marks: &[Mark], count: usize) -> &[Mark]
 #[tactic(auto, using(crate::proofs::told::Cutting::back_none))]
 fn marks_from(marks: &[Mark], count: usize) -> &[Mark]
     ensures exact { result.now ≡ drop count marks.now }
+    ensures few { length result.now ≤ length marks.now }
 {
     if count < marks.len() {
         let (_, back) = marks.split_at(count);
         return back;
     }
     &[]
-}
-
-// Whether a text is one of a table.
-fn is_text_of(letters: &[u8], texts: &[&'static str]) -> bool
-    ensures exact { result ≡ spec.is_text_of letters.now (texts_of texts.now) }
-{
-    for text in texts {
-        if letters == text.as_bytes() {
-            return true;
-        }
-    }
-    false
 }
 
 // Whether a name between symbols of these kinds is declared there.
@@ -90,13 +80,12 @@ fn is_name(letters: &[u8], mark: &Mark) -> bool
 
 // How many parentheses are open behind a symbol of this kind.
 fn opened_by(depth: usize, kind: u8) -> usize
-    requires some { 1 ≤ depth }
-    requires few { depth ≤ 1000 }
+    requires few { depth ≤ 262144 }
     ensures exact { result ≡ spec.opened_by depth kind }
 {
     match kind {
         47 => depth + 1,
-        48 => depth - 1,
+        48 => depth.saturating_sub(1),
         _ => depth,
     }
 }
@@ -252,14 +241,17 @@ pub(crate) fn only_name(marks: &[Mark], line: u16) -> Option<(u32, &[u8])>
 
 /// The line on which a procedure of this name is declared behind so many symbols, if one is.
 pub(crate) fn declared_after(marks: &[Mark], index: usize, letters: &[u8]) -> Option<u16>
-    ensures exact { result ≡ spec.declared_from letters.now 0 (drop index marks.now) }
+    requires few { length marks.now ≤ 262144 }
+    ensures exact { result ≡ spec.declared_from letters.now 0 0 (drop index marks.now) }
 {
+    let mut depth: usize = 0;
     let mut last: u8 = 0;
     for mark in marks_from(marks, index) {
-        if last == 25 && is_name(letters, mark) {
+        if depth == 0 && last == 25 && is_name(letters, mark) {
             return Some(mark.line);
         }
         last = kind_at(Some(mark));
+        depth = opened_by(depth, last);
     }
     None
 }

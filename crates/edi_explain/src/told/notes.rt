@@ -5,8 +5,9 @@ ghost use Rattle.edi_explain.specs.told.Notes as spec;
 ghost use Rattle.edi_explain.specs.told.Tables.{pairs_of, row_of, rows_of, seen_of};
 
 use crate::expected::Expected;
-use crate::told::groups::{all_may, any_may, is_among};
-use crate::told::table::{ROWS, Row, WORDS};
+use crate::told::groups::{all_may, any_may, is_among, may};
+use crate::told::table::{ELEMENTARY_TYPES, ROWS, Row, WORDS};
+use crate::told::words::is_text_of;
 use edi_lex::{Mark, Symbol};
 use std::alloc::AllocError;
 
@@ -93,6 +94,50 @@ fn first_fit(table: &[Row], seen: &Seen) -> &'static str
     ""
 }
 
+// ---- a type in front of a name, where a statement stands
+
+// Whether a symbol is the name of such a type.
+fn is_type_name(symbol: &Symbol) -> bool
+    ensures exact { result ≡ spec.is_type_name symbol.now }
+{
+    match symbol {
+        Symbol::Name(letters) => is_text_of(letters.as_slice(), &ELEMENTARY_TYPES),
+        _ => false,
+    }
+}
+
+// That of what stands before a place.
+fn is_type_mark(before: Option<&Mark>) -> bool
+    ensures exact { result ≡ spec.is_type_mark (option_copied before.entry) }
+{
+    match before {
+        Some(mark) => is_type_name(&mark.symbol),
+        None => false,
+    }
+}
+
+// The note of a name after such a type, where an assignment may go on.
+fn type_before(before: Option<&Mark>, seen: &Seen) -> Option<&'static str>
+    ensures exact { option_map (λ text. text.now) result ≡ spec.type_before (option_copied before.entry) (seen_of seen.now) }
+{
+    if seen.found == 1 && may(&seen.may, 43) && is_type_mark(before) {
+        return Some("variables are declared as var x: int, before 'begin'.");
+    }
+    None
+}
+
+// ---- the note
+
+// That note, or else that of the first row that fits; nothing where there is none.
+fn row_note(before: Option<&Mark>, seen: &Seen) -> &'static str
+    ensures exact { result.now ≡ spec.or_else (spec.type_before (option_copied before.entry) (seen_of seen.now)) (spec.first_fit spec.note_rows (seen_of seen.now)) }
+{
+    if let Some(note) = type_before(before, seen) {
+        return note;
+    }
+    first_fit(&ROWS, seen)
+}
+
 // The note at what stands there and what stands before it; nothing where there is none.
 fn note_of(here: Option<&Mark>, before: Option<&Mark>, seen: &Seen) -> &'static str
     ensures exact { result.now ≡ spec.note_of (option_copied here.entry) (option_copied before.entry) (seen_of seen.now) }
@@ -103,7 +148,7 @@ fn note_of(here: Option<&Mark>, before: Option<&Mark>, seen: &Seen) -> &'static 
     if let Some(note) = mark_note(before) {
         return note;
     }
-    first_fit(&ROWS, seen)
+    row_note(before, seen)
 }
 
 /// Puts the line of the note behind bytes, if there is one.
@@ -119,8 +164,8 @@ pub(crate) fn put_note(
     put_note_line(out, note_of(here, before, seen).as_bytes())
 }
 
-// Puts a note behind bytes, on a line of its own; an empty one is none.
-fn put_note_line(out: &mut Vec<u8>, note: &[u8]) -> Result<(), AllocError>
+/// Puts a note behind bytes, on a line of its own; an empty one is none.
+pub(crate) fn put_note_line(out: &mut Vec<u8>, note: &[u8]) -> Result<(), AllocError>
     ensures { OnOk result (out.new.items ≡ out.old.items ++ spec.note_line note.now) }
 {
     if note.is_empty() {

@@ -117,14 +117,31 @@ fn put_under(out: &mut Vec<u8>, bytes: &[u8]) -> Result<(), AllocError>
 
 // ---- lines
 
+// The sign that a line has bytes before this one, which are not shown.
+fn sign_before(from: usize) -> &'static [u8]
+    ensures exact { result.now ≡ spec.sign_before from }
+{
+    if 0 < from { b".. " } else { b"" }
+}
+
+// The sign that of so many bytes not all are shown.
+fn sign_after(left: usize) -> &'static [u8]
+    ensures exact { result.now ≡ spec.sign_after left }
+{
+    if MOST_COLUMNS < left { b" .." } else { b"" }
+}
+
 // Puts the bytes of a line behind others, from one of them on.
 fn put_line(out: &mut Vec<u8>, line: u16, bytes: &[u8], from: usize) -> Result<(), AllocError>
     ensures { OnOk result (out.new.items ≡ out.old.items ++ spec.shown_line line bytes.now from) }
 {
     let mut buffer = Buffer::new();
     out.extend_from_slice(buffer.format(line).as_bytes())?;
+    let rest = back_of(bytes, from);
     out.extend_from_slice(b": ")?;
-    put_shown(out, front_of(back_of(bytes, from), MOST_COLUMNS))?;
+    out.extend_from_slice(sign_before(from))?;
+    put_shown(out, front_of(rest, MOST_COLUMNS))?;
+    out.extend_from_slice(sign_after(rest.len()))?;
     out.push(b'\n')?;
     Ok(())
 }
@@ -142,6 +159,7 @@ fn put_caret(
     let mut buffer = Buffer::new();
     put_under(out, buffer.format(line).as_bytes())?;
     out.extend_from_slice(b"  ")?;
+    put_under(out, sign_before(from))?;
     put_under(out, front_of(back_of(bytes, from), at.saturating_sub(from)))?;
     out.extend_from_slice(b"^\n")?;
     Ok(())

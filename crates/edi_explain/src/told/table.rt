@@ -12,6 +12,9 @@ pub(crate) struct Row {
     pub note: &'static str,
 }
 
+/// The standard types.
+pub(crate) static ELEMENTARY_TYPES: [&str; 3] = ["int", "char", "bool"];
+
 /// Words that are names here, and their notes.
 pub(crate) static WORDS: [(&str, &str); 15] = [
     (
@@ -76,285 +79,320 @@ pub(crate) static WORDS: [(&str, &str); 15] = [
     ),
 ];
 
+// The row that fits everywhere, without a note.
+const ANYWHERE: Row = Row {
+    found: &[],
+    last: &[],
+    inside: &[],
+    may: &[],
+    not_these: &[],
+    quoted: false,
+    note: "",
+};
+
 /// The rows, of which the first one that fits counts.
-pub(crate) static ROWS: [Row; 31] = [
+pub(crate) static ROWS: [Row; 48] = [
     Row {
-        found: &[],
-        last: &[],
-        inside: &[],
         may: &[2, 3],
-        not_these: &[],
         quoted: true,
         note: "a character or a string stands between apostrophes; quotation marks hold a comment.",
+        ..ANYWHERE
     },
     Row {
-        found: &[43],
-        last: &[],
-        inside: &[],
+        inside: &[9],
         may: &[12],
-        not_these: &[],
-        quoted: false,
-        note: "a condition stands here, up to its 'do', and '=' compares two values; after 'else' comes a condition too: 'else true do'.",
+        note: "each branch begins with a constant and 'do', as in cobegin 1 do p also 2 do q end.",
+        ..ANYWHERE
+    },
+    Row {
+        last: &[9, 5],
+        note: "each branch begins with a constant and 'do', as in cobegin 1 do p also 2 do q end.",
+        ..ANYWHERE
+    },
+    Row {
+        found: &[2, 3],
+        last: &[45],
+        inside: &[9],
+        note: "'also' stands between two branches.",
+        ..ANYWHERE
+    },
+    Row {
+        found: &[12],
+        inside: &[9],
+        may: &[5],
+        note: "'also' stands between two branches.",
+        ..ANYWHERE
+    },
+    Row {
+        found: &[1],
+        last: &[20],
+        note: "a module has no name.",
+        ..ANYWHERE
+    },
+    Row {
+        last: &[13],
+        note: "after 'else' comes a condition: 'else CONDITION do' is a further case, and 'else true do' takes all other cases.",
+        ..ANYWHERE
     },
     Row {
         found: &[43],
-        last: &[],
+        may: &[12],
+        note: "a condition stands here, up to its 'do', and '=' compares two values; after 'else' comes a condition too: 'else true do'.",
+        ..ANYWHERE
+    },
+    Row {
+        found: &[43],
         inside: &[47, 49],
         may: &[33],
-        not_these: &[],
-        quoted: false,
         note: "a ')' or a ']' is missing before this one, or '=' is meant.",
+        ..ANYWHERE
     },
     Row {
         found: &[43],
-        last: &[],
-        inside: &[],
         may: &[33],
-        not_these: &[],
-        quoted: false,
         note: "':=' assigns a value to a variable; '=' compares two values, and gives a constant its value.",
+        ..ANYWHERE
     },
     Row {
         found: &[33],
-        last: &[],
-        inside: &[],
         may: &[43],
-        not_these: &[],
-        quoted: false,
         note: "'=' compares two values; ':=' assigns one.",
+        ..ANYWHERE
     },
     Row {
         found: &[33, 35, 37],
         last: &[33, 35, 37],
-        inside: &[],
-        may: &[],
-        not_these: &[],
-        quoted: false,
         note: "the comparisons are '=', '<>', '<', '<=', '>' and '>='.",
+        ..ANYWHERE
+    },
+    Row {
+        found: &[8],
+        may: &[28],
+        note: "only a procedure and a module have a 'begin'; after 'do' stand statements, up to the 'end'.",
+        ..ANYWHERE
     },
     Row {
         found: &[45, 0, 5, 13, 14],
         last: &[8, 12],
-        inside: &[],
         may: &[28],
-        not_these: &[],
-        quoted: false,
         note: "a list of statements is never empty; 'skip' does nothing.",
+        ..ANYWHERE
     },
     Row {
         found: &[45, 0, 5, 13, 14],
         last: &[45],
-        inside: &[],
         may: &[28],
-        not_these: &[],
-        quoted: false,
         note: "one semicolon stands between two statements; none stands before 'end', 'else' or 'also'.",
+        ..ANYWHERE
     },
     Row {
         found: &[8, 48, 7, 10, 15, 20, 23, 24, 25, 26, 27, 30],
         last: &[45],
-        inside: &[],
         may: &[1],
         not_these: &[28],
-        quoted: false,
         note: "a semicolon stands between two groups of names; none stands after the last one.",
+        ..ANYWHERE
     },
     Row {
         found: &[45],
-        last: &[],
-        inside: &[],
         may: &[8],
-        not_these: &[],
-        quoted: false,
         note: "no semicolon stands after a heading, a declaration or a procedure.",
+        ..ANYWHERE
     },
     Row {
-        found: &[33, 34, 35, 36, 37, 38, 17],
-        last: &[],
-        inside: &[],
-        may: &[12],
-        not_these: &[],
-        quoted: false,
-        note: "a condition has one comparison outside parentheses, as in (x > 0) and (x < 9).",
-    },
-    Row {
-        found: &[45, 0, 5, 13, 14],
-        last: &[],
-        inside: &[],
-        may: &[12],
-        not_these: &[],
-        quoted: false,
-        note: "after a condition comes 'do'; after 'else' comes a condition too: 'else true do' takes all other cases.",
-    },
-    Row {
-        found: &[],
-        last: &[],
-        inside: &[],
-        may: &[12],
-        not_these: &[],
-        quoted: false,
-        note: "after a condition comes 'do'.",
-    },
-    Row {
-        found: &[2, 3, 4],
-        last: &[],
-        inside: &[],
-        may: &[47, 43],
-        not_these: &[],
-        quoted: false,
-        note: "the arguments of a call stand in parentheses.",
-    },
-    Row {
-        found: &[39, 40],
-        last: &[],
-        inside: &[],
-        may: &[43],
-        not_these: &[],
-        quoted: false,
-        note: "a variable is changed by ':=', as in x := x + 1.",
-    },
-    Row {
-        found: &[42],
-        last: &[],
-        inside: &[],
-        may: &[43],
-        not_these: &[],
-        quoted: false,
-        note: "':=' is one symbol; variables are declared before 'begin'.",
-    },
-    Row {
-        found: &[1, 9, 16, 28, 29, 31, 32],
-        last: &[],
-        inside: &[],
-        may: &[45, 14],
-        not_these: &[],
-        quoted: false,
-        note: "a semicolon stands between two statements.",
-    },
-    Row {
-        found: &[1],
-        last: &[],
-        inside: &[],
-        may: &[45],
-        not_these: &[14],
-        quoted: false,
-        note: "a semicolon stands between two groups of names; statements stand after 'begin'.",
+        found: &[46],
+        last: &[2],
+        not_these: &[42],
+        note: "a number is whole: it has no part after a period.",
+        ..ANYWHERE
     },
     Row {
         found: &[44],
-        last: &[],
-        inside: &[],
+        inside: &[49],
+        may: &[50],
+        note: "one index stands in brackets; of an array of arrays, as in a[1][2].",
+        ..ANYWHERE
+    },
+    Row {
+        found: &[33, 34, 35, 36, 37, 38, 17],
+        may: &[12],
+        note: "a condition has one comparison outside parentheses, as in (x > 0) and (x < 9).",
+        ..ANYWHERE
+    },
+    Row {
+        found: &[45, 0, 5, 13, 14],
+        may: &[12],
+        note: "after a condition comes 'do'; after 'else' comes a condition too: 'else true do' takes all other cases.",
+        ..ANYWHERE
+    },
+    Row {
+        may: &[12],
+        note: "after a condition comes 'do'.",
+        ..ANYWHERE
+    },
+    Row {
+        found: &[2, 3, 4],
+        may: &[47, 43],
+        note: "the arguments of a call stand in parentheses.",
+        ..ANYWHERE
+    },
+    Row {
+        found: &[39, 40],
+        may: &[43],
+        note: "a variable is changed by ':=', as in x := x + 1.",
+        ..ANYWHERE
+    },
+    Row {
+        found: &[42],
+        may: &[43],
+        note: "':=' is one symbol; variables are declared before 'begin'.",
+        ..ANYWHERE
+    },
+    Row {
+        found: &[1, 9, 16, 28, 29, 31, 32],
+        may: &[45, 14],
+        note: "a semicolon stands between two statements.",
+        ..ANYWHERE
+    },
+    Row {
+        found: &[1],
+        last: &[1],
+        may: &[44, 42],
+        note: "a name stands before its type, as in x: int; a comma stands between two names.",
+        ..ANYWHERE
+    },
+    Row {
+        found: &[33, 43],
+        may: &[8, 45],
+        not_these: &[47],
+        note: "a variable gets its value by a statement, after 'begin', as in x := 1.",
+        ..ANYWHERE
+    },
+    Row {
+        found: &[39, 40],
+        may: &[2],
+        not_these: &[21],
+        note: "a constant has no sign; a statement may compute 0 - 1.",
+        ..ANYWHERE
+    },
+    Row {
+        found: &[39, 40],
+        may: &[2, 21],
+        note: "a sign stands before the first operand alone, as in 2 * (-1).",
+        ..ANYWHERE
+    },
+    Row {
+        may: &[47],
+        not_these: &[1, 8, 12, 39, 42, 43, 45, 48, 50],
+        note: "a type is declared as array t [1:10] (int), enum e (a, b), record r (a: int; b: char) or set s (int).",
+        ..ANYWHERE
+    },
+    Row {
+        may: &[49],
+        not_these: &[47, 1, 8, 12, 39, 42, 43, 45, 48, 50],
+        note: "a type is declared as array t [1:10] (int), enum e (a, b), record r (a: int; b: char) or set s (int).",
+        ..ANYWHERE
+    },
+    Row {
+        last: &[7, 15, 26, 27],
+        may: &[1],
+        note: "a type is declared as array t [1:10] (int), enum e (a, b), record r (a: int; b: char) or set s (int).",
+        ..ANYWHERE
+    },
+    Row {
+        found: &[1],
         may: &[45],
         not_these: &[14],
-        quoted: false,
+        note: "a semicolon stands between two groups of names; statements stand after 'begin'.",
+        ..ANYWHERE
+    },
+    Row {
+        found: &[44],
+        may: &[45],
+        not_these: &[14],
         note: "a semicolon stands between two groups of names, as in a: int; b: char.",
+        ..ANYWHERE
     },
     Row {
         found: &[45],
-        last: &[],
         inside: &[47, 49],
         may: &[44],
         not_these: &[42],
-        quoted: false,
         note: "a comma stands between two arguments, and ')' after the last one.",
+        ..ANYWHERE
     },
     Row {
         found: &[48],
         last: &[47],
-        inside: &[],
-        may: &[],
-        not_these: &[],
-        quoted: false,
         note: "a heading or a call without parameters has no parentheses.",
+        ..ANYWHERE
     },
     Row {
         found: &[13, 5],
         last: &[14],
-        inside: &[],
-        may: &[],
-        not_these: &[],
-        quoted: false,
         note: "one 'end' stands after the last branch, and none before 'else' or 'also'.",
+        ..ANYWHERE
     },
     Row {
         found: &[7, 10, 15, 20, 23, 24, 25, 26, 27, 30],
-        last: &[],
         inside: &[8, 9, 16, 31, 32],
-        may: &[],
-        not_these: &[],
-        quoted: false,
         note: "declarations stand before the 'begin' of their procedure; or an 'end' is missing before this one.",
+        ..ANYWHERE
     },
     Row {
         found: &[0],
-        last: &[],
-        inside: &[],
         may: &[14],
-        not_these: &[],
-        quoted: false,
-        note: "each 'begin', 'if', 'while', 'when' and 'cobegin' has an 'end' of its own.",
+        note: "each 'begin', 'if', 'while', 'when' and 'cobegin' has an 'end' of its own; count them from the last one.",
+        ..ANYWHERE
     },
     Row {
-        found: &[],
-        last: &[],
-        inside: &[],
+        found: &[7, 10, 15, 20, 23, 24, 25, 26, 27, 30],
         may: &[0],
-        not_these: &[],
-        quoted: false,
         note: "the program is one procedure, which has ended here; the other procedures stand in it, before its 'begin'.",
+        ..ANYWHERE
+    },
+    Row {
+        may: &[0],
+        note: "the program has ended here: an 'end' too many stands before, or something stands after it.",
+        ..ANYWHERE
     },
     Row {
         found: &[42],
-        last: &[],
-        inside: &[],
         may: &[33],
         not_these: &[39],
-        quoted: false,
         note: "a constant has no type of its own, as in const c = 1.",
+        ..ANYWHERE
     },
     Row {
         found: &[7, 15, 26, 27],
         last: &[42],
-        inside: &[],
         may: &[1],
-        not_these: &[],
-        quoted: false,
         note: "here stands the name of a type that is declared before, as in array t [1:10] (int).",
+        ..ANYWHERE
     },
     Row {
-        found: &[],
-        last: &[],
         inside: &[49],
         may: &[42],
-        not_these: &[],
-        quoted: false,
         note: "the bounds of an array stand as in [1:10].",
+        ..ANYWHERE
     },
     Row {
         found: &[1, 9, 16, 28, 29, 31, 32],
-        last: &[],
         inside: &[0],
         may: &[8, 30],
-        not_these: &[],
-        quoted: false,
         note: "the variables of a procedure stand after 'var', and its statements after 'begin'.",
+        ..ANYWHERE
     },
     Row {
-        found: &[],
-        last: &[],
-        inside: &[],
         may: &[43],
-        not_these: &[],
-        quoted: false,
         note: "a statement that begins with a name is an assignment, as in x := 1, or a call, as in p(x).",
+        ..ANYWHERE
     },
     Row {
-        found: &[],
         last: &[0],
-        inside: &[],
         may: &[25],
         not_these: &[8],
-        quoted: false,
         note: "a program begins with its constants and types and then with its procedure, as in proc main.",
+        ..ANYWHERE
     },
 ];

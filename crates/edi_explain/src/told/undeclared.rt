@@ -24,6 +24,7 @@ fn put_undeclared(
     letters: &[u8],
 ) -> Result<(), AllocError>
     requires scanned { HasSymbols text.now }
+    requires few { length marks.now ≤ 262144 }
     ensures { OnOk result (out.new.items ≡ out.old.items ++ spec.name_text text.now marks.now line (Some (index, letters.now))) }
 {
     put_pointed(out, text, line, place(text, index))?;

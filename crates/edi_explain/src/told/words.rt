@@ -79,6 +79,18 @@ fn text_at(table: &[&'static str], index: usize) -> &'static str
     }
 }
 
+/// Whether a text is one of a table.
+pub(crate) fn is_text_of(letters: &[u8], texts: &[&'static str]) -> bool
+    ensures exact { result ≡ spec.is_text_of letters.now (texts_of texts.now) }
+{
+    for text in texts {
+        if letters == text.as_bytes() {
+            return true;
+        }
+    }
+    false
+}
+
 /// What a kind of symbols is called.
 pub(crate) fn kind_name(kind: u8) -> &'static str
     ensures exact { result.now ≡ spec.kind_name kind }

@@ -21,6 +21,7 @@ use Rattle.edi_statuses.proofs.always.Steps.{text_some, watch_some}
 use Rattle.edi_statuses.proofs.always.Ends.{of_table, stops_or_goes}
 use Rattle.edi_statuses.proofs.always.Plain.{compile_may, explore_may, get_may, list_may, new_disk_may}
 use Rattle.edi_statuses.proofs.always.Programs.{demo_may, exec_may, replay_may, run_may, walk_may, watch_may}
+use Rattle.edi_statuses.proofs.always.OldDisks.{old_disk_may}
 use Rattle.edi_statuses.proofs.always.Puts.{put_may}
 
 module _ (files : Contents) (d : Devices) (kernel : KernelLeft) where
@@ -88,7 +89,7 @@ module _ (files : Contents) (d : Devices) (kernel : KernelLeft) where
   open_of (words.boot o) is range sized = absurd (true≢false (sym is))
   open_of (words.compile file out) is range sized = compile_may files d kernel file out
   open_of (words.newdisk blocks None) is range sized = new_disk_may files d kernel blocks range.0 range.1
-  open_of (words.newdisk blocks (Some file)) is range sized = absurd (true≢false (sym is))
+  open_of (words.newdisk blocks (Some file)) is range sized = old_disk_may files d kernel blocks file range.0 range.1
   open_of (words.put file title) is range sized = put_may files d kernel sized file title range
   open_of (words.get title file) is range sized = get_may files d kernel title file
   open_of (words.list file) is range sized = list_may files d kernel file

@@ -62,7 +62,7 @@ new_image_is n old least most =
 -- ---- an exploration that has found nothing
 
 abbrev nothing_found : Findings
-nothing_found = record { endings = []; verdict = verdict.Cut 0; states = 0 }
+nothing_found = record { endings = []; verdict = verdict.Unrecorded 0; states = 0 }
 
 finds_nothing : (bytes input : List ℕ) (unit : ProgramUnit) (states : ℕ) → IsUnit bytes unit → IsExplorationOf bytes input states nothing_found
 finds_nothing bytes input unit states is = record {

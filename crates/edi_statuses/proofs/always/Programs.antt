@@ -81,42 +81,43 @@ module _ (o : Outside) where
 
   -- a text that is watched
 
-  abbrev IsAccepted : List ℕ → Type 0
-  IsAccepted bytes = (unit : ProgramUnit) × IsUnit bytes unit
+  -- the unit of the text, and the file of its points
+  abbrev pub IsWatched : List ℕ × Choices × List Watched → Type 0
+  IsWatched a = ((unit : ProgramUnit) × IsUnit a.0 unit) × ((lines : List ℕ) × FindsPoints a.0 lines (goes a.2))
 
   finds_then : (bytes lines : List ℕ) (choices : Choices) (unit : ProgramUnit) → IsUnit bytes unit → (a : List ℕ × Choices × List Watched)
-      → (FindsPoints bytes lines >>= λ points. Ready (bytes, choices, points)) (goes a) → IsAccepted a.0
+      → (FindsPoints bytes lines >>= λ points. Ready (bytes, choices, points)) (goes a) → IsWatched a
   finds_then bytes lines choices unit is a (inl never) = absurd never
-  finds_then bytes lines choices unit is a (inr h) = subst (λ (x : List ℕ × Choices × List Watched). IsAccepted x.0) (sym h.2) (unit, is)
+  finds_then bytes lines choices unit is a (inr h) = subst IsWatched (sym h.2) ((unit, is), (lines, h.1))
 
   lines_then : (bytes : List ℕ) (choices : Choices) (points_file : List ℕ) (unit : ProgramUnit) → IsUnit bytes unit → (a : List ℕ × Choices × List Watched)
-      → (Fetches o points_file >>= λ lines. FindsPoints bytes lines >>= λ points. Ready (bytes, choices, points)) (goes a) → IsAccepted a.0
+      → (Fetches o points_file >>= λ lines. FindsPoints bytes lines >>= λ points. Ready (bytes, choices, points)) (goes a) → IsWatched a
   lines_then bytes choices points_file unit is a (inl never) = absurd never
   lines_then bytes choices points_file unit is a (inr h) = finds_then bytes h.0 choices unit is a h.2
 
   watched_then : (bytes : List ℕ) (choices : Choices) (points_file : List ℕ) (a : List ℕ × Choices × List Watched)
       → (Accepts bytes >>= λ unit. Fetches o points_file >>= λ lines. FindsPoints bytes lines >>= λ points. Ready (bytes, choices, points)) (goes a)
-      → IsAccepted a.0
+      → IsWatched a
   watched_then bytes choices points_file a (inl never) = absurd never
   watched_then bytes choices points_file a (inr h) = lines_then bytes choices points_file h.0 h.1 a h.2
 
   asked_then : (bytes points_file : List ℕ) (from : ChoicesFrom) (a : List ℕ × Choices × List Watched)
       → (ReadsChoices o from >>= λ choices. Accepts bytes >>= λ unit. Fetches o points_file >>= λ lines. FindsPoints bytes lines
-      >>= λ points. Ready (bytes, choices, points)) (goes a) → IsAccepted a.0
+      >>= λ points. Ready (bytes, choices, points)) (goes a) → IsWatched a
   asked_then bytes points_file from a (inl never) = absurd never
   asked_then bytes points_file from a (inr h) = watched_then bytes h.0 points_file a h.2
 
   points_then : (file points_file : List ℕ) (from : ChoicesFrom) (a : List ℕ × Choices × List Watched) → PointSteps o file points_file from (goes a)
-      → IsAccepted a.0
+      → IsWatched a
   points_then file points_file from a (inl never) = absurd never
   points_then file points_file from a (inr h) = asked_then h.0 points_file from a h.2
 
-  watch_then : (file points_file : List ℕ) (from : ChoicesFrom) (a : List ℕ × Choices × List Watched) → WatchSteps o file points_file from (goes a)
-      → TextIsReady a.0
+  pub watch_then : (file points_file : List ℕ) (from : ChoicesFrom) (a : List ℕ × Choices × List Watched) → WatchSteps o file points_file from (goes a)
+      → IsWatched a × IsImageThere
   watch_then file points_file from a (inl never) = absurd never
   watch_then file points_file from a (inr h) =
       let m = mounts_then o h.0 a h.2 in
-      subst (λ (x : List ℕ × Choices × List Watched). TextIsReady x.0) (sym m.1) (points_then file points_file from h.0 h.1, m.0)
+      (subst IsWatched (sym m.1) (points_then file points_file from h.0 h.1), m.0)
 
 -- ---- the effects
 
@@ -349,8 +350,8 @@ module _ (files : Contents) (d : Devices) (kernel : KernelLeft) (sized : HasBloc
       (λ a. Watches a.0 a.2 o.turns a.1 out o.record_file) (watch_some files d file points_file o.choices)
       (λ a went. let ready = watch_then (told_outside files d) file points_file o.choices a went in
       watches_some (words.watch file points_file out o) files d kernel a.0 a.2 o.turns a.1 out o.record_file
-      (text_runs a.0 ready.0.0 ready.0.1 o.turns a.1 d sized ready.1)
-      (log_some (words.watch file points_file out o) files d kernel a.0 ready.0.0 ready.0.1 o.turns a.1 a.2))) (λ s after shown k h. h)
+      (text_runs a.0 ready.0.0.0 ready.0.0.1 o.turns a.1 d sized ready.1)
+      (log_some (words.watch file points_file out o) files d kernel a.0 ready.0.0.0 ready.0.0.1 o.turns a.1 a.2))) (λ s after shown k h. h)
 
 pub demo_may : (files : Contents) (d : Devices) (kernel : KernelLeft) (n : ℕ) (o : Options) → 1 ≤ n → n ≤ 1000 → MayEnd (words.demo n o) files d kernel
 demo_may files d kernel n o least most =

@@ -21,35 +21,35 @@ use Rattle.edi_image.proofs.SlotRules.{entry_fits}
 use Rattle.edi_image.proofs.UsedBlocks.{need_holds, none_left, none_right, use_holds}
 use Rattle.edi_catalog.proofs.Sizes.{page_sized}
 
--- the pages of a map lie behind the catalogue
-pages_data : (used : List ℕ) (count slot : ℕ) (pages : List ℕ) → first_broken used (page_rules 33 count slot pages) ≡ None
-    → are_data count pages ≡ true
-pages_data used count slot [] h = refl
-pages_data used count slot (page ∷ pages) h =
-    let need = need_holds (nat_le 33 page && nat_lt page count) (fault.Page slot page) _ h in
-    let use_ = use_holds (is_in page used) (fault.Shared page) (first_broken (used ++ page ∷ []) (page_rules 33 count slot pages)) need.1 in
-    and_from (is_data 33 count page) (are_data count pages) need.0 (pages_data (used ++ page ∷ []) count slot pages use_.1)
+-- the pages of a map lie behind the catalogue, whose blocks end before this one
+pages_data : (first : ℕ) (used : List ℕ) (count slot : ℕ) (pages : List ℕ) → first_broken used (page_rules first count slot pages) ≡ None
+    → list_all (is_data first count) pages ≡ true
+pages_data first used count slot [] h = refl
+pages_data first used count slot (page ∷ pages) h =
+    let need = need_holds (nat_le first page && nat_lt page count) (fault.Page slot page) _ h in
+    let use_ = use_holds (is_in page used) (fault.Shared page) (first_broken (used ++ page ∷ []) (page_rules first count slot pages)) need.1 in
+    and_from (is_data first count page) (list_all (is_data first count) pages) need.0 (pages_data first (used ++ page ∷ []) count slot pages use_.1)
 
 module _ (blocks : List (List ℕ)) where
-  map_data : (used : List ℕ) (slot pages map : ℕ) → first_broken used (map_rules 33 blocks slot pages map) ≡ None
-      → are_data (length blocks) (numbers_in (block_at blocks map) pages) ≡ true
-  map_data used slot pages map h =
+  map_data : (first : ℕ) (used : List ℕ) (slot pages map : ℕ) → first_broken used (map_rules first blocks slot pages map) ≡ None
+      → list_all (is_data first (length blocks)) (numbers_in (block_at blocks map) pages) ≡ true
+  map_data first used slot pages map h =
       let use_ = use_holds (is_in map used) (fault.Shared map) _ h in
       let need = need_holds _ (fault.Entry slot) _ use_.1 in
-      pages_data (used ++ map ∷ []) (length blocks) slot (numbers_in (block_at blocks map) pages) need.1
+      pages_data first (used ++ map ∷ []) (length blocks) slot (numbers_in (block_at blocks map) pages) need.1
 
-  maps_data : (used : List ℕ) (slot pages : ℕ) (maps : List ℕ) → first_broken used (maps_rules 33 blocks slot pages maps) ≡ None
-      → are_data (length blocks) (numbers_of blocks pages maps) ≡ true
-  maps_data used slot pages [] h = refl
-  maps_data used slot pages (m ∷ maps) h =
+  pub maps_data : (first : ℕ) (used : List ℕ) (slot pages : ℕ) (maps : List ℕ) → first_broken used (maps_rules first blocks slot pages maps) ≡ None
+      → list_all (is_data first (length blocks)) (numbers_of blocks pages maps) ≡ true
+  maps_data first used slot pages [] h = refl
+  maps_data first used slot pages (m ∷ maps) h =
       let own : List ℕ = numbers_in (block_at blocks m) (min pages 255) in
       let rest : List ℕ = numbers_of blocks (pages - 255) maps in
-      list_all-append (is_data 33 (length blocks)) own rest
-      ∙ and_from (are_data (length blocks) own) (are_data (length blocks) rest)
-      (map_data used slot (min pages 255) m
-      (none_left used (map_rules 33 blocks slot (min pages 255) m) (maps_rules 33 blocks slot (pages - 255) maps) h))
-      (maps_data (used ++ used_by (map_rules 33 blocks slot (min pages 255) m)) slot (pages - 255) maps
-      (none_right used (map_rules 33 blocks slot (min pages 255) m) (maps_rules 33 blocks slot (pages - 255) maps) h))
+      list_all-append (is_data first (length blocks)) own rest
+      ∙ and_from (list_all (is_data first (length blocks)) own) (list_all (is_data first (length blocks)) rest)
+      (map_data first used slot (min pages 255) m
+      (none_left used (map_rules first blocks slot (min pages 255) m) (maps_rules first blocks slot (pages - 255) maps) h))
+      (maps_data first (used ++ used_by (map_rules first blocks slot (min pages 255) m)) slot (pages - 255) maps
+      (none_right used (map_rules first blocks slot (min pages 255) m) (maps_rules first blocks slot (pages - 255) maps) h))
 
   -- ---- how many they are
 
@@ -91,7 +91,7 @@ module _ (blocks : List (List ℕ)) where
       and_from (is_record count r && are_data count (numbers_of blocks (pages_of r.length) r.maps))
       (length (numbers_of blocks (pages_of r.length) r.maps) == pages_of r.length)
       (and_from (is_record count r) (are_data count (numbers_of blocks (pages_of r.length) r.maps)) fits
-      (maps_data used slot (pages_of r.length) r.maps need.1))
+      (maps_data 33 used slot (pages_of r.length) r.maps need.1))
       (eq-eqb (length (numbers_of blocks (pages_of r.length) r.maps)) (pages_of r.length)
       (numbers_many sized (pages_of r.length) r.maps data_.1 (maps_fit r.length (length r.maps) (nat_le (pages_of r.length) 255) refl short many)))
 

@@ -1,11 +1,12 @@
-use Rattle.std.proofs.Common.{◌≤◌, ◌-◌, ℕ, length}
+use Rattle.std.proofs.Common.{◌≤◌, ◌-◌, length}
+use Rattle.edi_lex.specs.declared.fault.LexFault.{LexFault}
 use Rattle.edi_explain.proofs.told.Strays.{Comes}
 use Rattle.edi_explain.proofs.told.stray.stray_of.Given as goal
 
 abbrev pub invariant-loop-at : goal.invariant-loop-at
 invariant-loop-at l = record {
   small : l.at ≤ length l.bytes;
-  goes : (n : ℕ) × Comes l.bytes n l.at;
+  goes : (f : LexFault) × Comes l.bytes f l.at;
 }
 
 abbrev pub decreases-loop-at : goal.decreases-loop-at

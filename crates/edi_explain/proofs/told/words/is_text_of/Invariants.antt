@@ -2,7 +2,7 @@ use Rattle.std.proofs.Common.{◌≡◌, drop}
 use Rattle.std.specs.List.{list_any}
 use Rattle.std.specs.Str.{bytes_eq}
 use Rattle.edi_explain.specs.told.Tables.{texts_of}
-use Rattle.edi_explain.proofs.told.names.is_text_of.Given as goal
+use Rattle.edi_explain.proofs.told.words.is_text_of.Given as goal
 
 abbrev pub invariant-loop-text : goal.invariant-loop-text
 invariant-loop-text l =
