@@ -12,4 +12,5 @@ pub mod Programs
 pub mod Puts
 pub mod OldDisks
 pub mod Refuted
+pub mod Ranges
 pub mod Law

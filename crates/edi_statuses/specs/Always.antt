@@ -5,7 +5,7 @@ use Rattle.edi_host.specs.Blocks.{is_block}
 use Rattle.edi_host.specs.Contents.{Contents}
 use Rattle.edi_calls.specs.State.{is_title}
 use Rattle.edi_words.specs.Words as words
-use Rattle.edi_words.specs.Words.{Command}
+use Rattle.edi_words.specs.Words.{Command, command_of}
 use Rattle.edi_statuses.specs.declared.status.Status.{Status}
 use Rattle.edi_statuses.specs.Outside.{Outside, Devices, KernelLeft, Lent, outside_with}
 use Rattle.edi_statuses.specs.Steps.{Fetches}
@@ -80,6 +80,10 @@ IsInRange (words.newdisk blocks old) = (64 ≤ blocks) × (blocks ≤ 4096)
 IsInRange (words.demo n o) = (1 ≤ n) × (n ≤ 1000)
 IsInRange (words.put file title) = is_title title ≡ true
 IsInRange c = ⊤
+
+-- so of every command that words are
+abbrev pub WordsGiveRanges : Type 0
+WordsGiveRanges = (given : List (List ℕ)) (c : Command) → command_of given ≡ Some c → IsInRange c
 
 -- the commands of which the law speaks
 abbrev pub is_open : Command → Bool

@@ -1,6 +1,6 @@
 //! Laws of statuses. Each function does nothing, and its contract is the law.
 
-ghost use Rattle.edi_statuses.specs.Always.{NotRefuted, SomeStatus, SomeStep};
+ghost use Rattle.edi_statuses.specs.Always.{NotRefuted, SomeStatus, SomeStep, WordsGiveRanges};
 ghost use Rattle.edi_statuses.specs.Decided.{LinesEnd, OneRefusal, OneStatus};
 ghost use Rattle.edi_statuses.specs.OneEnd.{OneEnd};
 
@@ -30,11 +30,12 @@ pub fn some_step()
 {}
 
 /// Whatever is told before a command, there is an end of it at a status that words and contents decide. So want of memory is never the only answer that
-/// the contracts leave. The law speaks of every command but `boot`, on drives that have blocks of 512 bytes. Of `check` and `explain` it is only false
+/// the contracts leave. The law speaks of every command but `boot`, with the numbers and titles that words give, on drives that have blocks of 512 bytes. Of `check` and `explain` it is only false
 /// that there is no such end.
 pub fn some_status()
     ensures law { SomeStatus }
     ensures not_none { NotRefuted }
+    ensures ranges { WordsGiveRanges }
 {}
 
 /// Contents that are told decide all that a command leaves, but for `boot` and `explore`: the files, but for the code of `compile`;
