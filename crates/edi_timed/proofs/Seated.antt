@@ -14,7 +14,7 @@ use Rattle.edi_kernel.specs.Named.{IsBorn, NamesGrow, SlotsStay}
 use Rattle.edi_kernel.proofs.Changes.{live_below}
 use Rattle.edi_timeline.specs.declared.entry.Came.{Came}
 use Rattle.edi_timeline.specs.declared.entry.Came.TheVariants as came
-use Rattle.edi_timeline.specs.Stints.{Stint, End, forks}
+use Rattle.edi_timeline.specs.Stints.{Stint, forks}
 use Rattle.edi_timeline.specs.Adding.{end_of, has_failed, is_fork, is_at, nth_stint, process_after, start_after, start_by}
 use Rattle.edi_timed.specs.declared.seats.Seated.{Seated}
 use Rattle.edi_timed.specs.Ran.{newest_of, start_in}
@@ -199,13 +199,17 @@ module _ (t u : Table) (n : Naming) (m : Machine) (h : TableIsMachine t n m) (xs
         ((i ≡ slot) × Sits_now i (forks_after c (n.forks i)) (seat_at (put_at seats slot Own) i))
         ⊎ ((i ≡ slot → ⊥) × Sits_now i (n.forks i) (seat_at (put_at seats slot Own) i))
     moved i l = elim (cases_eq i slot) [
-      | inl e ↦ inl (e,
-          subst (λ j. Sits_now j (forks_after c (n.forks j)) (seat_at (put_at seats slot Own) j)) (sym e)
-          (subst (Sits_now slot (forks_after c (n.forks slot))) (sym (put_here seats slot Own wide (live_below t slot live)))
-          (sits_own xs x (n.name slot) (n.forks slot) count (seat_at seats slot) c (seated slot live) process from end failed counted)))
-      | inr ne ↦ inr (ne,
-          subst (Sits_now i (n.forks i)) (sym (put_there seats slot i Own ne))
-          (sits_other xs x (n.name i) (n.forks i) (seat_at seats i) (told_apart i l ne) (seated i l)))
+      | inl e ↦ inl (
+        e,
+        subst (λ j. Sits_now j (forks_after c (n.forks j)) (seat_at (put_at seats slot Own) j)) (sym e)
+            (subst (Sits_now slot (forks_after c (n.forks slot))) (sym (put_here seats slot Own wide (live_below t slot live)))
+            (sits_own xs x (n.name slot) (n.forks slot) count (seat_at seats slot) c (seated slot live) process from end failed counted)),
+      )
+      | inr ne ↦ inr (
+        ne,
+        subst (Sits_now i (n.forks i)) (sym (put_there seats slot i Own ne))
+            (sits_other xs x (n.name i) (n.forks i) (seat_at seats i) (told_apart i l ne) (seated i l)),
+      )
     ]
 
     -- behind a stint that has not forked

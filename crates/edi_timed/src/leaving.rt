@@ -109,7 +109,13 @@ fn arrived(kernel: &Kernel, code: &Code, stands: bool, begun: Begun) -> Came
 }
 
 /// How a stint has ended that began so, of a process that its last stint left at a `when` or not.
-pub(crate) fn came_of(kernel: &Kernel, code: &Code, stands: bool, begun: Begun, end: StintEnd) -> Came
+pub(crate) fn came_of(
+    kernel: &Kernel,
+    code: &Code,
+    stands: bool,
+    begun: Begun,
+    end: StintEnd,
+) -> Came
     requires free { is_over end ≡ false → kernel.now.taken ≡ None }
     ensures exact { end_of result ≡ left_at code.now.words kernel.now stands begun end }
     ensures fits { CameFits result }

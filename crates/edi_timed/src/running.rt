@@ -88,7 +88,13 @@ fn add_stint(
     let seated = seats.at(begun.slot);
     let came = came_of(kernel, code, seated.stands, begun, end);
     timeline.add(seated.seat, came, kernel.turns_used() as u32, said);
-    seats.move_on(kernel, begun.slot, begun.others, came, timeline.count() as u32);
+    seats.move_on(
+        kernel,
+        begun.slot,
+        begun.others,
+        came,
+        timeline.count() as u32,
+    );
 }
 
 // What the timeline gets of a stint. The answer is the ending, if the run has ended by it.
@@ -196,7 +202,9 @@ pub fn timed<C: Calls>(
         return Ending::Turns;
     }
     'rounds: loop {
-        if let Some(ending) = timed_round(kernel, code, calls, bound, choices, &mut seats, timeline) {
+        if let Some(ending) = timed_round(
+            kernel, code, calls, bound, choices, &mut seats, timeline,
+        ) {
             return ending;
         }
     }

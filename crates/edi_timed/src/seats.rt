@@ -132,7 +132,14 @@ impl Seats {
 
     /// The stint of this number was that of the process at a slot, and ended so. If it has forked, its branches are the processes that are ready
     /// from this index on.
-    pub(crate) fn move_on(&mut self, kernel: &Kernel, slot: usize, from: usize, came: Came, number: u32)
+    pub(crate) fn move_on(
+        &mut self,
+        kernel: &Kernel,
+        slot: usize,
+        from: usize,
+        came: Came,
+        number: u32,
+    )
         requires inside { slot < 32 }
         requires small { (seat_at self.old.items slot).forks < 2 ^ 32 - 1 }
         requires few { length (ready_slots kernel.now.table) ≤ 32 }
