@@ -11,7 +11,7 @@ use Rattle.edi_explore.proofs.finding.Search.stint.Goals as goal
 pub returns-in-Led-clause-follows : goal.returns-in-Led-clause-follows
 returns-in-Led-clause-follows c =
     let a : Search = c.args.self.now in
-    let b : Search = record { states = c.follow.new.states; calls = c.follow.new.calls; found = c.args.self.now.found } in
+    let b : Search = record { states = c.follow.new.states; calls = c.follow.new.calls; found = c.args.self.now.found; cut = c.args.self.now.cut } in
     let same = ap (λ x. x.items) c.in_ok-followed.ensures.input ∙ c.requires.search.input_is in
     came_led c.args.code.now c.args.input.now c.args.limits.turns a b c.args.origin.state c.args.origin.index c.follow.new.kernel c.follow.new.calls
     c.requires.search c.requires.state same same
@@ -21,7 +21,7 @@ returns-in-Led-clause-follows c =
 pub returns-in-Failed-clause-follows : goal.returns-in-Failed-clause-follows
 returns-in-Failed-clause-follows c =
     let a : Search = c.args.self.now in
-    let b : Search = record { states = c.follow.new.states; calls = c.follow.new.calls; found = c.args.self.now.found } in
+    let b : Search = record { states = c.follow.new.states; calls = c.follow.new.calls; found = c.args.self.now.found; cut = c.args.self.now.cut } in
     let same = ap (λ x. x.items) c.in_ok-followed.ensures.input ∙ c.requires.search.input_is in
     came_failed c.args.code.now c.args.input.now c.args.limits.turns a b c.args.origin.state c.args.origin.index c.follow.new.kernel c.follow.new.calls
     c.requires.search c.requires.state same same
@@ -31,7 +31,7 @@ returns-in-Failed-clause-follows c =
 pub returns-in-Cut-clause-follows : goal.returns-in-Cut-clause-follows
 returns-in-Cut-clause-follows c =
     let a : Search = c.args.self.now in
-    let b : Search = record { states = c.follow.new.states; calls = c.follow.new.calls; found = c.args.self.now.found } in
+    let b : Search = record { states = c.follow.new.states; calls = c.follow.new.calls; found = c.args.self.now.found; cut = c.args.self.now.cut } in
     let same = ap (λ x. x.items) c.in_ok-followed.ensures.input ∙ c.requires.search.input_is in
     came_cut c.args.code.now c.args.input.now c.args.limits.turns a b c.args.origin.state c.args.origin.index c.follow.new.kernel c.follow.new.calls
     c.requires.search c.requires.state same same

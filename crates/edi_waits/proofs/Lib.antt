@@ -1,0 +1,5 @@
+mod Lists
+mod Places
+mod Listed
+mod Naming
+mod Rounds

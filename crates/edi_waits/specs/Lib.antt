@@ -1,0 +1,4 @@
+pub mod Waits
+pub mod Told
+pub mod Names
+pub mod Runs
