@@ -1,7 +1,7 @@
 -- The next process is taken.
 use Rattle.std.proofs.Common.{◌≡◌, ℕ, suc, ◌+◌, ◌-◌, ◌<◌, inl, inr, Bool, true, false, ◌&&◌, not, nat_eq, nat_lt, if◌then◌else◌, List, [], ◌∷◌, length, map}
 use Rattle.std.proofs.Common.{Option, Some, None, refl, sym, ◌∙◌, ap, arith, subst, slice_index_or, eq-eqb, ◌^◌}
-use Rattle.std.specs.Prelude.{◌%◌, slice_get}
+use Rattle.std.specs.Prelude.{◌%◌, slice_get, IfSome}
 use Rattle.std.specs.Option.{option_map}
 use Rattle.std.proofs.lemmas.Bool.{cases_eq, ne_eqb}
 use Rattle.edi_calls.specs.Choice.{choice}
@@ -13,6 +13,7 @@ use Rattle.edi_ring.specs.Links.{IsAmong, NoneTwice}
 use Rattle.edi_ring.proofs.Chain.{minus, minus_none, minus_here, minus_there}
 use Rattle.edi_ring.proofs.Calls.{among_at}
 use Rattle.edi_trace.specs.Drawn.{Drawn}
+use Rattle.edi_machine.specs.Activities.{IsOrdered}
 use Rattle.edi_kernel.specs.declared.state.KernelState.{KernelState}
 use Rattle.edi_kernel.specs.declared.table.Table.{Table}
 use Rattle.edi_kernel.specs.Table.{Withdraws, process_at, marked_at, ready_slots, free_slots, is_live, is_free_home, is_waiting, no_process}
@@ -139,12 +140,13 @@ length-map f (x ∷ xs) = ap suc (length-map f xs)
 
 module _ (old new : KernelState) (at x : ℕ) (before after : Drawn) (kernel : IsKernel old) (free : old.taken ≡ None) (lt : x < 32)
     (was : slice_get (ready_slots old.table) at ≡ Some x)
-    (w : Withdraws x old.table new.table) (taken : new.taken ≡ Some x) (same : new.store ≡ old.store) where
+    (w : Withdraws x old.table new.table) (taken : new.taken ≡ Some x) (same : new.store ≡ old.store) (arrived : new.arrived ≡ old.arrived) where
   pub chosen_kernel : IsKernel new
   chosen_kernel = record {
     table = withdrawn_table old.table new.table x kernel.table w;
     taken = subst (IsTakenIn new.table) (sym taken)
         (chosen_taken old.table new.table at x kernel.table lt was w (subst (IsTakenIn old.table) free kernel.taken));
+    arrived = subst (λ a. IfSome a IsOrdered) (sym arrived) kernel.arrived;
   }
 
   pub chooses : (ready : ℕ) → ready ≡ length (ready_slots old.table) → at < ready → Picks ready before at after → before.drawn < 2 ^ 64 - 1 →

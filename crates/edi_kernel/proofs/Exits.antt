@@ -14,6 +14,7 @@ use Rattle.edi_kernel.specs.declared.table.Standing.TheVariants as standing
 use Rattle.edi_kernel.specs.declared.table.Process.{Process}
 use Rattle.edi_kernel.specs.declared.table.Table.{Table}
 use Rattle.edi_kernel.specs.Table.{PutsProcess, Notifies, NotifiesOne, Removed, process_at, ready_slots, free_slots, is_live, is_free_home, is_waiting, no_marks}
+use Rattle.edi_kernel.specs.Named.{SlotsStay}
 use Rattle.edi_kernel.specs.TableIsMachine.{IsTable, IsTaken, Naming, Once, Awaits, Born, TableIsMachine, entry_of, standing_of, children_of}
 use Rattle.edi_calls.proofs.Names.{parent-child}
 use Rattle.edi_kernel.proofs.Counts.{map-append}
@@ -180,6 +181,29 @@ module _ (t u : Table) (n : Naming) (m : Machine) (p w : ℕ) where
     pub notifies_one : (v : ℕ) → w ≡ suc v → NotifiesOne (nat_le w 1) w p t u → Exited u n (map n.name (ready_slots t)) (map n.name (ready_slots u))
         (one_less m (n.name p) entry entry.standing)
     notifies_one v e notifies = by_number v e (nat_le w 1) refl notifies
+
+-- ---- who lives after the end of a branch
+
+notified_lives : (s : Standing) (slot : ℕ) (t u : Table) → IsTable t → (process_at t slot).standing ≡ s → Notifies s slot t u → (i : ℕ)
+    → is_live u i ≡ is_live t i
+notified_lives standing.Ready slot t u h e notifies i = ap (λ v. is_live v i) notifies
+notified_lives standing.AtWhen slot t u h e notifies i = ap (λ v. is_live v i) notifies
+notified_lives (standing.Waiting n) slot t u h e notifies i = by_number (nat_le n 1) notifies
+  where
+    by_number : (b : Bool) → NotifiesOne b n slot t u → is_live u i ≡ is_live t i
+    by_number true put = put_lives t u slot (record (process_at t slot) { standing = standing.Ready }) put (h.waiting slot (ap is_waiting e)) i
+    by_number false is = ap (λ v. is_live v i) is
+
+pub removed_slots : (t u : Table) (p : ℕ) → IsTable t → IsTaken t p → 0 < p → Removed p t u → SlotsStay t u
+removed_slots t u p table taken pos removed = λ i l.
+    rest (not (nat_eq i p)) (is_live t i)
+    (sym (freed_lives t removed.between p table taken removed.put i)
+    ∙ sym (notified_lives (process_at removed.between (process_at t p).parent).standing (process_at t p).parent removed.between u
+    (freed_table t removed.between p table taken removed.put pos) refl removed.notified i) ∙ l)
+  where
+    rest : (a b : Bool) → (a && b) ≡ true → b ≡ true
+    rest true b e = e
+    rest false b e = absurd (cc)
 
 -- ---- what the end of a branch leaves as it is
 

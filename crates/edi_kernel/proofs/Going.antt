@@ -11,10 +11,13 @@ use Rattle.edi_calls.specs.Outcome as outcome
 use Rattle.edi_calls.specs.Ready.{child, children, all_marked, joins}
 use Rattle.edi_calls.proofs.Tables.{find-with_at-same, find-with_at-other}
 use Rattle.edi_target.specs.Op.{Branch}
+use Rattle.edi_target.specs.Attempts.{attempt_fails, is_failed_turn}
 use Rattle.edi_target.specs.Fetch.{fetch}
 use Rattle.edi_target.specs.Effect.{Local, Turn, entering, leaving, looping, arriving, again, forking, exiting, finishing}
 use Rattle.edi_target.specs.Mach as mach
+use Rattle.edi_target.specs.Mach.{turned, local_step}
 use Rattle.edi_target.specs.Mach.{Running, Machine, Stepped, went, ended, held_at, running_of, activity_of, back, with_children, at_turn, exited, is_first}
+use Rattle.edi_ring.specs.Lists.{home_of}
 use Rattle.edi_ring.proofs.Homes.{length-le-nodes}
 use Rattle.edi_machine.specs.declared.activity.Activity.{Activity}
 use Rattle.edi_machine.specs.declared.ends.TurnKind.{TurnKind}
@@ -40,17 +43,18 @@ use Rattle.edi_kernel.specs.Stretch.{Paused, going, pausing, stopping, stretch, 
 use Rattle.edi_kernel.specs.Stints as stints
 use Rattle.edi_kernel.specs.Stints.{stint, stint_after}
 use Rattle.edi_kernel.specs.Forks.{HaveBegun, share_in}
-use Rattle.edi_kernel.specs.Kernel.{IsKernel, IsTakenIn, EndsRun, BreaksOff, StandsArrived, attempt_end, HandlesTurn}
+use Rattle.edi_kernel.specs.Kernel.{Holds, StandsAfter, IsKernel, IsTakenIn, EndsRun, BreaksOff, StandsArrived, attempt_end, HandlesTurn}
 use Rattle.edi_kernel.specs.Kernel.{EndsAs, Handles, KeepsWords}
-use Rattle.edi_kernel.specs.Named.{HoldsBy, IsBorn, NamesGrow, GoesBy}
+use Rattle.edi_kernel.specs.Named.{HoldsBy, IsBorn, NamesGrow, SlotsStay, EndsBy, GoesBy}
 use Rattle.edi_calls.proofs.Names.{child_not_first, same_ends}
 use Rattle.edi_kernel.proofs.Counts.{marked_few, map-append, where_same}
 use Rattle.edi_kernel.proofs.Changes.{length-names, one_changes, at_set_same, at_set_other}
-use Rattle.edi_kernel.proofs.Lists.{written_table, unmarked_at}
-use Rattle.edi_kernel.proofs.Walks.{Follows, follows_itself, names-with_at, marks_after, Comes, comes, Walked, walks}
+use Rattle.edi_kernel.proofs.Lists.{written_table, unmarked_at, put_lives}
+use Rattle.edi_kernel.proofs.Walks.{Follows, follows_itself, names-with_at, marks_after, Turns, Comes, comes, Walked, walks}
 use Rattle.edi_kernel.proofs.Switches.{At, taken_live, follows_marks, unmarked_table, unmarked_taken, unmarked_at_slot, marked_at_slot, stood, stood_ready}
 use Rattle.edi_kernel.proofs.Switches.{all_ready}
-use Rattle.edi_kernel.proofs.Exits.{Exited, exits, kept, none_left}
+use Rattle.edi_kernel.proofs.Exits.{Exited, exits, kept, none_left, removed_slots}
+use Rattle.edi_kernel.proofs.Placing.{arrived_ordered}
 use Rattle.edi_kernel.proofs.Handled.{handled}
 use Rattle.edi_kernel.proofs.Forking.{Starts, Grown, grown, drop_all}
 
@@ -161,6 +165,29 @@ module _ (words : List ℕ) (old mid new : KernelState) (slot left left1 used : 
         by_cleared true = refl
         by_cleared false = refl
 
+    -- the last instruction took this turn
+    last_by : (turn : Turn) (r : Running) (c : Bool) (steps : ℕ) → (w : Turns (fetch words) m p others (n.forks slot) steps m turn r c)
+        → new.failed ≡ is_failed_turn (turned turn r) → (machine : Machine) (joined : List Name) →
+        at_turn w.machine p others w.activity turn r ≡ went machine (joins joined) → EndsBy words new.failed m p others machine joined
+    last_by turn r c steps w failed machine joined is = record {
+      steps = w.before;
+      before = w.machine;
+      reached = w.reached;
+      last = w.last ∙ is;
+      failed_is =
+          failed ∙ sym (ap is_failed_turn w.took)
+          ∙ sym (ap (λ l. is_failed_turn (local_step (fetch words) l (is_first p) (running_of w.machine w.activity))) many)
+          ∙ sym (ap (attempt_fails (fetch words) w.machine p) w.follows.found);
+    }
+      where
+        many : length w.machine.activities ≡ length m.activities
+        many = sym (length-names w.machine.activities) ∙ ap length w.follows.named ∙ length-names m.activities
+
+    -- a process that is put into the list of ready ones lived before
+    put_slots : (t : Table) (x : Process) → PutsProcess 0 slot x t new.table → ((i : ℕ) → is_live t i ≡ is_live mid.table i) → home_of t.lists slot ≡ None
+        → SlotsStay old.table new.table
+    put_slots t x put same none = λ i l. sym (same_live i) ∙ sym (same i) ∙ sym (put_lives t new.table slot x put none i) ∙ l
+
     -- ---- an arrival, and an attempt that marks nobody
 
     left_standing : (k : Machine) (b : mach.Activity) (ms : List Name) (r : Running) → now ≡ r → new.arrived ≡ Some a →
@@ -180,8 +207,9 @@ module _ (words : List ℕ) (old mid new : KernelState) (slot left left1 used : 
     arrived : (k : Machine) (b : mach.Activity) (ms : List Name) (r : Running) (steps rest : ℕ) → Follows m k p (n.forks slot) ms b → now ≡ r →
         stint (fetch words) steps m p others ≡ stints.switched (back k p (activity_of r.local b.forks mach.at_when) [] r) (p ∷ []) →
         PutsProcess 0 slot (at_its_when (process_at mid.table slot) a) (unmarked mid.table) new.table → new.store ≡ mid.store → new.arrived ≡ Some a →
+        EndsBy words new.failed m p others (back k p (activity_of r.local b.forks mach.at_when) [] r) (p ∷ []) →
         GoesBy words (stint_end.Arrived used) left old n new t m p others
-    arrived k b ms r steps rest f e is put same arrival = (
+    arrived k b ms r steps rest f e is put same arrival last = (
       (
         record {
           steps = steps;
@@ -203,6 +231,8 @@ module _ (words : List ℕ) (old mid new : KernelState) (slot left left1 used : 
         left_standing k b [] r e arrival,
       ),
       refl,
+      put_slots (unmarked mid.table) (at_its_when (process_at mid.table slot) a) put (λ i. refl) at_clear.taken.homeless,
+      last,
     )
 
     -- ---- an attempt that marks its process
@@ -212,8 +242,10 @@ module _ (words : List ℕ) (old mid new : KernelState) (slot left left1 used : 
         stint (fetch words) steps m p others ≡ stint_after (λ m. stint (fetch words) rest m p others) (at_turn k p others b (again true) r) →
         PutsProcess 0 slot (at_its_when (process_at mid.table slot) a) (marked_with mid.table slot) new.table → new.store ≡ mid.store →
         result ≡ attempt_end (marks_with mid.table slot == length (ready_slots new.table)) used → new.arrived ≡ Some a →
+        ((machine : Machine) (joined : List Name) → at_turn k p others b (again true) r ≡ went machine (joins joined)
+        → EndsBy words new.failed m p others machine joined) →
         GoesBy words result left old n new t m p others
-    marked_attempt k b r steps rest result f e is put same ends arrival =
+    marked_attempt k b r steps rest result f e is put same ends arrival last =
         subst (λ x. GoesBy words x left old n new t m p others) (sym ends) (by_marks (marks_with mid.table slot == length (ready_slots new.table)) refl)
       where
         marked : At (marked_with mid.table slot) n (record m { marks = p ∷ marks_after (fetch words) m p others (n.forks slot) cleared }) slot
@@ -232,6 +264,26 @@ module _ (words : List ℕ) (old mid new : KernelState) (slot left left1 used : 
             ∙ ap (λ ms. all_marked (p ∷ ms) (p ∷ map n.name (ready_slots mid.table))) (sym f.marks_are)
             ∙ ap (λ xs. all_marked (p ∷ k.marks) (p ∷ map n.name xs)) same_ready
 
+        slots : SlotsStay old.table new.table
+        slots = put_slots (marked_with mid.table slot) (at_its_when (process_at mid.table slot) a) put (λ i. refl) marked.taken.homeless
+
+        held : (h : Holds new (back k p (activity_of r.local b.forks mach.at_when) (p ∷ k.marks) r) None (others ++ p ∷ [])) × (h.naming ≡ n)
+        held = (
+          record {
+            naming = n;
+            stands =
+                stood (marked_with mid.table slot) new.table slot a marked.table marked.taken put n
+                (record m { marks = p ∷ marks_after (fetch words) m p others (n.forks slot) cleared }) k b (p ∷ k.marks)
+                (marks_after (fetch words) m p others (n.forks slot) cleared) r mid.store marked.stands
+                (follows_marks m k p (n.forks slot) (marks_after (fetch words) m p others (n.forks slot) cleared)
+                (p ∷ marks_after (fetch words) m p others (n.forks slot) cleared) b f) (ap (λ ms. p ∷ ms) f.marks_are) (sym (ap (λ x. x.local) e));
+            memory = sym (ap (λ x. x.local.memory) e) ∙ sym same;
+            is_taken = sym (ap (option_map n.name) g.none_taken);
+            is_ready = sym (ap (map n.name) ready ∙ map-append n.name (ready_slots mid.table) (slot ∷ []) ∙ ap (λ xs. map n.name xs ++ p ∷ []) same_ready);
+          },
+          refl,
+        )
+
         comes_to : (x : Bool) → all_marked (p ∷ k.marks) (p ∷ others) ≡ x →
             stint (fetch words) steps m p others ≡ stint_after (λ m. stint (fetch words) rest m p others)
             (if x then ended outcome.standstill (back k p (activity_of r.local b.forks mach.at_when) (p ∷ k.marks) r) else went
@@ -243,18 +295,23 @@ module _ (words : List ℕ) (old mid new : KernelState) (slot left left1 used : 
         by_marks : (x : Bool) → (marks_with mid.table slot == length (ready_slots new.table)) ≡ x →
             GoesBy words (attempt_end x used) left old n new t m p others
         by_marks true h = (
-          record {
-            steps = steps;
-            machine = back k p (activity_of r.local b.forks mach.at_when) (p ∷ k.marks) r;
-            end = outcome.standstill;
-            is = comes_to true (sym tested ∙ h);
-            same = tt;
-            memory = tt;
-            system = sym (ap (λ x. x.system) e);
-            turns = sym (ap (λ x. x.turns) e) ∙ sym g.spent;
-          },
-          left_standing k b (p ∷ k.marks) r e arrival,
-          sym (ap (λ x. x.local.memory) e) ∙ sym same,
+          (
+            record {
+              steps = steps;
+              machine = back k p (activity_of r.local b.forks mach.at_when) (p ∷ k.marks) r;
+              end = outcome.standstill;
+              is = comes_to true (sym tested ∙ h);
+              same = tt;
+              memory = tt;
+              system = sym (ap (λ x. x.system) e);
+              turns = sym (ap (λ x. x.turns) e) ∙ sym g.spent;
+            },
+            left_standing k b (p ∷ k.marks) r e arrival,
+            sym (ap (λ x. x.local.memory) e) ∙ sym same,
+            held.0,
+          ),
+          held.1,
+          slots,
         )
         by_marks false h = (
           (
@@ -263,32 +320,27 @@ module _ (words : List ℕ) (old mid new : KernelState) (slot left left1 used : 
               machine = back k p (activity_of r.local b.forks mach.at_when) (p ∷ k.marks) r;
               joined = p ∷ [];
               is = comes_to false (sym tested ∙ h);
-              holds = record {
-                naming = n;
-                stands =
-                    stood (marked_with mid.table slot) new.table slot a marked.table marked.taken put n
-                    (record m { marks = p ∷ marks_after (fetch words) m p others (n.forks slot) cleared }) k b (p ∷ k.marks)
-                    (marks_after (fetch words) m p others (n.forks slot) cleared) r mid.store marked.stands
-                    (follows_marks m k p (n.forks slot) (marks_after (fetch words) m p others (n.forks slot) cleared)
-                    (p ∷ marks_after (fetch words) m p others (n.forks slot) cleared) b f) (ap (λ ms. p ∷ ms) f.marks_are) (sym (ap (λ x. x.local) e));
-                memory = sym (ap (λ x. x.local.memory) e) ∙ sym same;
-                is_taken = sym (ap (option_map n.name) g.none_taken);
-                is_ready = sym (ap (map n.name) ready ∙ map-append n.name (ready_slots mid.table) (slot ∷ []) ∙ ap (λ xs. map n.name xs ++ p ∷ []) same_ready);
-              };
+              holds = held.0;
               system = sym (ap (λ x. x.system) e);
               turns = sym (ap (λ x. x.turns) e) ∙ sym g.spent;
             },
             left_standing k b (p ∷ k.marks) r e arrival,
           ),
-          refl,
+          held.1,
+          slots,
+          last (back k p (activity_of r.local b.forks mach.at_when) (p ∷ k.marks) r) (p ∷ [])
+              (ap (λ y. if y then ended outcome.standstill (back k p (activity_of r.local b.forks mach.at_when) (p ∷ k.marks) r) else went
+              (back k p (activity_of r.local b.forks mach.at_when) (p ∷ k.marks) r) (joins (p ∷ []))) (sym tested ∙ h)),
         )
 
     -- ---- the end of a branch
 
     gone : (k : Machine) (b : mach.Activity) (ms : List Name) (r : Running) (steps rest : ℕ) → Follows m k p (n.forks slot) ms b → now ≡ r → 0 < slot →
         stint (fetch words) steps m p others ≡ stint_after (λ m. stint (fetch words) rest m p others) (exited k p r) →
-        Removed slot (unmarked mid.table) new.table → new.store ≡ mid.store → GoesBy words (stint_end.Exited used) left old n new t m p others
-    gone k b ms r steps rest f e pos is removed same =
+        Removed slot (unmarked mid.table) new.table → new.store ≡ mid.store →
+        ((machine : Machine) (joined : List Name) → exited k p r ≡ went machine (joins joined) → EndsBy words new.failed m p others machine joined) →
+        GoesBy words (stint_end.Exited used) left old n new t m p others
+    gone k b ms r steps rest f e pos is removed same last =
         let x : Exited new.table n (map n.name (ready_slots (unmarked mid.table))) (map n.name (ready_slots new.table)) (exited k p r) =
         exits (unmarked mid.table) new.table n (record m { marks = [] }) k slot b ms r removed at_clear pos (follows_marks m k p (n.forks slot) ms [] b f)
         refl in (
@@ -311,6 +363,8 @@ module _ (words : List ℕ) (old mid new : KernelState) (slot left left1 used : 
             none_left k p r x.machine x.joined x.is,
           ),
           refl,
+          λ i l. sym (same_live i) ∙ removed_slots (unmarked mid.table) new.table slot at_clear.table at_clear.taken pos removed i l,
+          last x.machine x.joined x.is,
         )
 
     -- ---- a fork
@@ -412,11 +466,13 @@ module _ (words : List ℕ) (old mid new : KernelState) (slot left left1 used : 
 
       -- the names behind the fork
       grows : (words : List ℕ) (x : Grown slot a branches mid.store table_now naming_now machine_now fork_number (length branches) words new.table) →
-          NamesGrow fork_number old.taken old.table new.table n x.naming
+          NamesGrow fork_number (length branches) old.taken old.table new.table n x.naming
       grows words x = record {
         slot = slot;
         was = g.slot_is;
         next = ap suc f.forked;
+        waits = x.waiting;
+        fresh = λ i q l e. fresh i q (same_live i ∙ l) e;
         forked = x.forks slot (taken_live (unmarked mid.table) slot at_clear.taken) ∙ forks_here ∙ sym (ap suc f.forked);
         lives = λ i l. x.lives i (same_live i ∙ l);
         names = λ i l. x.names i (same_live i ∙ l);
@@ -427,8 +483,10 @@ module _ (words : List ℕ) (old mid new : KernelState) (slot left left1 used : 
       forks : (steps rest : ℕ) → stint (fetch words) steps m p others ≡ stint_after (λ m. stint (fetch words) rest m p others)
           (at_turn k p others b (forking branches) now) →
           HaveBegun slot a branches mid.store table_now (length branches) new.store new.table → 0 < length branches →
+          ((machine : Machine) (joined : List Name) → at_turn k p others b (forking branches) now ≡ went machine (joins joined)
+          → EndsBy words new.failed m p others machine joined) →
           GoesBy words (stint_end.Forked used) left old n new t m p others
-      forks steps rest is begun some =
+      forks steps rest is begun some last =
           let x : Grown slot a branches mid.store table_now naming_now machine_now fork_number (length branches) new.store new.table =
           grown slot a branches mid.store table_now naming_now machine_now fork_number begins (length branches) new.store new.table (omega arith) begun in
           let chain : x.machine ≡ with_children p fork_number 0 a.base a.end (share_in a branches) branches machine_now =
@@ -453,6 +511,8 @@ module _ (words : List ℕ) (old mid new : KernelState) (slot left left1 used : 
               record { fork = fork_number; number = length branches; some = some; are = refl },
             ),
             grows new.store x,
+            last x.machine (children p fork_number 0 (length branches))
+                (ap (λ z. went z (joins (children p fork_number 0 (length branches)))) (sym chain)),
           )
 
     -- ---- all pauses
@@ -462,27 +522,36 @@ module _ (words : List ℕ) (old mid new : KernelState) (slot left left1 used : 
         Allows (Some (pause.At kd)) words live (slot == 0) l → HandlesTurn kd words slot used a mid new result → GoesBy words result left old n new t m p others
     at_turns kind.Arrive steps (pausing arriving r c) result l w h allowed d =
         subst (λ x. GoesBy words x left old n new t m p others) (sym d.2)
-        (arrived w.machine w.activity (marks_after (fetch words) m p others (n.forks slot) c) r steps w.rest w.follows h.1 w.is d.0 d.1 d.3)
+        (arrived w.machine w.activity (marks_after (fetch words) m p others (n.forks slot) c) r steps w.rest w.follows h.1 w.is d.0 d.1 d.3
+        (last_by arriving r c steps w d.4 _ _ refl))
     at_turns (kind.Again false) steps (pausing (again marks) r c) result l w h allowed d =
         subst (λ x. GoesBy words x left old n new t m p others) (sym d.2)
         (arrived w.machine w.activity (marks_after (fetch words) m p others (n.forks slot) c) r steps w.rest w.follows h.1
         (subst (λ x. stint (fetch words) steps m p others ≡ stint_after (λ m. stint (fetch words) w.rest m p others)
-        (at_turn w.machine p others w.activity (again x) r)) (sym h.0) w.is) d.0 d.1 d.3)
+        (at_turn w.machine p others w.activity (again x) r)) (sym h.0) w.is) d.0 d.1 d.3
+        (last_by (again marks) r c steps w d.4 _ _ (ap (λ x. at_turn w.machine p others w.activity (again x) r) (sym h.0))))
     at_turns (kind.Again true) steps (pausing (again marks) r c) result l w h allowed d =
         marked_attempt w.machine w.activity r steps w.rest result
         (subst (λ x. Follows m w.machine p (n.forks slot) (marks_after (fetch words) m p others (n.forks slot) x) w.activity) (sym h.2) w.follows) h.1
         (subst (λ x. stint (fetch words) steps m p others ≡ stint_after (λ m. stint (fetch words) w.rest m p others)
         (at_turn w.machine p others w.activity (again x) r)) (sym h.0) w.is) d.0 d.1 d.2 d.3
+        (λ machine joined is.
+        last_by (again marks) r c steps w d.4 machine joined (ap (λ x. at_turn w.machine p others w.activity (again x) r) (sym h.0) ∙ is))
     at_turns (kind.Fork at) steps (pausing (forking branches) r c) result l w h allowed d =
         subst (λ x. GoesBy words x left old n new t m p others) (sym d.1)
         (forks w.machine w.activity (marks_after (fetch words) m p others (n.forks slot) c) w.follows (branches_at words at) steps w.rest
         (subst (λ x. stint (fetch words) steps m p others ≡ stint_after (λ m. stint (fetch words) w.rest m p others)
         (at_turn w.machine p others w.activity (forking (branches_at words at)) x)) (sym h.1)
         (subst (λ x. stint (fetch words) steps m p others ≡ stint_after (λ m. stint (fetch words) w.rest m p others)
-        (at_turn w.machine p others w.activity (forking x) r)) (sym h.0) w.is)) d.0 allowed.0.some)
+        (at_turn w.machine p others w.activity (forking x) r)) (sym h.0) w.is)) d.0 allowed.0.some
+        (λ machine joined is.
+        last_by (forking branches) r c steps w d.2 machine joined
+        (ap (λ x. at_turn w.machine p others w.activity (forking x) r) (sym h.0)
+        ∙ ap (λ x. at_turn w.machine p others w.activity (forking (branches_at words at)) x) (sym h.1) ∙ is)))
     at_turns kind.Exit steps (pausing exiting r c) result l w h allowed d =
         subst (λ x. GoesBy words x left old n new t m p others) (sym d.2)
-        (gone w.machine w.activity (marks_after (fetch words) m p others (n.forks slot) c) r steps w.rest w.follows h.1 (later_slot allowed) w.is d.0 d.1)
+        (gone w.machine w.activity (marks_after (fetch words) m p others (n.forks slot) c) r steps w.rest w.follows h.1 (later_slot allowed) w.is d.0 d.1
+        (λ machine joined is. last_by exiting r c steps w d.3 machine joined is))
       where
         later_slot : (slot == 0) ≡ false → 0 < slot
         later_slot e = positive slot (eqb-false slot 0 e)
@@ -668,11 +737,15 @@ module _ (words : List ℕ) (old mid new : KernelState) (slot left left1 : ℕ) 
     (ordered : IsOrdered a)
     (allowed : Allows (Some pause) words (32 - length (free_slots old.table)) (slot == 0) l)
     (handles : Handles pause words slot (left - left1) a mid new result) where
-  pub stays_kernel : IsKernel new
-  stays_kernel =
+  pub stays_kernel : (ready : List ℕ) → StandsAfter result (Some slot) ready new.table new.arrived → IsKernel new
+  stays_kernel ready standing =
       let h : IsTable new.table × IsBetween new.table = handled words slot (left - left1) a mid new result m_is.sound m_is.taken ordered pause
       (32 - length (free_slots old.table)) l allowed handles in
-      record { table = h.0; taken = subst (IsTakenIn new.table) (sym none) h.1 }
+      record {
+        table = h.0;
+        taken = subst (IsTakenIn new.table) (sym none) h.1;
+        arrived = arrived_ordered result slot ready new.table new.arrived h.0 m_is.taken.inside standing;
+      }
 
   pub goes_all : (s t : State) → Stretches words (32 - length (free_slots old.table)) (slot == 0)
       (running_in old.store (resumed (process_at old.table slot)) s left) false pause (running_in mid.store a t left1) cleared →

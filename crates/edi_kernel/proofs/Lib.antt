@@ -15,8 +15,8 @@ pub mod Exits
 pub mod Sharing
 pub mod Forking
 pub mod Handled
-pub mod Going
 pub mod Placing
+pub mod Going
 pub mod Choosing
 pub mod Starting
 pub mod Moments

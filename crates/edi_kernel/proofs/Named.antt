@@ -5,6 +5,7 @@ use Rattle.edi_told.proofs.Told.{WhereTold-map}
 use Rattle.edi_calls.specs.Names.{Name}
 use Rattle.edi_calls.specs.State.{State}
 use Rattle.edi_target.specs.Mach.{Machine}
+use Rattle.edi_kernel.specs.declared.ends.Ending.TheVariants as ending
 use Rattle.edi_kernel.specs.declared.ends.StintEnd.{StintEnd}
 use Rattle.edi_kernel.specs.declared.ends.StintEnd.TheVariants as stint_end
 use Rattle.edi_kernel.specs.declared.state.KernelState.{KernelState}
@@ -18,7 +19,13 @@ pub goes_to : (words : List ℕ) (end : StintEnd) (left : ℕ) (old : KernelStat
 goes_to words (stint_end.Arrived used) left old n k now m p others h = h.0
 goes_to words (stint_end.Forked used) left old n k now m p others h = h.0
 goes_to words (stint_end.Exited used) left old n k now m p others h = h.0
-goes_to words (stint_end.Over used e) left old n k now m p others h = h
+goes_to words (stint_end.Over used ending.Standstill) left old n k now m p others h = h.0
+goes_to words (stint_end.Over used ending.Done) left old n k now m p others h = h
+goes_to words (stint_end.Over used (ending.Halted line)) left old n k now m p others h = h
+goes_to words (stint_end.Over used (ending.Failed cause line)) left old n k now m p others h = h
+goes_to words (stint_end.Over used ending.Turns) left old n k now m p others h = h
+goes_to words (stint_end.Over used (ending.Bad at)) left old n k now m p others h = h
+goes_to words (stint_end.Over used ending.Fault) left old n k now m p others h = h
 
 -- the process goes on from any machine that the kernel is, by whatever names
 abbrev pub AnyNamed : List ℕ → StintEnd → (left : ℕ) → (prior k : KernelState) → State → State → Type 0

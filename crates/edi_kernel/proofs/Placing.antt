@@ -1,6 +1,8 @@
 -- The process that arrived stands last among the ready ones, with the activity that the kernel tells.
 use Rattle.std.proofs.Common.{◌≡◌, ℕ, ◌<◌, inl, inr, Bool, true, false, List, [], ◌∷◌, ◌++◌, Option, Some, None, refl, sym, ◌∙◌, ap, arith}
 use Rattle.std.proofs.Common.{subst, slice_index_or, get_or-set_same, if◌then◌else◌}
+use Rattle.std.specs.Prelude.{IfSome}
+use Rattle.edi_machine.specs.Activities.{IsOrdered}
 use Rattle.edi_machine.specs.declared.activity.Activity.{Activity}
 use Rattle.edi_kernel.specs.declared.ends.Ending.{Ending}
 use Rattle.edi_kernel.specs.declared.ends.Ending.TheVariants as ending
@@ -14,6 +16,32 @@ use Rattle.edi_kernel.specs.TableIsMachine.{IsTable}
 use Rattle.edi_kernel.specs.Kernel.{StandsLast, StandsAfter, StandsAtEnd, ended_by}
 use Rattle.edi_kernel.specs.Runs.{EndsUnready}
 use Rattle.edi_kernel.proofs.Lists.{put_list}
+
+-- the activity that is told is that of a process of the table
+pub arrived_ordered : (e : StintEnd) (slot : ℕ) (ready : List ℕ) (t : Table) (arrived : Option Activity) → IsTable t → slot < 32
+    → StandsAfter e (Some slot) ready t arrived → IfSome arrived IsOrdered
+arrived_ordered e slot ready t arrived table inside h = by_end e h
+  where
+    none : arrived ≡ None → IfSome arrived IsOrdered
+    none is = subst (λ x. IfSome x IsOrdered) (sym is) tt
+
+    same : {x y : ℕ} → Some x ≡ Some y → x ≡ y
+    same e = cc
+
+    stands : StandsLast (Some slot) ready t arrived → IfSome arrived IsOrdered
+    stands s = subst (λ x. IfSome x IsOrdered) (sym s.arrival) (subst IsOrdered s.is (table.ordered s.slot (subst (λ i. i < 32) (same s.was) inside)))
+
+    by_end : (e : StintEnd) → StandsAfter e (Some slot) ready t arrived → IfSome arrived IsOrdered
+    by_end (stint_end.Arrived used) s = stands s
+    by_end (stint_end.Over used ending.Standstill) s = stands s
+    by_end (stint_end.Over used ending.Done) s = none s
+    by_end (stint_end.Over used (ending.Halted line)) s = none s
+    by_end (stint_end.Over used (ending.Failed cause line)) s = none s
+    by_end (stint_end.Over used ending.Turns) s = none s
+    by_end (stint_end.Over used (ending.Bad at)) s = none s
+    by_end (stint_end.Over used ending.Fault) s = none s
+    by_end (stint_end.Forked used) s = none s
+    by_end (stint_end.Exited used) s = none s
 
 -- a process that is put at the back of the ready ones at its `when`
 pub put_last : (t u : Table) (slot : ℕ) (x : Process) (a : Activity) → IsTable t → slot < 32 → PutsProcess 0 slot (at_its_when x a) t u

@@ -1,5 +1,6 @@
 -- Rounds of a run.
-use Rattle.std.proofs.Common.{◌≡◌, ℕ, zero, suc, ◌-◌, ◌<◌, ◌≤◌, List, [], ◌++◌, map, Option, Some, None, refl, sym, ◌∙◌, ap, arith, subst}
+use Rattle.std.proofs.Common.{◌≡◌, ℕ, zero, suc, ◌-◌, ◌<◌, ◌≤◌, List, [], ◌∷◌, ◌++◌, map, Option, Some, None, refl, sym, ◌∙◌, ap, arith, subst}
+use Rattle.std.specs.Prelude.{⊤}
 use Rattle.std.specs.Option.{option_map}
 use Rattle.edi_told.specs.Told.{WhereTold}
 use Rattle.edi_told.proofs.Told.{WhereTold-map, WhereTold-then}
@@ -22,8 +23,8 @@ use Rattle.edi_kernel.specs.Table.{ready_slots}
 use Rattle.edi_kernel.specs.TableIsMachine.{TableIsMachine}
 use Rattle.edi_kernel.specs.Stints as stints
 use Rattle.edi_kernel.specs.Stints.{Stint, stint, stint_after}
-use Rattle.edi_kernel.specs.Kernel.{Holds, KeepsWords, Switches, EndsRun, GoesTo, ended_by, used_in}
-use Rattle.edi_kernel.specs.Runs.{Proceeds, Started, GoesRound, RunEnds, RunFails, Rounds, RunsAs, FailsIn, RunsTo}
+use Rattle.edi_kernel.specs.Kernel.{Holds, EndsAs, KeepsWords, Switches, EndsRun, GoesTo, ended_by, used_in}
+use Rattle.edi_kernel.specs.Runs.{Proceeds, EndsUnready, Started, GoesRound, KeepsMachine, RunEnds, RunFails, Rounds, RunsAs, FailsIn, RunsTo, StandsIn}
 use Rattle.edi_kernel.specs.Moments.{Moment, moment, moment_on, moment_after, moment_of}
 use Rattle.edi_kernel.proofs.Moments.{moment_switched, moment_followed}
 use Rattle.edi_kernel.proofs.Starting.{Enters, NeverEnters, enters, never_enters}
@@ -78,119 +79,7 @@ module _ (fetch : ℕ → Option (Instruction × ℕ)) (choices : Choices) where
           let x : (d ≡ e) × (l ≡ m') = over_same g in
           (1, ap (after_step choices (run fetch choices 0) p others drawn) f ∙ ap (λ d. finished d l drawn) x.0 ∙ ap (λ y. finished e y drawn) x.1)
 
--- ---- a round
-
-module _ (words : List ℕ) (bound : ℕ) (k new : KernelState) (now : State) (old drawn : Drawn) (m : Machine) (p : Name) (others : List Name) (left used : ℕ)
-    (turns : left - used ≡ bound - new.used) (store : new.store ≡ k.store) where
-  -- the stint ended the run
-  ends_run : (e : Ending) → drawn ≡ old → EndsRun words (left - used) e k now m p others → RunEnds words bound e new now old drawn m p others
-  ends_run e same h =
-      let j : (j : ℕ) × (run (fetch words) old.source j m p others old.drawn ≡ finished h.end h.machine old.drawn) = run_over (fetch words) old.source h.steps
-      m p others old.drawn h.end h.machine h.is in
-      record {
-        steps = j.0;
-        machine = h.machine;
-        end = h.end;
-        is = j.1 ∙ ap (λ d. finished h.end h.machine d.drawn) (sym same);
-        same = h.same;
-        memory = keeps e h.memory;
-        system = h.system;
-        turns = h.turns ∙ turns;
-      }
-    where
-      keeps : (e : Ending) → KeepsWords e h.machine.memory k.store → KeepsWords e h.machine.memory new.store
-      keeps ending.Done x = x ∙ sym store
-      keeps (ending.Halted line) x = x ∙ sym store
-      keeps (ending.Failed cause line) x = x ∙ sym store
-      keeps ending.Turns x = tt
-      keeps ending.Standstill x = tt
-      keeps (ending.Bad at) x = tt
-      keeps ending.Fault x = tt
-
-  -- the stint switched
-  goes_on : (result : Option Ending) → (h : Switches words (left - used) k now m p others) → Proceeds result new h.machine old drawn (others ++ h.joined)
-      → Rounds words bound result new now old drawn m p others
-  goes_on None h c = record {
-    machine = h.machine;
-    name = c.name;
-    rest = c.others;
-    comes = λ n r e. run_switched (fetch words) old.source h.steps m p others old.drawn h.machine h.joined h.is n r
-        (ap (λ t. go_on t (run (fetch words) old.source n h.machine) h.machine old.drawn) c.is ∙ e);
-    passes = λ n x e. moment_switched (fetch words) old.source h.steps m p others old.drawn h.machine h.joined h.is n x
-        (ap (λ t. moment_on t (moment (fetch words) old.source n h.machine)) c.is ∙ e);
-    holds = c.holds;
-    system = h.system;
-    turns = h.turns ∙ turns;
-  }
-  goes_on (Some ending.Standstill) h c =
-      let j : (j : ℕ) × (run (fetch words) old.source j m p others old.drawn ≡ finished outcome.standstill h.machine old.drawn) =
-      run_switched (fetch words) old.source h.steps m p others old.drawn h.machine h.joined h.is 0 (finished outcome.standstill h.machine old.drawn)
-      (ap (λ ps. go_on (take_next old.source old.drawn ps) (run (fetch words) old.source 0 h.machine) h.machine old.drawn) c.0) in
-      record {
-        steps = j.0;
-        machine = h.machine;
-        end = outcome.standstill;
-        is = j.1 ∙ ap (λ d. finished outcome.standstill h.machine d.drawn) (sym c.1);
-        same = tt;
-        memory = tt;
-        system = h.system;
-        turns = h.turns ∙ turns;
-      }
-  goes_on (Some ending.Done) h c = absurd c
-  goes_on (Some (ending.Halted line)) h c = absurd c
-  goes_on (Some (ending.Failed cause line)) h c = absurd c
-  goes_on (Some ending.Turns) h c = absurd c
-  goes_on (Some (ending.Bad at)) h c = absurd c
-  goes_on (Some ending.Fault) h c = absurd c
-
-  pub round_over : (e : Ending) → drawn ≡ old → GoesTo words (stint_end.Over used e) left k now m p others → Rounds words bound (Some e) new now old drawn m p
-      others
-  round_over ending.Done same h = ends_run ending.Done same h
-  round_over (ending.Halted line) same h = ends_run (ending.Halted line) same h
-  round_over (ending.Failed cause line) same h = ends_run (ending.Failed cause line) same h
-  round_over ending.Turns same h = ends_run ending.Turns same h
-  round_over ending.Standstill same h = ends_run ending.Standstill same h.0
-  round_over (ending.Bad at) same h = ends_run (ending.Bad at) same h
-  round_over ending.Fault same h = record {
-    steps = h.steps;
-    at = record { machine = h.machine; name = p; others = others; drawn = old.drawn };
-    is = moment_followed (fetch words) old.source h.steps m p others old.drawn h.machine h.is;
-    fails = h.fails;
-    drawn = sym (ap (λ d. d.drawn) same);
-    turns = h.turns ∙ turns;
-  }
-
-  pub round_on : (result : Option Ending) → Switches words (left - used) k now m p others
-      → ((machine : Machine) (ready : List Name) → Holds k machine None ready → Proceeds result new machine old drawn ready) → Rounds words bound result new now
-      old drawn m p others
-  round_on result h c = goes_on result h (c h.machine (others ++ h.joined) h.holds)
-
--- the round by the end of its stint
-module _ (words : List ℕ) (bound : ℕ) (k : KernelState) (old : Drawn) (left : ℕ) where
-  pub round_ends : (end : StintEnd) (e : Ending) (new : KernelState) (now : State) (m : Machine) (p : Name) (others : List Name) → ended_by end ≡ Some e
-      → left - used_in end ≡ bound - new.used → new.store ≡ k.store →
-      GoesTo words end left k now m p others → Rounds words bound (Some e) new now old old m p others
-  round_ends (stint_end.Over used e) d new now m p others h turns store g =
-      subst (λ x. Rounds words bound (Some x) new now old old m p others) (some h)
-      (round_over words bound k new now old old m p others left used turns store e refl g)
-    where
-      some : Some e ≡ Some d → e ≡ d
-      some e = cc
-  round_ends (stint_end.Arrived used) e new now m p others h turns store g = absurd (cc)
-  round_ends (stint_end.Forked used) e new now m p others h turns store g = absurd (cc)
-  round_ends (stint_end.Exited used) e new now m p others h turns store g = absurd (cc)
-
-  pub round_goes : (end : StintEnd) (result : Option Ending) (new : KernelState) (drawn : Drawn) (now : State) (m : Machine) (p : Name) (others : List Name)
-      → ended_by end ≡ None → left - used_in end ≡ bound - new.used → new.store ≡ k.store →
-      ((machine : Machine) (ready : List Name) → Holds k machine None ready → Proceeds result new machine old drawn ready) →
-      GoesTo words end left k now m p others → Rounds words bound result new now old drawn m p others
-  round_goes (stint_end.Over used e) result new drawn now m p others h turns store c g = absurd (cc)
-  round_goes (stint_end.Arrived used) result new drawn now m p others h turns store c g = round_on words bound k new now old drawn m p others left used turns
-      store result g.0 c
-  round_goes (stint_end.Forked used) result new drawn now m p others h turns store c g = round_on words bound k new now old drawn m p others left used turns
-      store result g.0 c
-  round_goes (stint_end.Exited used) result new drawn now m p others h turns store c g = round_on words bound k new now old drawn m p others left used turns
-      store result g.0 c
+-- ---- the kernel is the same machine
 
 -- what is kept beside the processes and the memory is free
 pub holds_same : (k new : KernelState) (m : Machine) (taken : Option Name) (ready : List Name) → new.store ≡ k.store → new.table ≡ k.table
@@ -208,6 +97,145 @@ pub same_naming : (k new : KernelState) (m : Machine) (taken : Option Name) (rea
     (g : new.taken ≡ k.taken) (h : Holds k m taken ready) → (holds_same k new m taken ready e f g h).naming ≡ h.naming
 unfolding holds_same
 same_naming k new m taken ready e f g h = refl
+
+-- the same of a run that may go on
+abbrev pub KeepsIf : Option Ending → KernelState → Machine → Type 0
+KeepsIf None k m = ⊤
+KeepsIf (Some e) k m = KeepsMachine e k m
+
+-- ---- a round
+
+module _ (words : List ℕ) (bound : ℕ) (k new : KernelState) (now : State) (old drawn : Drawn) (m : Machine) (p : Name) (others : List Name) (left used : ℕ)
+    (turns : left - used ≡ bound - new.used) (store : new.store ≡ k.store) where
+  -- the stint ended the run
+  ends_run : (e : Ending) → drawn ≡ old → (h : EndsRun words (left - used) e k now m p others) → KeepsMachine e new h.machine
+      → RunEnds words bound e new now old drawn m p others
+  ends_run e same h stands =
+      let j : (j : ℕ) × (run (fetch words) old.source j m p others old.drawn ≡ finished h.end h.machine old.drawn) = run_over (fetch words) old.source h.steps
+      m p others old.drawn h.end h.machine h.is in
+      record {
+        steps = j.0;
+        machine = h.machine;
+        end = h.end;
+        is = j.1 ∙ ap (λ d. finished h.end h.machine d.drawn) (sym same);
+        same = h.same;
+        memory = keeps e h.memory;
+        system = h.system;
+        turns = h.turns ∙ turns;
+        stands = stands;
+      }
+    where
+      keeps : (e : Ending) → KeepsWords e h.machine.memory k.store → KeepsWords e h.machine.memory new.store
+      keeps ending.Done x = x ∙ sym store
+      keeps (ending.Halted line) x = x ∙ sym store
+      keeps (ending.Failed cause line) x = x ∙ sym store
+      keeps ending.Turns x = tt
+      keeps ending.Standstill x = tt
+      keeps (ending.Bad at) x = tt
+      keeps ending.Fault x = tt
+
+  -- the stint switched
+  goes_on : (result : Option Ending) → (h : Switches words (left - used) k now m p others) → KeepsIf result new h.machine
+      → Proceeds result new h.machine old drawn (others ++ h.joined) → Rounds words bound result new now old drawn m p others
+  goes_on None h stands c = record {
+    machine = h.machine;
+    name = c.name;
+    rest = c.others;
+    comes = λ n r e. run_switched (fetch words) old.source h.steps m p others old.drawn h.machine h.joined h.is n r
+        (ap (λ t. go_on t (run (fetch words) old.source n h.machine) h.machine old.drawn) c.is ∙ e);
+    passes = λ n x e. moment_switched (fetch words) old.source h.steps m p others old.drawn h.machine h.joined h.is n x
+        (ap (λ t. moment_on t (moment (fetch words) old.source n h.machine)) c.is ∙ e);
+    holds = c.holds;
+    system = h.system;
+    turns = h.turns ∙ turns;
+  }
+  goes_on (Some ending.Standstill) h stands c =
+      let j : (j : ℕ) × (run (fetch words) old.source j m p others old.drawn ≡ finished outcome.standstill h.machine old.drawn) =
+      run_switched (fetch words) old.source h.steps m p others old.drawn h.machine h.joined h.is 0 (finished outcome.standstill h.machine old.drawn)
+      (ap (λ ps. go_on (take_next old.source old.drawn ps) (run (fetch words) old.source 0 h.machine) h.machine old.drawn) c.0) in
+      record {
+        steps = j.0;
+        machine = h.machine;
+        end = outcome.standstill;
+        is = j.1 ∙ ap (λ d. finished outcome.standstill h.machine d.drawn) (sym c.1);
+        same = tt;
+        memory = tt;
+        system = h.system;
+        turns = h.turns ∙ turns;
+        stands = stands;
+      }
+  goes_on (Some ending.Done) h stands c = absurd c
+  goes_on (Some (ending.Halted line)) h stands c = absurd c
+  goes_on (Some (ending.Failed cause line)) h stands c = absurd c
+  goes_on (Some ending.Turns) h stands c = absurd c
+  goes_on (Some (ending.Bad at)) h stands c = absurd c
+  goes_on (Some ending.Fault) h stands c = absurd c
+
+  pub round_over : (e : Ending) → drawn ≡ old → new.table ≡ k.table → new.taken ≡ k.taken → GoesTo words (stint_end.Over used e) left k now m p others
+      → Rounds words bound (Some e) new now old drawn m p others
+  round_over ending.Done same table taken h = ends_run ending.Done same h tt
+  round_over (ending.Halted line) same table taken h = ends_run (ending.Halted line) same h tt
+  round_over (ending.Failed cause line) same table taken h = ends_run (ending.Failed cause line) same h tt
+  round_over ending.Turns same table taken h = ends_run ending.Turns same h tt
+  round_over ending.Standstill same table taken h =
+      ends_run ending.Standstill same h.0 (others ++ p ∷ [], holds_same k new h.0.machine None (others ++ p ∷ []) store table taken h.3)
+  round_over (ending.Bad at) same table taken h = ends_run (ending.Bad at) same h tt
+  round_over ending.Fault same table taken h = record {
+    steps = h.steps;
+    at = record { machine = h.machine; name = p; others = others; drawn = old.drawn };
+    is = moment_followed (fetch words) old.source h.steps m p others old.drawn h.machine h.is;
+    fails = h.fails;
+    drawn = sym (ap (λ d. d.drawn) same);
+    turns = h.turns ∙ turns;
+  }
+
+  pub round_on : (result : Option Ending) → Switches words (left - used) k now m p others
+      → ((machine : Machine) (ready : List Name) → Holds k machine None ready → KeepsIf result new machine)
+      → ((machine : Machine) (ready : List Name) → Holds k machine None ready → Proceeds result new machine old drawn ready) → Rounds words bound result new now
+      old drawn m p others
+  round_on result h keeps c = goes_on result h (keeps h.machine (others ++ h.joined) h.holds) (c h.machine (others ++ h.joined) h.holds)
+
+-- the round by the end of its stint
+module _ (words : List ℕ) (bound : ℕ) (k : KernelState) (old : Drawn) (left : ℕ) where
+  pub round_ends : (end : StintEnd) (e : Ending) (new : KernelState) (now : State) (m : Machine) (p : Name) (others : List Name) → ended_by end ≡ Some e
+      → left - used_in end ≡ bound - new.used → new.store ≡ k.store → new.table ≡ k.table → new.taken ≡ k.taken →
+      GoesTo words end left k now m p others → Rounds words bound (Some e) new now old old m p others
+  round_ends (stint_end.Over used e) d new now m p others h turns store table taken g =
+      subst (λ x. Rounds words bound (Some x) new now old old m p others) (some h)
+      (round_over words bound k new now old old m p others left used turns store e refl table taken g)
+    where
+      some : Some e ≡ Some d → e ≡ d
+      some e = cc
+  round_ends (stint_end.Arrived used) e new now m p others h turns store table taken g = absurd (cc)
+  round_ends (stint_end.Forked used) e new now m p others h turns store table taken g = absurd (cc)
+  round_ends (stint_end.Exited used) e new now m p others h turns store table taken g = absurd (cc)
+
+  pub round_goes : (end : StintEnd) (result : Option Ending) (new : KernelState) (drawn : Drawn) (now : State) (m : Machine) (p : Name) (others : List Name)
+      → ended_by end ≡ None → left - used_in end ≡ bound - new.used → new.store ≡ k.store →
+      ((machine : Machine) (ready : List Name) → Holds k machine None ready → KeepsIf result new machine) →
+      ((machine : Machine) (ready : List Name) → Holds k machine None ready → Proceeds result new machine old drawn ready) →
+      GoesTo words end left k now m p others → Rounds words bound result new now old drawn m p others
+  round_goes (stint_end.Over used e) result new drawn now m p others h turns store keeps c g = absurd (cc)
+  round_goes (stint_end.Arrived used) result new drawn now m p others h turns store keeps c g = round_on words bound k new now old drawn m p others left used turns
+      store result g.0 keeps c
+  round_goes (stint_end.Forked used) result new drawn now m p others h turns store keeps c g = round_on words bound k new now old drawn m p others left used turns
+      store result g.0 keeps c
+  round_goes (stint_end.Exited used) result new drawn now m p others h turns store keeps c g = round_on words bound k new now old drawn m p others left used turns
+      store result g.0 keeps c
+
+-- where a run ends since nobody is ready the kernel is the machine that it was
+pub keeps_unready : (result : Option Ending) (k mid new : KernelState) → EndsUnready result mid new → mid.store ≡ k.store → mid.table ≡ k.table
+    → mid.taken ≡ k.taken → (machine : Machine) (ready : List Name) → Holds k machine None ready → KeepsIf result new machine
+keeps_unready None k mid new h e f g machine ready holds = tt
+keeps_unready (Some ending.Standstill) k mid new h e f g machine ready holds =
+    (ready, holds_same k new machine None ready (ap (λ (x : KernelState). x.store) h.0 ∙ e) (ap (λ (x : KernelState). x.table) h.0 ∙ f)
+    (ap (λ (x : KernelState). x.taken) h.0 ∙ g) holds)
+keeps_unready (Some ending.Done) k mid new h e f g machine ready holds = absurd h
+keeps_unready (Some (ending.Halted line)) k mid new h e f g machine ready holds = absurd h
+keeps_unready (Some (ending.Failed cause line)) k mid new h e f g machine ready holds = absurd h
+keeps_unready (Some ending.Turns) k mid new h e f g machine ready holds = absurd h
+keeps_unready (Some (ending.Bad at)) k mid new h e f g machine ready holds = absurd h
+keeps_unready (Some ending.Fault) k mid new h e f g machine ready holds = absurd h
 
 -- ---- the rounds of a whole run
 
@@ -306,6 +334,40 @@ module _ (code : CodeParts) (bound : ℕ) (old : Drawn) where
   told_ends first before after k new now next e same le h g = WhereTold-then _ _ _ first before after
       (λ s x y a b. underway_ends s x y k new now next e same le a b) h g
 
+  -- where the run came to a standstill
+  still_is : (e : outcome.Ending) → EndsAs e ending.Standstill → e ≡ outcome.standstill
+  still_is outcome.standstill h = refl
+  still_is outcome.done h = absurd h
+  still_is (outcome.halted line) h = absurd h
+  still_is (outcome.failed cause line) h = absurd h
+  still_is outcome.turns h = absurd h
+  still_is (outcome.bad address) h = absurd h
+
+  stands_in : (s x y : State) (k new : KernelState) (now next : Drawn) (e : Ending) → now.source ≡ old.source → Underway code s bound old k x now
+      → AnyRound (Some e) k new now next x y → StandsIn code s bound old e new next
+  stands_in s x y k new now next ending.Standstill same u r =
+      let h : RunEnds code.words bound ending.Standstill new y now next u.machine u.name u.others = r u.machine u.name u.others u.holds u.system_is u.turns in
+      record {
+        machine = h.machine;
+        is = u.comes h.steps (finished outcome.standstill h.machine next.drawn)
+            (sym (ap (λ c. run (fetch code.words) c h.steps u.machine u.name u.others now.drawn) same) ∙ h.is
+            ∙ ap (λ z. finished z h.machine next.drawn) (still_is h.end h.same));
+        ready = h.stands.0;
+        holds = h.stands.1;
+      }
+  stands_in s x y k new now next ending.Done same u r = tt
+  stands_in s x y k new now next (ending.Halted line) same u r = tt
+  stands_in s x y k new now next (ending.Failed cause line) same u r = tt
+  stands_in s x y k new now next ending.Turns same u r = tt
+  stands_in s x y k new now next (ending.Bad at) same u r = tt
+  stands_in s x y k new now next ending.Fault same u r = tt
+
+  pub told_stands : (first before after : Option State) (k new : KernelState) (now next : Drawn) (e : Ending) → now.source ≡ old.source
+      → WhereTold first before (λ s t. Underway code s bound old k t now) →
+      WhereTold before after (AnyRound (Some e) k new now next) → WhereTold first after (λ s t. StandsIn code s bound old e new next)
+  told_stands first before after k new now next e same h g = WhereTold-then _ _ _ first before after
+      (λ s x y a b. stands_in s x y k new now next e same a b) h g
+
   where_same : (o : Option State) (P : State → State → Type 0) → ((s : State) → P s s) → WhereTold o o P
   where_same None P h = tt
   where_same (Some s) P h = h s
@@ -366,24 +428,29 @@ abbrev pub AnyStint : List ℕ → StintEnd → (left : ℕ) → (prior k : Kern
 AnyStint words end left prior k s t =
     (m : Machine) (p : Name) (others : List Name) → Holds prior m (Some p) others → m.system ≡ s → m.turns ≡ left → GoesTo words end left k t m p others
 
+pub nothing_told : (o : Option State) → WhereTold o o (λ s t. ⊤)
+nothing_told None = tt
+nothing_told (Some s) = tt
+
 module _ (words : List ℕ) (bound : ℕ) (prior k new : KernelState) (old : Drawn) (left : ℕ) (end : StintEnd) (before after : Option State)
     (turns : left - used_in end ≡ bound - new.used) (store : new.store ≡ k.store) where
-  pub told_round_ends : (e : Ending) → ended_by end ≡ Some e → WhereTold before after (AnyStint words end left prior k) →
+  pub told_round_ends : (e : Ending) → ended_by end ≡ Some e → new.table ≡ k.table → new.taken ≡ k.taken → WhereTold before after (AnyStint words end left prior k) →
       WhereTold before after (λ s t. (m : Machine) (p : Name) (others : List Name) → Holds prior m (Some p) others → m.system ≡ s → m.turns ≡ left
       → Rounds words bound (Some e) new t old old m p others)
-  told_round_ends e over h =
+  told_round_ends e over table taken h =
       WhereTold-map (AnyStint words end left prior k)
       (λ s t. (m : Machine) (p : Name) (others : List Name) → Holds prior m (Some p) others → m.system ≡ s → m.turns ≡ left
       → Rounds words bound (Some e) new t old old m p others) before after
-      (λ s t f m p others a b c. round_ends words bound k old left end e new t m p others over turns store (f m p others a b c)) h
+      (λ s t f m p others a b c. round_ends words bound k old left end e new t m p others over turns store table taken (f m p others a b c)) h
 
   pub told_round_goes : (result : Option Ending) (drawn : Drawn) → ended_by end ≡ None
+      → ((machine : Machine) (ready : List Name) → Holds k machine None ready → KeepsIf result new machine)
       → ((machine : Machine) (ready : List Name) → Holds k machine None ready → Proceeds result new machine old drawn ready) →
       WhereTold before after (AnyStint words end left prior k) →
       WhereTold before after (λ s t. (m : Machine) (p : Name) (others : List Name) → Holds prior m (Some p) others → m.system ≡ s → m.turns ≡ left
       → Rounds words bound result new t old drawn m p others)
-  told_round_goes result drawn on proceeds h =
+  told_round_goes result drawn on keeps proceeds h =
       WhereTold-map (AnyStint words end left prior k)
       (λ s t. (m : Machine) (p : Name) (others : List Name) → Holds prior m (Some p) others → m.system ≡ s → m.turns ≡ left → Rounds words bound result new
       t old drawn m p others) before after
-      (λ s t f m p others a b c. round_goes words bound k old left end result new drawn t m p others on turns store proceeds (f m p others a b c)) h
+      (λ s t f m p others a b c. round_goes words bound k old left end result new drawn t m p others on turns store keeps proceeds (f m p others a b c)) h

@@ -1,5 +1,5 @@
 -- A stint alone, where the turn of the program's entry may still be due.
-use Rattle.std.proofs.Common.{◌≡◌, ℕ, suc, ◌+◌, ◌-◌, ◌≤◌, Bool, true, false, if◌then◌else◌, List, [], ◌++◌, Option, Some, None, sym, ◌∙◌, ap, arith, subst}
+use Rattle.std.proofs.Common.{◌≡◌, ℕ, suc, ◌+◌, ◌-◌, ◌≤◌, Bool, true, false, if◌then◌else◌, List, [], ◌∷◌, ◌++◌, Option, Some, None, sym, ◌∙◌, ap, arith, subst}
 use Rattle.edi_told.specs.Told.{WhereTold}
 use Rattle.edi_told.proofs.Told.{WhereTold-map}
 use Rattle.edi_calls.specs.Names.{Name}
@@ -16,14 +16,16 @@ use Rattle.edi_kernel.specs.declared.state.KernelState.{KernelState}
 use Rattle.edi_kernel.specs.Kernel.{Holds, KeepsWords, Switches, EndsRun, StandsArrived, GoesTo, later_by}
 use Rattle.edi_kernel.specs.Runs.{IsAtBy, IsAt}
 use Rattle.edi_kernel.specs.TableIsMachine.{Naming}
-use Rattle.edi_kernel.specs.Named.{HoldsBy, NamesGrow, GoesBy}
+use Rattle.edi_kernel.specs.declared.table.Table.{Table}
+use Rattle.edi_kernel.specs.Table.{is_live}
+use Rattle.edi_kernel.specs.Named.{HoldsBy, NamesGrow, SlotsStay, EndsBy, GoesBy}
 use Rattle.edi_kernel.proofs.Starting.{Enters, enters}
 use Rattle.edi_kernel.proofs.Rounds.{AnyStint, holds_same, same_naming}
 use Rattle.edi_kernel.proofs.Named.{AnyNamed}
 
 -- so many turns before the stint, and what is kept beside the processes and the memory is free
 module _ (words : List ℕ) (k new : KernelState) (left n : ℕ) (store : new.store ≡ k.store) (table : new.table ≡ k.table) (taken : new.taken ≡ k.taken)
-    (arrived : new.arrived ≡ k.arrived) where
+    (arrived : new.arrived ≡ k.arrived) (failed : new.failed ≡ k.failed) where
   less : (used : ℕ) → left - n - used ≡ left - (used + n)
   less used = omega arith
 
@@ -65,7 +67,12 @@ module _ (words : List ℕ) (k new : KernelState) (left n : ℕ) (store : new.st
   goes_later (stint_end.Over used (ending.Halted line)) t m p others h = ends used (ending.Halted line) t m p others h
   goes_later (stint_end.Over used (ending.Failed cause line)) t m p others h = ends used (ending.Failed cause line) t m p others h
   goes_later (stint_end.Over used ending.Turns) t m p others h = ends used ending.Turns t m p others h
-  goes_later (stint_end.Over used ending.Standstill) t m p others h = (ends used ending.Standstill t m p others h.0, arrives h.0.machine p h.1, h.2 ∙ sym store)
+  goes_later (stint_end.Over used ending.Standstill) t m p others h = (
+    ends used ending.Standstill t m p others h.0,
+    arrives h.0.machine p h.1,
+    h.2 ∙ sym store,
+    holds_same k new h.0.machine None (others ++ p ∷ []) store table taken h.3,
+  )
   goes_later (stint_end.Over used (ending.Bad at)) t m p others h = ends used (ending.Bad at) t m p others h
   goes_later (stint_end.Over used ending.Fault) t m p others h =
       record { steps = h.steps; machine = h.machine; is = h.is; fails = h.fails; turns = h.turns ∙ less used }
@@ -75,22 +82,50 @@ module _ (words : List ℕ) (k new : KernelState) (left n : ℕ) (store : new.st
   unfolding switches
   switches_named used t m p others h = same_naming k new h.machine None (others ++ h.joined) store table taken h.holds
 
+  slots_same : (old mid : Table) → mid ≡ old → SlotsStay mid k.table → SlotsStay old new.table
+  slots_same old mid e h = λ i l. ap (λ t. is_live t i) (sym e) ∙ h i (ap (λ t. is_live t i) (sym table) ∙ l)
+
+  ends_same : (m : Machine) (p : Name) (others : List Name) (machine : Machine) (joined : List Name) → EndsBy words k.failed m p others machine joined
+      → EndsBy words new.failed m p others machine joined
+  ends_same m p others machine joined h = subst (λ f. EndsBy words f m p others machine joined) (sym failed) h
+
   -- by the same names, where these have grown from one table or from an equal one
   pub goes_by_later : (old mid : KernelState) → mid.table ≡ old.table → mid.taken ≡ old.taken → (end : StintEnd) (t : State) (m : Machine) (p : Name)
       (others : List Name) (names : Naming) → GoesBy words end (left - n) mid names k t m p others → GoesBy words (later_by n end) left old names new t m p others
-  unfolding goes_later
-  goes_by_later old mid e f (stint_end.Arrived used) t m p others names h =
-      (goes_later (stint_end.Arrived used) t m p others h.0, switches_named used t m p others h.0.0 ∙ h.1)
-  goes_by_later old mid e f (stint_end.Exited used) t m p others names h =
-      (goes_later (stint_end.Exited used) t m p others h.0, switches_named used t m p others h.0.0 ∙ h.1)
+  unfolding goes_later switches
+  goes_by_later old mid e f (stint_end.Arrived used) t m p others names h = (
+    goes_later (stint_end.Arrived used) t m p others h.0,
+    switches_named used t m p others h.0.0 ∙ h.1,
+    slots_same old.table mid.table e h.2,
+    ends_same m p others h.0.0.machine h.0.0.joined h.3,
+  )
+  goes_by_later old mid e f (stint_end.Exited used) t m p others names h = (
+    goes_later (stint_end.Exited used) t m p others h.0,
+    switches_named used t m p others h.0.0 ∙ h.1,
+    slots_same old.table mid.table e h.2,
+    ends_same m p others h.0.0.machine h.0.0.joined h.3,
+  )
   goes_by_later old mid e f (stint_end.Forked used) t m p others names h = (
     goes_later (stint_end.Forked used) t m p others h.0,
-    subst (NamesGrow h.0.1.fork old.taken old.table new.table names) (sym (switches_named used t m p others h.0.0))
-        (subst (λ x. NamesGrow h.0.1.fork old.taken old.table x names h.0.0.holds.naming) (sym table)
-        (subst (λ x. NamesGrow h.0.1.fork old.taken x k.table names h.0.0.holds.naming) e
-        (subst (λ x. NamesGrow h.0.1.fork x mid.table k.table names h.0.0.holds.naming) f h.1))),
+    subst (NamesGrow h.0.1.fork h.0.1.number old.taken old.table new.table names) (sym (switches_named used t m p others h.0.0))
+        (subst (λ x. NamesGrow h.0.1.fork h.0.1.number old.taken old.table x names h.0.0.holds.naming) (sym table)
+        (subst (λ x. NamesGrow h.0.1.fork h.0.1.number old.taken x k.table names h.0.0.holds.naming) e
+        (subst (λ x. NamesGrow h.0.1.fork h.0.1.number x mid.table k.table names h.0.0.holds.naming) f h.1))),
+    ends_same m p others h.0.0.machine h.0.0.joined h.2,
   )
-  goes_by_later old mid e f (stint_end.Over used x) t m p others names h = goes_later (stint_end.Over used x) t m p others h
+  goes_by_later old mid e f (stint_end.Over used ending.Standstill) t m p others names h = (
+    goes_later (stint_end.Over used ending.Standstill) t m p others h.0,
+    same_naming k new h.0.0.machine None (others ++ p ∷ []) store table taken h.0.3 ∙ h.1,
+    slots_same old.table mid.table e h.2,
+  )
+  goes_by_later old mid e f (stint_end.Over used ending.Done) t m p others names h = goes_later (stint_end.Over used ending.Done) t m p others h
+  goes_by_later old mid e f (stint_end.Over used (ending.Halted line)) t m p others names h =
+      goes_later (stint_end.Over used (ending.Halted line)) t m p others h
+  goes_by_later old mid e f (stint_end.Over used (ending.Failed cause line)) t m p others names h =
+      goes_later (stint_end.Over used (ending.Failed cause line)) t m p others h
+  goes_by_later old mid e f (stint_end.Over used ending.Turns) t m p others names h = goes_later (stint_end.Over used ending.Turns) t m p others h
+  goes_by_later old mid e f (stint_end.Over used (ending.Bad at)) t m p others names h = goes_later (stint_end.Over used (ending.Bad at)) t m p others h
+  goes_by_later old mid e f (stint_end.Over used ending.Fault) t m p others names h = goes_later (stint_end.Over used ending.Fault) t m p others h
 
 -- the machine behind the entry's turn
 module _ (code : CodeParts) (k mid : KernelState) (left n : ℕ) (store : mid.store ≡ k.store) (table : mid.table ≡ k.table) (taken : mid.taken ≡ k.taken) where
@@ -120,7 +155,7 @@ module _ (code : CodeParts) (k mid : KernelState) (left n : ℕ) (store : mid.st
 
 module _ (code : CodeParts) (k mid after new : KernelState) (left n : ℕ) (end : StintEnd) (store : mid.store ≡ k.store) (table : mid.table ≡ k.table)
     (taken : mid.taken ≡ k.taken)
-    (store' : new.store ≡ after.store) (table' : new.table ≡ after.table) (taken' : new.taken ≡ after.taken) (arrived' : new.arrived ≡ after.arrived)
+    (store' : new.store ≡ after.store) (table' : new.table ≡ after.table) (taken' : new.taken ≡ after.taken) (arrived' : new.arrived ≡ after.arrived) (failed' : new.failed ≡ after.failed)
     (before later : Option State) (result : StintEnd) (is : result ≡ later_by n end) where
   abbrev AnyFrom : State → State → Type 0
   AnyFrom s t = (m : Machine) (p : Name) (others : List Name) → IsAt code k s left m p others → GoesTo code.words result left new t m p others
@@ -134,7 +169,7 @@ module _ (code : CodeParts) (k mid after new : KernelState) (left n : ℕ) (end 
           table taken s m p others → GoesTo code.words result left new t m p others
       by_end s t m p others f r =
           subst (λ x. GoesTo code.words x left new t m p others) (sym is)
-          (goes_later code.words after new left n store' table' taken' arrived' end t m p others (f m p others r.holds r.system r.turns))
+          (goes_later code.words after new left n store' table' taken' arrived' failed' end t m p others (f m p others r.holds r.system r.turns))
 
   abbrev NamedFrom : State → State → Type 0
   NamedFrom s t =
@@ -157,5 +192,5 @@ module _ (code : CodeParts) (k mid after new : KernelState) (left n : ℕ) (end 
           → GoesBy code.words result left k names new t m p others
       by_end s t m p others names f by r =
           subst (λ x. GoesBy code.words x left k names new t m p others) (sym is)
-          (goes_by_later code.words after new left n store' table' taken' arrived' k mid table taken end t m p others names
+          (goes_by_later code.words after new left n store' table' taken' arrived' failed' k mid table taken end t m p others names
           (f m p others names (held m p others names by) r.system r.turns))

@@ -8,7 +8,8 @@ use Rattle.edi_calls.proofs.Tables.{find-with_at-same, find-with_at-other}
 use Rattle.edi_target.specs.Op.{Instruction}
 use Rattle.edi_target.specs.Effect.{Turn, entering, leaving, looping, arriving, again, forking, exiting, finishing}
 use Rattle.edi_target.specs.Mach.{Running, Answer, on, behind, turned, over, local_step, Activity, ready, Machine, running_of, activity_of, back, at_turn}
-use Rattle.edi_target.specs.Mach.{kernel, is_first, step_of, step}
+use Rattle.edi_target.specs.Mach.{went, kernel, is_first, step_of, step}
+use Rattle.edi_calls.specs.Ready.{stays}
 use Rattle.edi_kernel.specs.Stretch.{Paused, going, pausing, stopping, after_answer, after_turn, stretch, walk_turn, walk_on, walked}
 use Rattle.edi_kernel.specs.Stints as stints
 use Rattle.edi_kernel.specs.Stints.{Stint, stint, stint_after, goes_with, followed}
@@ -55,7 +56,11 @@ module _ (fetch : ℕ → Option (Instruction × ℕ)) (m : Machine) (p : Name) 
     pub machine : Machine
     pub activity : Activity
     pub rest : ℕ
+    pub before : ℕ
     pub follows : Follows m machine p forks (marks_after cleared) activity
+    pub reached : followed fetch before k p others ≡ Some machine
+    pub took : local_step fetch (length m.activities) (is_first p) (running_of machine activity) ≡ turned turn r
+    pub last : step fetch machine p others ≡ at_turn machine p others activity turn r
     pub is : stint fetch n k p others ≡ stint_after (λ m. stint fetch rest m p others) (at_turn machine p others activity turn r)
 
   pub record Stopped (n : ℕ) (k : Machine) (ending : outcome.Ending) (r : Running) (cleared : Bool) : Type 0 where
@@ -70,10 +75,25 @@ module _ (fetch : ℕ → Option (Instruction × ℕ)) (m : Machine) (p : Name) 
   Comes n k (stopping ending r cleared) = Stopped n k ending r cleared
 
   -- one step more
-  one_more : (n : ℕ) (k l : Machine) (x : Paused) → stint fetch (suc n) k p others ≡ stint fetch n l p others → Comes n l x → Comes (suc n) k x
+  one_more : (n : ℕ) (k l : Machine) (x : Paused) → step fetch k p others ≡ went l stays → Comes n l x → Comes (suc n) k x
   one_more n k l going e c = tt
-  one_more n k l (pausing turn r cleared) e c = record { machine = c.machine; activity = c.activity; rest = c.rest; follows = c.follows; is = e ∙ c.is }
-  one_more n k l (stopping ending r cleared) e c = record { machine = c.machine; activity = c.activity; follows = c.follows; is = e ∙ c.is }
+  one_more n k l (pausing turn r cleared) e c = record {
+    machine = c.machine;
+    activity = c.activity;
+    rest = c.rest;
+    before = suc c.before;
+    follows = c.follows;
+    reached = ap (goes_with (λ m. followed fetch c.before m p others)) e ∙ c.reached;
+    took = c.took;
+    last = c.last;
+    is = ap (stint_after (λ m. stint fetch n m p others)) e ∙ c.is;
+  }
+  one_more n k l (stopping ending r cleared) e c = record {
+    machine = c.machine;
+    activity = c.activity;
+    follows = c.follows;
+    is = ap (stint_after (λ m. stint fetch n m p others)) e ∙ c.is;
+  }
 
   step_is : (k : Machine) (a : Activity) (r : Running) → find k.activities p ≡ Some a → running_of k a ≡ r → names k.activities ≡ names m.activities →
       step fetch k p others ≡ kernel k p others a (local_step fetch (length m.activities) (is_first p) r)
@@ -87,42 +107,58 @@ module _ (fetch : ℕ → Option (Instruction × ℕ)) (m : Machine) (p : Name) 
       Comes n k (stretch fetch (length m.activities) (is_first p) n r cleared)
   comes zero k a r cleared f e = tt
   comes (suc n) k a r cleared f e =
-      by_answer (local_step fetch (length m.activities) (is_first p) r) (ap (stint_after (λ m. stint fetch n m p others)) (step_is k a r f.found e f.named))
-      (comes n)
+      by_answer (local_step fetch (length m.activities) (is_first p) r) refl (step_is k a r f.found e f.named) (comes n)
     where
-      by_turn : (turn : Turn) (s : Running) → stint fetch (suc n) k p others ≡ stint_after (λ m. stint fetch n m p others) (at_turn k p others a turn s) →
+      -- it took a turn that the kernel handles
+      turns : (turn : Turn) (s : Running) → local_step fetch (length m.activities) (is_first p) r ≡ turned turn s
+          → step fetch k p others ≡ at_turn k p others a turn s → Turns (suc n) k turn s cleared
+      turns turn s x g = record {
+        machine = k;
+        activity = a;
+        rest = n;
+        before = 0;
+        follows = f;
+        reached = refl;
+        took = ap (local_step fetch (length m.activities) (is_first p)) e ∙ x;
+        last = g;
+        is = ap (stint_after (λ m. stint fetch n m p others)) g;
+      }
+
+      by_turn : (turn : Turn) (s : Running) → local_step fetch (length m.activities) (is_first p) r ≡ turned turn s
+          → step fetch k p others ≡ at_turn k p others a turn s →
           ((l : Machine) (b : Activity) (s : Running) (cleared : Bool) → Follows m l p forks (marks_after cleared) b → running_of l b ≡ s
           → Comes n l (stretch fetch (length m.activities) (is_first p) n s cleared)) →
           Comes (suc n) k (after_turn (stretch fetch (length m.activities) (is_first p) n) cleared turn s)
-      by_turn entering s g more = one_more n k (back k p (activity_of s.local a.forks ready) [] s) _ g
+      by_turn entering s x g more = one_more n k (back k p (activity_of s.local a.forks ready) [] s) _ g
           (more (back k p (activity_of s.local a.forks ready) [] s) (activity_of s.local a.forks ready) s true
           (written m k p forks _ [] a (activity_of s.local a.forks ready) s f f.forked) refl)
-      by_turn leaving s g more = one_more n k (back k p (activity_of s.local a.forks ready) [] s) _ g
+      by_turn leaving s x g more = one_more n k (back k p (activity_of s.local a.forks ready) [] s) _ g
           (more (back k p (activity_of s.local a.forks ready) [] s) (activity_of s.local a.forks ready) s true
           (written m k p forks _ [] a (activity_of s.local a.forks ready) s f f.forked) refl)
-      by_turn looping s g more = one_more n k (back k p (activity_of s.local a.forks ready) [] s) _ g
+      by_turn looping s x g more = one_more n k (back k p (activity_of s.local a.forks ready) [] s) _ g
           (more (back k p (activity_of s.local a.forks ready) [] s) (activity_of s.local a.forks ready) s true
           (written m k p forks _ [] a (activity_of s.local a.forks ready) s f f.forked) refl)
-      by_turn arriving s g more = record { machine = k; activity = a; rest = n; follows = f; is = g }
-      by_turn (again marks) s g more = record { machine = k; activity = a; rest = n; follows = f; is = g }
-      by_turn (forking branches) s g more = record { machine = k; activity = a; rest = n; follows = f; is = g }
-      by_turn exiting s g more = record { machine = k; activity = a; rest = n; follows = f; is = g }
-      by_turn finishing s g more = record { machine = k; activity = a; rest = n; follows = f; is = g }
+      by_turn arriving s x g more = turns arriving s x g
+      by_turn (again marks) s x g more = turns (again marks) s x g
+      by_turn (forking branches) s x g more = turns (forking branches) s x g
+      by_turn exiting s x g more = turns exiting s x g
+      by_turn finishing s x g more = turns finishing s x g
 
-      by_answer : (answer : Answer) → stint fetch (suc n) k p others ≡ stint_after (λ m. stint fetch n m p others) (kernel k p others a answer) →
+      by_answer : (answer : Answer) → local_step fetch (length m.activities) (is_first p) r ≡ answer → step fetch k p others ≡ kernel k p others a answer →
           ((l : Machine) (b : Activity) (s : Running) (cleared : Bool) → Follows m l p forks (marks_after cleared) b → running_of l b ≡ s
           → Comes n l (stretch fetch (length m.activities) (is_first p) n s cleared)) →
           Comes (suc n) k (after_answer (stretch fetch (length m.activities) (is_first p) n) cleared answer)
-      by_answer (on s) g more =
+      by_answer (on s) x g more =
           one_more n k (back k p (activity_of s.local a.forks ready) k.marks s) _ g
           (more (back k p (activity_of s.local a.forks ready) k.marks s) (activity_of s.local a.forks ready) s cleared
           (subst (λ ms. Follows m (back k p (activity_of s.local a.forks ready) k.marks s) p forks ms (activity_of s.local a.forks ready)) f.marks_are
           (written m k p forks _ k.marks a (activity_of s.local a.forks ready) s f f.forked)) refl)
-      by_answer (behind s) g more = one_more n k (back k p (activity_of s.local a.forks ready) [] s) _ g
+      by_answer (behind s) x g more = one_more n k (back k p (activity_of s.local a.forks ready) [] s) _ g
           (more (back k p (activity_of s.local a.forks ready) [] s) (activity_of s.local a.forks ready) s true
           (written m k p forks _ [] a (activity_of s.local a.forks ready) s f f.forked) refl)
-      by_answer (turned turn s) g more = by_turn turn s g more
-      by_answer (over ending s) g more = record { machine = k; activity = a; follows = f; is = g }
+      by_answer (turned turn s) x g more = by_turn turn s x g more
+      by_answer (over ending s) x g more =
+          record { machine = k; activity = a; follows = f; is = ap (stint_after (λ m. stint fetch n m p others)) g }
 
   -- ---- where the process is after n steps in which it goes on
 

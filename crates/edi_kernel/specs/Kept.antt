@@ -118,6 +118,7 @@ pub record IsCleared (old new : KernelState) : Type 0 where
   pub taken : new.taken ≡ None
   pub entering : new.entering ≡ false
   pub arrived : new.arrived ≡ None
+  pub failed : new.failed ≡ false
   pub used : new.used ≡ 0
 
 -- all but the table and the words are as before

@@ -1,5 +1,5 @@
 -- Words of contracts. What the kernel keeps, and how it stands for a machine.
-use Rattle.std.specs.Prelude.{◌≡◌, ◌⊎◌, ℕ, ◌+◌, ◌-◌, ◌<◌, ◌==◌, ◌++◌, Bool, true, false, List, [], ◌∷◌, length, map, Option, Some, None, ⊤}
+use Rattle.std.specs.Prelude.{◌≡◌, ◌⊎◌, ℕ, ◌+◌, ◌-◌, ◌<◌, ◌==◌, ◌++◌, Bool, true, false, List, [], ◌∷◌, length, map, Option, Some, None, IfSome, ⊤}
 use Rattle.std.specs.Option.{option_map}
 use Rattle.edi_calls.specs.Names.{Name, find}
 use Rattle.edi_calls.specs.Outcome as outcome
@@ -13,7 +13,7 @@ use Rattle.edi_target.specs.Mach.{Machine, activity_of, running_of, is_first}
 use Rattle.edi_machine.specs.declared.activity.Activity.{Activity}
 use Rattle.edi_machine.specs.declared.ends.TurnKind.{TurnKind}
 use Rattle.edi_machine.specs.declared.ends.TurnKind.TheVariants as kind
-use Rattle.edi_machine.specs.Activities.{local_of}
+use Rattle.edi_machine.specs.Activities.{IsOrdered, local_of}
 use Rattle.edi_machine.specs.Starts.{branches_at}
 use Rattle.edi_machine.specs.Steps.{Tears, effect_of}
 use Rattle.edi_kernel.specs.declared.ends.Ending.{Ending}
@@ -40,6 +40,7 @@ IsTakenIn t (Some slot) = IsTaken t slot
 pub record IsKernel (k : KernelState) : Type 0 where
   pub table : IsTable k.table
   pub taken : IsTakenIn k.table k.taken
+  pub arrived : IfSome k.arrived IsOrdered
 
 -- ---- the kernel and the machine
 
@@ -140,6 +141,7 @@ abbrev pub GoesTo : List ℕ → StintEnd → (left : ℕ) → KernelState → S
 GoesTo words (stint_end.Over used ending.Fault) left k now m p others = BreaksOff words (left - used) now m p others
 GoesTo words (stint_end.Over used ending.Standstill) left k now m p others =
     (h : EndsRun words (left - used) ending.Standstill k now m p others) × StandsArrived k h.machine p × (h.machine.memory ≡ k.store)
+    × Holds k h.machine None (others ++ p ∷ [])
 GoesTo words (stint_end.Over used e) left k now m p others = EndsRun words (left - used) e k now m p others
 GoesTo words (stint_end.Arrived used) left k now m p others =
     (h : Switches words (left - used) k now m p others) × StandsArrived k h.machine p
@@ -197,6 +199,13 @@ StandsAtEnd (Some ending.Standstill) t arrived =
     ((taken : Option ℕ) × (ready : List ℕ) × StandsLast taken ready t arrived) ⊎ ((arrived ≡ None) × (ready_slots t ≡ []))
 StandsAtEnd (Some e) t arrived = arrived ≡ None
 
+-- whether a stint that ended so has ended by an attempt that failed: it may have after an arrival, it has after a standstill, and it
+-- has not after any other end
+abbrev pub MayFail : StintEnd → (failed : Bool) → Type 0
+MayFail (stint_end.Arrived used) failed = ⊤
+MayFail (stint_end.Over used ending.Standstill) failed = failed ≡ true
+MayFail end failed = failed ≡ false
+
 -- the same end of a stint after so many more turns
 abbrev pub later_by : ℕ → StintEnd → StintEnd
 later_by n (stint_end.Arrived used) = stint_end.Arrived (used + n)
@@ -217,16 +226,22 @@ abbrev pub attempt_end : Bool → (used : ℕ) → StintEnd
 attempt_end true used = stint_end.Over used ending.Standstill
 attempt_end false used = stint_end.Arrived used
 
+-- the turn of an attempt of which no condition was true
+abbrev pub is_failure : TurnKind → Bool
+is_failure (kind.Again marks) = true
+is_failure kind = false
+
 abbrev pub HandlesTurn : TurnKind → (words : List ℕ) → (slot used : ℕ) → Activity → (old new : KernelState) → StintEnd → Type 0
 HandlesTurn (kind.Again true) words slot used a old new result =
     PutsProcess 0 slot (at_its_when (process_at old.table slot) a) (marked_with old.table slot) new.table × (new.store ≡ old.store)
-    × (result ≡ attempt_end (marks_with old.table slot == length (ready_slots new.table)) used) × (new.arrived ≡ Some a)
-HandlesTurn (kind.Fork at) words slot used a old new result = IsForked words slot a at old new × (result ≡ stint_end.Forked used)
+    × (result ≡ attempt_end (marks_with old.table slot == length (ready_slots new.table)) used) × (new.arrived ≡ Some a) × (new.failed ≡ true)
+HandlesTurn (kind.Fork at) words slot used a old new result =
+    IsForked words slot a at old new × (result ≡ stint_end.Forked used) × (new.failed ≡ false)
 HandlesTurn kind.Exit words slot used a old new result =
-    Removed slot (unmarked old.table) new.table × (new.store ≡ old.store) × (result ≡ stint_end.Exited used)
+    Removed slot (unmarked old.table) new.table × (new.store ≡ old.store) × (result ≡ stint_end.Exited used) × (new.failed ≡ false)
 HandlesTurn kind words slot used a old new result =
     PutsProcess 0 slot (at_its_when (process_at old.table slot) a) (unmarked old.table) new.table × (new.store ≡ old.store)
-    × (result ≡ stint_end.Arrived used) × (new.arrived ≡ Some a)
+    × (result ≡ stint_end.Arrived used) × (new.arrived ≡ Some a) × (new.failed ≡ is_failure kind)
 
 -- the process at this slot, with this activity, pauses after so many turns
 abbrev pub Handles : Pause → (words : List ℕ) → (slot used : ℕ) → Activity → (old new : KernelState) → StintEnd → Type 0

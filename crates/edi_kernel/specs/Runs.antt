@@ -70,6 +70,7 @@ pub record Started (code : CodeParts) (k : KernelState) : Type 0 where
   pub entering : k.entering ≡ true
   pub used : k.used ≡ 0
   pub arrived : k.arrived ≡ None
+  pub failed : k.failed ≡ false
 
 -- ---- a round of a run: a stint, and the choice of the next process
 
@@ -99,6 +100,11 @@ pub record GoesRound (words : List ℕ) (bound : ℕ) (k : KernelState) (now : S
   pub system : machine.system ≡ now
   pub turns : machine.turns ≡ bound - k.used
 
+-- after a standstill the kernel is the machine of that end, where nobody is taken
+abbrev pub KeepsMachine : Ending → KernelState → Machine → Type 0
+KeepsMachine ending.Standstill k m = (ready : List Name) × Holds k m None ready
+KeepsMachine e k m = ⊤
+
 pub record RunEnds (words : List ℕ) (bound : ℕ) (e : Ending) (k : KernelState) (now : State) (old new : Drawn) (m : Machine) (p : Name) (others : List Name) :
     Type 0 where
   pub steps : ℕ
@@ -109,6 +115,7 @@ pub record RunEnds (words : List ℕ) (bound : ℕ) (e : Ending) (k : KernelStat
   pub memory : KeepsWords e machine.memory k.store
   pub system : machine.system ≡ now
   pub turns : machine.turns ≡ bound - k.used
+  pub stands : KeepsMachine e k machine
 
 -- an object outside failed in the system call at which the run stands at some moment
 pub record RunFails (words : List ℕ) (bound : ℕ) (k : KernelState) (now : State) (old new : Drawn) (m : Machine) (p : Name) (others : List Name) : Type 0 where
@@ -167,6 +174,17 @@ pub record FailsIn (code : CodeParts) (system : State) (bound : ℕ) (old : Draw
 abbrev pub RunsTo : CodeParts → State → (bound : ℕ) → (old : Drawn) → Ending → (words : List ℕ) → (used : ℕ) → (now : State) → (new : Drawn) → Type 0
 RunsTo code system bound old ending.Fault words used now new = FailsIn code system bound old used now new
 RunsTo code system bound old e words used now new = RunsAs code system bound old e words used now new
+
+-- the machine in which this run of the code came to a standstill: the kernel is that machine, where nobody is taken
+pub record StandsStill (code : CodeParts) (system : State) (bound : ℕ) (old : Drawn) (k : KernelState) (new : Drawn) : Type 0 where
+  pub machine : Machine
+  pub is : EndsAfter code system bound old.source old.drawn outcome.standstill machine new.drawn
+  pub ready : List Name
+  pub holds : Holds k machine None ready
+
+abbrev pub StandsIn : CodeParts → State → (bound : ℕ) → (old : Drawn) → Ending → KernelState → (new : Drawn) → Type 0
+StandsIn code system bound old ending.Standstill k new = StandsStill code system bound old k new
+StandsIn code system bound old e k new = ⊤
 
 -- where no choice had been drawn before, a run of the kernel has an outcome of the machine's definition
 abbrev pub RunsAreTheMachines : Type 0

@@ -240,6 +240,7 @@ impl KernelState {
         self.taken = None;
         self.entering = false;
         self.arrived = None;
+        self.failed = false;
         self.used = 0;
     }
 

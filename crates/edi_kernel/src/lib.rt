@@ -11,6 +11,7 @@ mod state;
 mod stretch;
 mod table;
 
+ghost use Rattle.std.specs.Option.{option_map};
 ghost use Rattle.std.specs.Prelude.{◌≡◌, ◌≤◌, ◌<◌, ◌+◌, ◌-◌, ◌^◌, min, length, slice_get, slice_index, [], None, Some, IsSome, IfOk, IfSome, ℕ, List, true, false, ◌↔◌, IsTrue};
 ghost use Rattle.edi_told.specs.Told.{WhereTold};
 ghost use Rattle.edi_store.specs.Memory.{zero_memory};
@@ -19,14 +20,15 @@ ghost use Rattle.edi_calls.specs.declared.ends.Outside.{Outside};
 ghost use Rattle.edi_calls.specs.Names.{Name};
 ghost use Rattle.edi_calls.specs.Ready.{name_at, without_index};
 ghost use Rattle.edi_ring.specs.Lists.{home_of};
+ghost use Rattle.edi_machine.specs.Activities.{IsOrdered};
 ghost use Rattle.edi_target.specs.Mach.{Machine};
 ghost use Rattle.edi_kernel.specs.Table.{first_home, is_live, is_waiting, no_marks, process_at, ready_slots};
 ghost use Rattle.edi_kernel.specs.Stretch.{Blamed};
-ghost use Rattle.edi_kernel.specs.Kernel.{GoesTo, Holds, IsKernel, StandsAfter, StandsAtEnd, fault_of, faulted, is_over, used_in};
+ghost use Rattle.edi_kernel.specs.Kernel.{GoesTo, Holds, IsKernel, MayFail, StandsAfter, StandsAtEnd, fault_of, faulted, is_over, used_in};
 ghost use Rattle.edi_kernel.specs.Kept.{IsCleared, IsKeptOf, IsMarkCount, IsWhole, LinesUp, PutsBack, TakesAt, below_of};
 ghost use Rattle.edi_kernel.specs.TableIsMachine.{Naming};
 ghost use Rattle.edi_kernel.specs.Named.{ChoosesBy, GoesBy, HoldsBy};
-ghost use Rattle.edi_kernel.specs.Runs.{Chooses, IsAt, RunsTo, Started, TakesNext};
+ghost use Rattle.edi_kernel.specs.Runs.{Chooses, IsAt, RunsTo, StandsIn, Started, TakesNext};
 
 use edi_calls::Calls;
 use edi_machine::Activity;
@@ -82,6 +84,7 @@ impl Kernel {
         ensures turns { IfOk result (λ k. k.used ≡ 0) }
         ensures taken { IfOk result (λ k. k.taken ≡ None) }
         ensures standing { IfOk result (λ k. k.arrived ≡ None) }
+        ensures failed { IfOk result (λ k. k.failed ≡ false) }
         ensures ready { IfOk result (λ k. ready_slots k.table ≡ []) }
     {
         let store = Store::new(alloc)?;
@@ -91,6 +94,7 @@ impl Kernel {
             taken: None,
             entering: false,
             arrived: None,
+            failed: false,
             used: 0,
         };
         Ok(Kernel { state })
@@ -121,7 +125,8 @@ impl Kernel {
 
     /// The number of processes that are ready, at most 32. The one that is taken is none of them.
     pub fn ready(&self) -> usize
-        ensures { result ≡ length (ready_slots self.now.table) }
+        ensures exact { result ≡ length (ready_slots self.now.table) }
+        ensures few { result ≤ 32 }
     {
         self.state.table.ready()
     }
@@ -134,7 +139,8 @@ impl Kernel {
     /// is told. `Fault` comes only where an object outside failed in this call: by the definition the process then stands at
     /// a system call that was to be answered, after as many turns, and the state of the system is one that it may leave.
     ///
-    /// Names stay: each process that lives on keeps its slot and its name, and children have names of their own.
+    /// Names stay: each process that lives on keeps its slot and its name, and children have names of their own. `failed` tells whether
+    /// the last instruction of a stint that switches is the end of an attempt that has failed.
     pub fn stint<C: Calls>(&mut self, code: &Code, calls: &mut C, turns_left: u64) -> StintEnd
         requires taken { IsSome self.old.taken }
         requires working { C.failed calls.old None }
@@ -148,6 +154,7 @@ impl Kernel {
         ensures free { is_over result ≡ false → self.new.taken ≡ None }
         ensures entering { is_over result ≡ false → self.new.entering ≡ false }
         ensures standing { StandsAfter result self.old.taken (ready_slots self.old.table) self.new.table self.new.arrived }
+        ensures failed { MayFail result self.new.failed }
         ensures spent { is_over result ≡ false → 0 < used_in result }
         ensures used { used_in result ≤ turns_left }
         ensures later { (outside : Outside) → C.faults calls.old outside ≤ C.faults calls.new outside }
@@ -268,6 +275,8 @@ impl Kernel {
     /// definition, where that state is told, and after `Done`, `Halted` and `Failed` the words of the memory are too.
     /// `Fault` comes only where an object outside failed in this call: by the definition the run then stands at a system
     /// call that was to be answered, after as many turns and choices, and the state of the system is one that it may leave.
+    ///
+    /// After a standstill the kernel is the machine of that end: `process`, `below` and `word` tell how its processes stand there.
     pub fn run<C: Calls>(
         &mut self,
         code: &Code,
@@ -278,6 +287,8 @@ impl Kernel {
         requires working { C.failed calls.old None }
         ensures exact { choices.old.drawn + bound < 2 ^ 64 → WhereTold (C.state calls.old) (C.state calls.new) (λ s t.
             RunsTo code.now s bound choices.old result self.new.store self.new.used t choices.new) }
+        ensures stands { choices.old.drawn + bound < 2 ^ 64 → WhereTold (C.state calls.old) (C.state calls.new) (λ s t.
+            StandsIn code.now s bound choices.old result self.new choices.new) }
         ensures standing { StandsAtEnd (Some result) self.new.table self.new.arrived }
         ensures used { self.new.used ≤ bound }
         ensures source { choices.new.source ≡ choices.old.source }
@@ -302,9 +313,40 @@ impl Kernel {
     /// `Arrived` and a standstill the one with which the process stands that went to the back of the ready ones. After a run
     /// it is that of its last stint.
     pub fn standing(&self) -> Option<Activity>
-        ensures { result ≡ self.now.arrived }
+        ensures exact { result ≡ self.now.arrived }
+        ensures ordered { IfSome result IsOrdered }
     {
         self.state.arrived
+    }
+
+    /// The address in the code at which the activity of `standing` goes on, if it tells one. It is asked without that activity.
+    #[inline(always)]
+    pub fn standing_at(&self) -> Option<u32>
+        ensures { result ≡ option_map (λ a. a.pc) self.now.arrived }
+    {
+        match &self.state.arrived {
+            Some(activity) => Some(activity.pc),
+            None => None,
+        }
+    }
+
+    /// Whether the last stint ended by an attempt that failed: one of which no condition was true. It is `false` between the start and the
+    /// end of the first stint.
+    pub fn failed(&self) -> bool
+        ensures { result ≡ self.now.failed }
+    {
+        self.state.failed
+    }
+
+    /// What the process at this slot, of those below 32, does while it is not taken, and its activity. Where no process lives these say
+    /// nothing.
+    pub fn process(&self, slot: usize) -> (Standing, Activity)
+        requires { slot < 32 }
+        ensures standing { result.0 ≡ (process_at self.now.table slot).standing }
+        ensures activity { result.1 ≡ (process_at self.now.table slot).activity }
+        ensures ordered { IsOrdered result.1 }
+    {
+        self.state.table.process(slot)
     }
 
     /// The frame below the one at `base`, in the segment that begins at `first`; none below the lowest.

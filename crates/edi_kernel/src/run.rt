@@ -1,6 +1,6 @@
 //! Whole runs.
 
-ghost use Rattle.std.specs.Prelude.{◌≡◌, ◌≤◌, ◌<◌, ◌+◌, ◌-◌, ◌^◌, if◌then◌else◌, length, min, None, Some, IsSome, ℕ, List, true, false};
+ghost use Rattle.std.specs.Prelude.{◌≡◌, ◌≤◌, ◌<◌, ◌+◌, ◌-◌, ◌^◌, if◌then◌else◌, length, min, None, Some, IsSome, ℕ, List, Bool, true, false};
 ghost use Rattle.edi_told.specs.Told.{WhereTold};
 ghost use Rattle.edi_calls.specs.Names.{Name};
 ghost use Rattle.edi_target.specs.Mach.{Machine};
@@ -10,10 +10,10 @@ ghost use Rattle.edi_kernel.specs.declared.table.Table.{Table};
 ghost use Rattle.edi_kernel.specs.Table.{ready_slots};
 ghost use Rattle.edi_calls.specs.Ends.{CallsLast};
 ghost use Rattle.edi_kernel.specs.Stretch.{Blamed};
-ghost use Rattle.edi_kernel.specs.Kernel.{GoesTo, Holds, IsKernel, ended_by, fault_of, faulted, is_over, later_by, used_in, StandsAfter, StandsAtEnd};
+ghost use Rattle.edi_kernel.specs.Kernel.{GoesTo, Holds, IsKernel, MayFail, ended_by, fault_of, faulted, is_over, later_by, used_in, StandsAfter, StandsAtEnd};
 ghost use Rattle.edi_kernel.specs.TableIsMachine.{Naming};
 ghost use Rattle.edi_kernel.specs.Named.{ChoosesBy, GoesBy, HoldsBy};
-ghost use Rattle.edi_kernel.specs.Runs.{Chooses, EndsUnready, IsAt, Picks, Proceeds, Rounds, RunsTo, Started, TakesNext};
+ghost use Rattle.edi_kernel.specs.Runs.{Chooses, EndsUnready, IsAt, Picks, Proceeds, Rounds, RunsTo, StandsIn, Started, TakesNext};
 
 use crate::ends::{Ending, StintEnd};
 use crate::state::KernelState;
@@ -72,6 +72,7 @@ fn later_by(end: StintEnd, turns: u64) -> StintEnd
     ensures exact { result ≡ later_by turns end }
     ensures standing { (taken : Option ℕ) (ready : List ℕ) (t : Table) (arrived : Option Activity) →
         StandsAfter end taken ready t arrived → StandsAfter result taken ready t arrived }
+    ensures failed { (failed : Bool) → MayFail end failed → MayFail result failed }
 {
     match end {
         StintEnd::Arrived { used } => StintEnd::Arrived { used: used + turns },
@@ -94,6 +95,7 @@ impl KernelState {
         self.taken = Some(0);
         self.entering = true;
         self.arrived = None;
+        self.failed = false;
         self.used = 0;
     }
 
@@ -187,6 +189,8 @@ impl KernelState {
         requires working { C.failed calls.old None }
         ensures exact { choices.old.drawn + bound < 2 ^ 64 → WhereTold (C.state calls.old) (C.state calls.new) (λ s t.
             RunsTo code.now s bound choices.old result self.new.store self.new.used t choices.new) }
+        ensures stands { choices.old.drawn + bound < 2 ^ 64 → WhereTold (C.state calls.old) (C.state calls.new) (λ s t.
+            StandsIn code.now s bound choices.old result self.new choices.new) }
         ensures standing { StandsAtEnd (Some result) self.new.table self.new.arrived }
         ensures kernel { IsKernel self.new }
         ensures used { self.new.used ≤ bound }
@@ -230,6 +234,7 @@ impl KernelState {
         ensures free { is_over result ≡ false → self.new.taken ≡ None }
         ensures entering { is_over result ≡ false → self.new.entering ≡ false }
         ensures standing { StandsAfter result self.old.taken (ready_slots self.old.table) self.new.table self.new.arrived }
+        ensures failed { MayFail result self.new.failed }
         ensures spent { is_over result ≡ false → 0 < used_in result }
         ensures used { used_in result ≤ turns_left }
         ensures blame { Blamed (faulted result) (C.failed calls.new) (C.faults calls.old) (C.faults calls.new) }
@@ -240,6 +245,7 @@ impl KernelState {
         let entry = entry_turns(self.entering);
         if turns_left < entry {
             self.arrived = None;
+            self.failed = false;
             return StintEnd::Over {
                 used: 0,
                 ending: Ending::Turns,

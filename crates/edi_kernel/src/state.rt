@@ -17,10 +17,12 @@ ghost use Rattle.edi_kernel.specs.Kernel.{
   HandlesTurn,
   IsForked,
   IsKernel,
+  MayFail,
   StandsAfter,
   StandsLast,
   attempt_end,
   faulted,
+  is_failure,
   is_over,
   used_in,
 };
@@ -46,6 +48,8 @@ pub(crate) struct KernelState {
     pub(crate) entering: bool,
     /// The activity that the last instruction of the last stint left standing at its `when`.
     pub(crate) arrived: Option<Activity>,
+    /// Whether the last stint ended by an attempt that failed.
+    pub(crate) failed: bool,
     /// The turns that were taken since the start.
     pub(crate) used: u64,
 }
@@ -66,6 +70,17 @@ fn attempt_end(all_marked: bool, used: u64) -> StintEnd
     }
 }
 
+/// Whether a turn of this kind is that of an attempt that failed.
+#[inline(always)]
+fn is_failure(kind: TurnKind) -> bool
+    ensures { result ≡ is_failure kind }
+{
+    match kind {
+        TurnKind::Again(_) => true,
+        _ => false,
+    }
+}
+
 impl KernelState {
     /// The process waits for its children, which begin.
     #[inline(never)]
@@ -79,6 +94,7 @@ impl KernelState {
         ensures table { IsTable self.new.table }
         ensures taken { self.new.taken ≡ self.old.taken }
         ensures arrived { self.new.arrived ≡ self.old.arrived }
+        ensures failed { self.new.failed ≡ self.old.failed }
         ensures entering { self.new.entering ≡ self.old.entering }
         ensures turns { self.new.used ≡ self.old.used }
     {
@@ -105,6 +121,7 @@ impl KernelState {
             (local_of self.old.store activity.now) }
         requires marks { self.old.table.marks < 64 }
         ensures standing { StandsAfter result (Some slot) (ready_slots self.old.table) self.new.table self.new.arrived }
+        ensures failed { MayFail result self.new.failed }
         ensures exact { HandlesTurn kind code.now.words slot used activity.now self.old self.new result }
         ensures taken { self.new.taken ≡ self.old.taken }
         ensures entering { self.new.entering ≡ self.old.entering }
@@ -112,21 +129,25 @@ impl KernelState {
     {
         match kind {
             TurnKind::Again(true) => {
+                self.failed = true;
                 self.arrived = Some(*activity);
                 let all_marked = self.table.attempt(slot, activity);
                 attempt_end(all_marked, used)
             }
             TurnKind::Fork(at) => {
+                self.failed = false;
                 self.arrived = None;
                 self.fork(code, at, slot, activity);
                 StintEnd::Forked { used }
             }
             TurnKind::Exit => {
+                self.failed = false;
                 self.arrived = None;
                 self.table.leave(slot);
                 StintEnd::Exited { used }
             }
             _ => {
+                self.failed = is_failure(kind);
                 self.table.arrive(slot, activity);
                 self.arrived = Some(*activity);
                 StintEnd::Arrived { used }
@@ -151,6 +172,7 @@ impl KernelState {
         requires marks { self.old.table.marks < 64 }
         requires standstill { is_standstill pause ≡ false }
         ensures standing { StandsAfter result (Some slot) (ready_slots self.old.table) self.new.table self.new.arrived }
+        ensures failed { MayFail result self.new.failed }
         ensures exact { Handles pause code.now.words slot used activity.now self.old self.new result }
         ensures taken { self.new.taken ≡ self.old.taken }
         ensures entering { self.new.entering ≡ self.old.entering }
@@ -159,6 +181,7 @@ impl KernelState {
         match pause {
             Pause::At(kind) => self.handle_turn(code, slot, activity, kind, used),
             Pause::Over(ending) => {
+                self.failed = false;
                 self.arrived = None;
                 self.table.unmark();
                 StintEnd::Over { used, ending }
@@ -209,6 +232,7 @@ impl KernelState {
         ensures kernel { IsKernel self.new }
         ensures free { self.new.taken ≡ None }
         ensures standing { StandsAfter result self.old.taken (ready_slots self.old.table) self.new.table self.new.arrived }
+        ensures failed { MayFail result self.new.failed }
         ensures used { used_in result ≤ left }
         ensures spent { is_over result ≡ false → 0 < used_in result }
         ensures blame { Blamed (faulted result) (C.failed calls.new) (C.faults calls.old) (C.faults calls.new) }

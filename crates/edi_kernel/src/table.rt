@@ -329,6 +329,16 @@ impl Table {
         self.lists.home(slot) == Some(READY)
     }
 
+    /// What the process at this slot does, and its activity.
+    pub(crate) fn process(&self, slot: usize) -> (Standing, Activity)
+        requires { slot < 32 }
+        ensures standing { result.0 ≡ (process_at self.now slot).standing }
+        ensures activity { result.1 ≡ (process_at self.now slot).activity }
+    {
+        let process = &self.processes[slot];
+        (process.standing, process.activity)
+    }
+
     /// Whether a process lives at this slot.
     pub(crate) fn lives(&self, slot: usize) -> bool
         ensures { result ≡ is_live self.now slot }

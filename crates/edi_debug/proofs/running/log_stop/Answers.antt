@@ -13,7 +13,7 @@ returns-else-is_near c = record {
   exact = λ unit bound mapped fits small.
       let y : Arrived = arrived_now c.args.kernel.now.store c.in-Some.activity (bound - c.args.kernel.now.used) in
       sym (ap (λ o. after_lines (stop_now unit bound c.args.kernel.now.store o c.args.kernel.now.used (watched_in c.args.stops.now.points.now)) c.args.log.now)
-      (sym c.standing.ensures ∙ c.in-Some.is)
+      (sym c.standing.ensures.exact ∙ c.in-Some.is)
       ∙ ap (λ l. after_lines l c.args.log.now)
       (nothing_near unit bound c.args.stops.now.near.now y (sym c.is_near.ensures.exact ∙ c.if-is_near.false) (watched_in c.args.stops.now.points.now)
       (c.requires.near unit mapped)));

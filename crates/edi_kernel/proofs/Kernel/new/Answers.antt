@@ -9,4 +9,5 @@ invariant_of-result c = record {
   table = first_table c.first.result _ c.first.ensures
       (record { first = omega arith; base = omega arith; top = omega arith; end = omega arith; last = omega arith });
   taken = none_counted c.first.result c.first.ensures.marked c.first.ensures.marks;
+  arrived = tt;
 }

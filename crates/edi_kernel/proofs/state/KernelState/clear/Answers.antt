@@ -9,4 +9,5 @@ returns-clause-kernel c = record {
   table = first_table c.first-self.result _ c.first-self.ensures
       (record { first = omega arith; base = omega arith; top = omega arith; end = omega arith; last = omega arith });
   taken = none_counted c.first-self.result c.first-self.ensures.marked c.first-self.ensures.marks;
+  arrived = tt;
 }

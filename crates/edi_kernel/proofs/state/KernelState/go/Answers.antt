@@ -41,6 +41,7 @@ returns-clause-kernel g c =
     (mid_of c.args.self.now c.walk-pause.new.self c.unmark_if.new.self c.unwrap-slot.result c.walk-pause.new.progress.cleared c.requires.kernel
     c.unwrap-slot.ensures (ap (λ (k : KernelState). k.table) c.walk-pause.ensures.same) c.unmark_if.ensures)
     c.handle.ensures.taken c.walk-pause.ensures.less c.walk-pause.ensures.ordered c.walk-pause.ensures.allowed c.handle.ensures.exact
+    _ c.handle.ensures.standing
 
 pub returns-clause-standing : goal.returns-clause-standing
 returns-clause-standing g c =

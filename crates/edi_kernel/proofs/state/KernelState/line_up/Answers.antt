@@ -10,4 +10,5 @@ returns-clause-kernel c = record {
   taken = subst (IsTakenIn c.line_up.new.self) (sym c.requires.free)
       (lined_between c.args.slot c.args.self.now.table c.line_up.new.self
       (subst (IsTakenIn c.args.self.now.table) c.requires.free c.requires.kernel.taken) c.requires.unmarked c.line_up.ensures);
+  arrived = c.requires.kernel.arrived;
 }

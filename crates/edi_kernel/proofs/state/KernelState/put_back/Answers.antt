@@ -14,4 +14,5 @@ returns-clause-kernel c = record {
   taken = subst (IsTakenIn c.admit.new.self) (sym c.requires.free)
       (admitted_between c.args.kept.now.slot c.process.result c.args.self.now.table c.admit.new.self
       (subst (IsTakenIn c.args.self.now.table) c.requires.free c.requires.kernel.taken) c.admit.ensures);
+  arrived = c.requires.kernel.arrived;
 }

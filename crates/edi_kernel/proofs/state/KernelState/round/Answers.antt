@@ -1,7 +1,7 @@
 -- A round of the kernel is one of the machine.
 use Rattle.std.proofs.Common.{◌+◌, ◌-◌, ◌∙◌, sym, refl, arith}
 use Rattle.edi_kernel.proofs.Named.{told_goes_to}
-use Rattle.edi_kernel.proofs.Rounds.{told_round_ends, told_round_goes, holds_same}
+use Rattle.edi_kernel.proofs.Rounds.{told_round_ends, told_round_goes, holds_same, keeps_unready}
 use Rattle.edi_kernel.proofs.Placing.{stands_at_end, stands_unready}
 use Rattle.edi_kernel.proofs.state.KernelState.round.Goals as goal
 
@@ -11,7 +11,7 @@ returns-in-Some-clause-exact g c =
     told_round_ends c.args.code.now.words c.args.bound c.args.self.now c.go-end.new.self
     (record c.go-end.new.self { used = c.go-end.new.self.used + c.used_in.result }) c.args.choices.now
     (c.args.bound - c.args.self.now.used) c.go-end.result _ _
-    (omega (arith, c.go-end.ensures.turns, c.used_in.ensures, c.go-end.ensures.used, c.requires.used)) refl c.in-Some.ending (sym c.in-Some.ensures)
+    (omega (arith, c.go-end.ensures.turns, c.used_in.ensures, c.go-end.ensures.used, c.requires.used)) refl c.in-Some.ending (sym c.in-Some.ensures) refl refl
     (told_goes_to _ _ _ _ _ _ _ c.go-end.ensures.exact)
 
 pub returns-clause-exact : goal.returns-clause-exact
@@ -21,6 +21,8 @@ returns-clause-exact g c =
     (c.args.bound - c.args.self.now.used) c.go-end.result _ _
     (omega (arith, c.go-end.ensures.turns, c.used_in.ensures, c.go-end.ensures.used, c.requires.used, c.proceed.ensures.turns)) c.proceed.ensures.store
     c.proceed.result c.proceed.new.choices (sym c.ended_by.ensures ∙ c.in_default.is)
+    (keeps_unready c.proceed.result c.go-end.new.self (record c.go-end.new.self { used = c.go-end.new.self.used + c.used_in.result }) c.proceed.new.self
+    c.proceed.ensures.nobody refl refl refl)
     (λ n names k.
     c.proceed.ensures.exact drawn n names
     (holds_same c.go-end.new.self (record c.go-end.new.self { used = c.go-end.new.self.used + c.used_in.result }) n _ names refl refl refl k))

@@ -1,7 +1,7 @@
 -- A run of the kernel is the machine's.
 use Rattle.std.proofs.Common.{refl, ap, arith, ◌∙◌, false}
 use Rattle.std.specs.Prelude.{is_some}
-use Rattle.edi_kernel.proofs.Rounds.{told_never, told_begins, told_ends, told_more}
+use Rattle.edi_kernel.proofs.Rounds.{told_never, told_begins, told_ends, told_more, told_stands, nothing_told}
 use Rattle.edi_kernel.proofs.Stretches.{lasts_on}
 use Rattle.edi_kernel.proofs.state.KernelState.run.Goals as goal
 
@@ -11,9 +11,12 @@ returns-then-bound-eq0-clause-exact g c =
     told_never c.args.code.now c.args.bound c.args.choices.now (g.C.Calls.state c.args.calls.now) c.start.new.self
     (record c.start.new.self { entering = false }) c.start.ensures c.if-bound-eq0.true c.start.ensures.used
 
+pub returns-then-bound-eq0-clause-stands : goal.returns-then-bound-eq0-clause-stands
+returns-then-bound-eq0-clause-stands g c = λ small. nothing_told (g.C.Calls.state c.args.calls.now)
+
 pub rounds-init : goal.rounds-init
 rounds-init g c = record {
-  kernel = record { table = c.start.ensures.kernel.table; taken = c.start.ensures.kernel.taken };
+  kernel = record { table = c.start.ensures.kernel.table; taken = c.start.ensures.kernel.taken; arrived = c.start.ensures.kernel.arrived };
   taken = ap is_some c.start.ensures.taken;
   working = c.requires.working;
   lasts = (λ outside. omega arith, refl, λ start led. led);
@@ -31,6 +34,14 @@ returns-in-Some-clause-exact g c =
     told_ends c.args.code.now c.args.bound c.args.choices.now (g.C.Calls.state c.args.calls.now) (g.C.Calls.state c.rounds.calls)
     (g.C.Calls.state c.round.new.calls) c.rounds.self c.round.new.self c.rounds.choices c.round.new.choices c.in-Some.ending
     c.rounds.invariant.source c.round.ensures.used (c.rounds.invariant.exact small)
+    (c.in-Some.ensures.exact (omega (arith, small, c.rounds.invariant.drawn, c.rounds.invariant.used)))
+
+pub returns-in-Some-clause-stands : goal.returns-in-Some-clause-stands
+returns-in-Some-clause-stands g c =
+    λ small.
+    told_stands c.args.code.now c.args.bound c.args.choices.now (g.C.Calls.state c.args.calls.now) (g.C.Calls.state c.rounds.calls)
+    (g.C.Calls.state c.round.new.calls) c.rounds.self c.round.new.self c.rounds.choices c.round.new.choices c.in-Some.ending
+    c.rounds.invariant.source (c.rounds.invariant.exact small)
     (c.in-Some.ensures.exact (omega (arith, small, c.rounds.invariant.drawn, c.rounds.invariant.used)))
 
 pub rounds-preserved : goal.rounds-preserved

@@ -8,6 +8,7 @@ returns c = record {
   kernel = record {
     table = first_table c.first-self.result c.begin-activity.result c.first-self.ensures c.begin-activity.ensures.ordered;
     taken = first_taken c.first-self.result c.begin-activity.result c.first-self.ensures;
+    arrived = tt;
   };
   first = c.begin-activity.result;
   begins = c.begin-activity.ensures.exact;
@@ -16,4 +17,5 @@ returns c = record {
   entering = refl;
   used = refl;
   arrived = refl;
+  failed = refl;
 }

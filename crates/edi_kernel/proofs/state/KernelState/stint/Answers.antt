@@ -8,12 +8,12 @@ pub returns-clause-exact : goal.returns-clause-exact
 returns-clause-exact g c =
     told_stint c.args.code.now c.args.self.now (record c.args.self.now { entering = false }) c.go.new.self
     (record c.go.new.self { used = c.saturating_add-self.result }) c.args.turns_left c.entry_turns-entry.result c.go.result
-    refl refl refl refl refl refl refl _ _ c.later_by-end.result c.later_by-end.ensures.exact c.entry_turns-entry.ensures
+    refl refl refl refl refl refl refl refl _ _ c.later_by-end.result c.later_by-end.ensures.exact c.entry_turns-entry.ensures
     (omega (arith, c.if-turns_left-entry.false)) (told_goes_to _ _ _ _ _ _ _ c.go.ensures.exact)
 
 pub returns-clause-names : goal.returns-clause-names
 returns-clause-names g c =
     told_names c.args.code.now c.args.self.now (record c.args.self.now { entering = false }) c.go.new.self
     (record c.go.new.self { used = c.saturating_add-self.result }) c.args.turns_left c.entry_turns-entry.result c.go.result
-    refl refl refl refl refl refl refl _ _ c.later_by-end.result c.later_by-end.ensures.exact c.entry_turns-entry.ensures
+    refl refl refl refl refl refl refl refl _ _ c.later_by-end.result c.later_by-end.ensures.exact c.entry_turns-entry.ensures
     (omega (arith, c.if-turns_left-entry.false)) c.go.ensures.exact

@@ -19,4 +19,4 @@ pub returns-clause-kernel : goal.returns-clause-kernel
 returns-clause-kernel c =
     chosen_kernel c.args.self.now (record c.args.self.now { table = c.next-slot.new.self; taken = Some c.next-slot.result }) c.args.index c.next-slot.result
     none none
-    c.requires.kernel c.requires.free c.next-slot.ensures.slot c.next-slot.ensures.was c.next-slot.ensures.taken refl refl
+    c.requires.kernel c.requires.free c.next-slot.ensures.slot c.next-slot.ensures.was c.next-slot.ensures.taken refl refl refl
