@@ -1,5 +1,5 @@
 mod Lists
-mod Places
+mod CallLines
 mod Listed
 mod Naming
 mod Rounds

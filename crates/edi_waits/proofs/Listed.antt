@@ -17,7 +17,7 @@ use Rattle.edi_kernel.specs.Kernel.{Holds}
 use Rattle.edi_kernel.specs.Named.{HoldsBy}
 use Rattle.edi_kernel.proofs.Again.{found_has}
 use Rattle.edi_kernel.proofs.Changes.{live_below}
-use Rattle.edi_timed.specs.Ran.{place}
+use Rattle.edi_waits.specs.Places.{place}
 use Rattle.edi_waits.specs.declared.names.Names.{Names}
 use Rattle.edi_waits.specs.Names.{AreNames, is_at_when, name_at, waiting_at, waiting_below}
 use Rattle.edi_waits.specs.Waits.{AreWaiting, IsWaiting, Waiting}
@@ -99,7 +99,7 @@ module _ (words : List ℕ) (k : KernelState) (names : Names) where
         let b = both (is_live k.table slot) (is_at_when (process_at k.table slot).standing) waits in
         subst (IsWaiting words m) (sym is) (record {
           activity = entry slot;
-          found = ap (find m.activities) (are.names slot b.0) ∙ stands.found slot b.0;
+          found = ap (find m.activities) (are.called slot b.0) ∙ stands.found slot b.0;
           stands = stands_at (process_at k.table slot).standing b.1;
           lines_are =
               ap (λ memory. place words memory (process_at k.table slot).activity.segment.first (process_at k.table slot).activity.base
@@ -114,13 +114,13 @@ module _ (words : List ℕ) (k : KernelState) (names : Names) where
         let test : is_at_when (process_at k.table s.0).standing ≡ true =
         at_stands (process_at k.table s.0).standing (ap (λ (x : Activity). x.standing) same ∙ at) in
         let waits : Waits s.0 ≡ true = ap (λ b. b && is_at_when (process_at k.table s.0).standing) s.1 ∙ test in
-        (At s.0, has_slot 32 s.0 (live_below k.table s.0 s.1) waits, are.names s.0 s.1 ∙ sym s.2)
+        (At s.0, has_slot 32 s.0 (live_below k.table s.0 s.1) waits, are.called s.0 s.1 ∙ sym s.2)
 
     same_slot : (x y : ℕ) → Waits x ≡ true → Waits y ≡ true → name_at names x ≡ name_at names y → x ≡ y
     same_slot x y p q e =
         let a = (both (is_live k.table x) (is_at_when (process_at k.table x).standing) p).0 in
         let b = (both (is_live k.table y) (is_at_when (process_at k.table y).standing) q).0 in
-        stands.apart x y a b (sym (are.names x a) ∙ e ∙ are.names y b)
+        stands.apart x y a b (sym (are.called x a) ∙ e ∙ are.called y b)
 
     once : (c i j : ℕ) (v w : Waiting) → slice_get (waiting_below words k names c) i ≡ Some v → slice_get (waiting_below words k names c) j ≡ Some w →
         v.process ≡ w.process → i ≡ j

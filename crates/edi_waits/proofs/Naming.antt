@@ -1,7 +1,7 @@
 -- The names of processes: at the start, over a stint, and over a choice.
 use Rattle.std.proofs.Common.{◌≡◌, ◌⊎◌, inl, inr, ℕ, zero, suc, ◌+◌, ◌-◌, ◌^◌, ◌<◌, ◌≤◌, min, Bool, true, false, if◌then◌else◌, List, [], ◌∷◌, length, Option}
 use Rattle.std.proofs.Common.{Some, None, refl, sym, ap, subst, ◌∙◌, arith, slice_get, nat_eq, ◌==◌, slice_index_or, replicate, nat_lt, not, ◌&&◌}
-use Rattle.std.proofs.lemmas.Bool.{cases_eq, eqb-true}
+use Rattle.std.proofs.lemmas.Bool.{cases_eq, cases_lt, eqb-true}
 use Rattle.edi_calls.specs.Names.{Name, find, same}
 use Rattle.edi_calls.specs.Ready.{child, stays}
 use Rattle.edi_calls.specs.State.{State}
@@ -28,7 +28,7 @@ pub names_stay : (names : Names) (n : Naming) (old new : Table) (used later : �
 names_stay names n old new used later lives le a = record {
   wide = a.wide;
   forks_wide = a.forks_wide;
-  names = λ i l. a.names i (lives i l);
+  called = λ i l. a.called i (lives i l);
   forks = λ i l. a.forks i (lives i l);
   few = λ i l. omega (arith, a.few i (lives i l), le);
 }
@@ -64,7 +64,7 @@ module _ (names next : Names) (n after : Naming) (old new : Table) (fork number 
       let r = b.born (others + x.number) i (omega arith) (within (others + x.number) i at) at (live_below new i l) (not_parent i dead)
       (λ j q. once j (others + x.number) i q at) in
       let number_is : others + x.number - others ≡ x.number = omega arith in (
-        r.0 ∙ (λ t. child (a.names g.slot lives t) (same_fork t) (number_is t)) ∙ sym x.named,
+        r.0 ∙ (λ t. child (a.called g.slot lives t) (same_fork t) (number_is t)) ∙ sym x.named,
         r.1 ∙ sym x.forks,
       )
 
@@ -72,7 +72,7 @@ module _ (names next : Names) (n after : Naming) (old new : Table) (fork number 
   name_is i l = go (is_live old i) refl
     where
       go : (t : Bool) → is_live old i ≡ t → name_at next i ≡ after.name i
-      go true e = b.stays i (not_born i e) ∙ a.names i e ∙ sym (g.names i e)
+      go true e = b.stays i (not_born i e) ∙ a.called i e ∙ sym (g.names i e)
       go false e = (child_at i e l).0
 
   forks_are : (i : ℕ) → is_live new i ≡ true → (forks_at next i ≡ after.forks i) × (forks_at next i ≤ later)
@@ -97,10 +97,87 @@ module _ (names next : Names) (n after : Naming) (old new : Table) (fork number 
   names_grow = record {
     wide = b.wide;
     forks_wide = b.forks_wide ∙ a.forks_wide;
-    names = name_is;
+    called = name_is;
     forks = λ i l. (forks_are i l).0;
     few = λ i l. (forks_are i l).1;
   }
+
+-- ---- child after child is named
+
+module _ (slot from to : ℕ) (ready : List ℕ) (old now : Names) (child_slot : ℕ) (b : Bears slot from to ready old now) (at : slice_get ready to ≡ Some child_slot) where
+  some_same : {X : Type 0} {x y : X} → Some x ≡ Some y → x ≡ y
+  some_same e = cc
+
+  -- who is no child has no new name
+  skipped : ((i : ℕ) → i ≡ child_slot → i < 32 → (i ≡ slot → ⊥) → ⊥) → Bears slot from (to + 1) ready old now
+  skipped none = record {
+    wide = b.wide;
+    forks_wide = b.forks_wide;
+    own = b.own;
+    stays = b.stays;
+    forks_stay = b.forks_stay;
+    born = λ k i le lt e small other once. elim (cases_lt k to) [
+      | inl less ↦ b.born k i le less e small other once
+      | inr past ↦
+          let same : k ≡ to = omega (arith, lt, past) in
+          absurd (none i (some_same (sym e ∙ ap (slice_get ready) same ∙ at)) small other)
+    ];
+  }
+
+  pub bears_same : child_slot ≡ slot → Bears slot from (to + 1) ready old now
+  bears_same e = skipped (λ i same small other. other (same ∙ e))
+
+  pub bears_past : 32 ≤ child_slot → Bears slot from (to + 1) ready old now
+  bears_past l = skipped (λ i same small other. absurd (omega (arith, same, small, l)))
+
+  -- this one is named
+  pub bears_more : (next : Names) → from ≤ to → (child_slot ≡ slot → ⊥) → length next.of.items ≡ 32 → length next.forks ≡ length old.forks →
+      name_at next child_slot ≡ child (name_at old slot) (next_fork old slot) (to - from) → forks_at next child_slot ≡ 0 →
+      ((i : ℕ) → (i ≡ child_slot → ⊥) → name_at next i ≡ name_at now i) → ((i : ℕ) → (i ≡ child_slot → ⊥) → forks_at next i ≡ forks_at now i) →
+      Bears slot from (to + 1) ready old next
+  bears_more next first apart wide forks_wide named none names forks = record {
+    wide = wide;
+    forks_wide = forks_wide;
+    own = names slot (λ e. apart (sym e)) ∙ b.own;
+    stays = λ i nobody. names i (λ e. nobody (to, first, at ∙ ap Some (sym e))) ∙ b.stays i nobody;
+    forks_stay = λ i other nobody. forks i (λ e. nobody (to, first, at ∙ ap Some (sym e))) ∙ b.forks_stay i other nobody;
+    born = λ k i le lt e small other once. elim (cases_lt k to) [
+      | inl less ↦
+          let away : i ≡ child_slot → ⊥ = λ same. absurd (omega (arith, less, once to (at ∙ ap Some (sym same)))) in
+          let r = b.born k i le less e small other once in
+          (names i away ∙ r.0, forks i away ∙ r.1)
+      | inr past ↦
+          let same : k ≡ to = omega (arith, lt, past) in
+          let it : i ≡ child_slot = some_same (sym e ∙ ap (slice_get ready) same ∙ at) in (
+            ap (name_at next) it ∙ named ∙ ap (λ n. child (name_at old slot) (next_fork old slot) (n - from)) (sym same),
+            ap (forks_at next) it ∙ none,
+          )
+    ];
+  }
+
+-- fewer have been named
+pub bears_less : (slot from to less : ℕ) (ready : List ℕ) (old now : Names) → less ≤ to → Bears slot from to ready old now → Bears slot from less ready old now
+bears_less slot from to less ready old now l b = record {
+  wide = b.wide;
+  forks_wide = b.forks_wide;
+  own = b.own;
+  stays = b.stays;
+  forks_stay = b.forks_stay;
+  born = λ k i le lt e small other once. b.born k i le (omega (arith, lt, l)) e small other once;
+}
+
+-- the parent has forked once more
+pub bears_forked : (slot from to : ℕ) (ready : List ℕ) (old now next : Names) → Bears slot from to ready old now → length next.of.items ≡ 32 →
+    length next.forks ≡ length now.forks → ((i : ℕ) → name_at next i ≡ name_at now i) → ((i : ℕ) → (i ≡ slot → ⊥) → forks_at next i ≡ forks_at now i) →
+    Bears slot from to ready old next
+bears_forked slot from to ready old now next b wide forks_wide names forks = record {
+  wide = wide;
+  forks_wide = forks_wide ∙ b.forks_wide;
+  own = names slot ∙ b.own;
+  stays = λ i nobody. names i ∙ b.stays i nobody;
+  forks_stay = λ i other nobody. forks i other ∙ b.forks_stay i other nobody;
+  born = λ k i le lt e small other once. let r = b.born k i le lt e small other once in (names i ∙ r.0, forks i other ∙ r.1);
+}
 
 -- ---- a choice
 
@@ -142,7 +219,7 @@ first_alone found entry calls left s m e q a h = go found e h
     went_is : {x y : Machine} → went x stays ≡ went y stays → x ≡ y
     went_is e = cc
 
-    one : (x : Activity) → x.forks ≡ 0 → find ((([] : Name), x) ∷ []) q ≡ Some a → (q ≡ []) × (a.forks ≡ 0)
+    one : (x : Activity) → x.forks ≡ 0 → find (([], x) ∷ []) q ≡ Some a → (q ≡ []) × (a.forks ≡ 0)
     one x none f = by (same q []) refl f
       where
         by : (t : Bool) → same q [] ≡ t → (if t then Some x else None) ≡ Some a → (q ≡ []) × (a.forks ≡ 0)
@@ -157,16 +234,16 @@ first_alone found entry calls left s m e q a h = go found e h
 
 pub names_begin : (names : Names) (n : Naming) (t : Table) (m : Machine) (used : ℕ) → TableIsMachine t n m →
     ((q : Name) (a : Activity) → find m.activities q ≡ Some a → (q ≡ []) × (a.forks ≡ 0)) → length names.of.items ≡ 32 →
-    ((slot : ℕ) → name_at names slot ≡ []) → names.forks ≡ replicate 32 0 → AreNames names n t used
+    ((slot : ℕ) → name_at names slot ≡ []) → names.forks ≡ replicate {A = ℕ} 32 0 → AreNames names n t used
 names_begin names n t m used h alone wide none forks = record {
   wide = wide;
   forks_wide = ap length forks;
-  names = λ i l. none i ∙ sym (alone (n.name i) (entry_of (process_at t i) (n.forks i)) (h.found i l)).0;
+  called = λ i l. none i ∙ sym (alone (n.name i) (entry_of (process_at t i) (n.forks i)) (h.found i l)).0;
   forks = λ i l. no_forks i ∙ sym (alone (n.name i) (entry_of (process_at t i) (n.forks i)) (h.found i l)).1;
   few = λ i l. omega (arith, no_forks i);
 }
   where
-    zeros : (k i : ℕ) → slice_index_or (replicate k 0) i 0 ≡ 0
+    zeros : (k i : ℕ) → slice_index_or (replicate {A = ℕ} k 0) i 0 ≡ 0
     zeros zero i = refl
     zeros (suc k) zero = refl
     zeros (suc k) (suc i) = zeros k i

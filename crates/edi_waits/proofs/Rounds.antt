@@ -1,6 +1,7 @@
 -- Rounds of a run whose processes are named.
 use Rattle.std.proofs.Common.{◌≡◌, ℕ, zero, suc, ◌-◌, ◌^◌, ◌<◌, ◌≤◌, false, List, [], ◌∷◌, ◌++◌, length, map, Option, Some, None, refl, sym, ap, subst, ◌∙◌, arith}
-use Rattle.std.proofs.Common.{slice_get, replicate, true, ◌+◌}
+use Rattle.std.proofs.Common.{slice_get, replicate, true, ◌+◌, Result, Ok, Err, IfOk, IfSome}
+use Rattle.std.specs.Global.{Vec}
 use Rattle.std.proofs.lemmas.Option.{slice_get_within}
 use Rattle.std.specs.Option.{option_map}
 use Rattle.edi_told.specs.Told.{WhereTold}
@@ -21,7 +22,7 @@ use Rattle.edi_kernel.specs.declared.ends.StintEnd.TheVariants as stint_end
 use Rattle.edi_kernel.specs.declared.state.KernelState.{KernelState}
 use Rattle.edi_kernel.specs.Table.{is_free_home, is_live, ready_slots}
 use Rattle.edi_kernel.specs.TableIsMachine.{IsTaken, Naming}
-use Rattle.edi_kernel.specs.Kernel.{EndsAs, EndsRun, ForksInto, Holds, IsKernel, IsTakenIn, Switches, ended_by, used_in}
+use Rattle.edi_kernel.specs.Kernel.{EndsAs, EndsRun, ForksInto, Holds, IsKernel, IsTakenIn, Switches, ended_by, is_over, used_in}
 use Rattle.edi_kernel.specs.Named.{GoesBy, HoldsBy, NamesGrow}
 use Rattle.edi_kernel.specs.Runs.{IsAt, IsAtBy, Started}
 use Rattle.edi_kernel.proofs.Lists.{live_of_home}
@@ -29,6 +30,8 @@ use Rattle.edi_kernel.proofs.Sharing.{none_twice}
 use Rattle.edi_kernel.proofs.Rounds.{run_over, run_switched}
 use Rattle.edi_kernel.proofs.Starting.{Enters, enters}
 use Rattle.edi_waits.specs.declared.names.Names.{Names}
+use Rattle.edi_waits.specs.declared.waits.Wait.{Wait}
+use Rattle.edi_waits.specs.Told.{all_of}
 use Rattle.edi_waits.specs.Names.{AreNames, FollowsNames, LivesBefore, name_at, waiting_below}
 use Rattle.edi_waits.specs.Runs.{Comes, ComesFrom, Going, ProceedsBy, Stands}
 use Rattle.edi_waits.specs.Waits.{AreWaiting, StandsSo, Waiting}
@@ -59,7 +62,7 @@ module _ (code : CodeParts) (s : State) (bound : ℕ) (first : Drawn) where
   -- ---- the start
 
   pub begins : (k : KernelState) (names : Names) → Started code k → 0 < bound → length names.of.items ≡ 32 →
-      ((slot : ℕ) → name_at names slot ≡ []) → names.forks ≡ replicate 32 0 → Going code s bound first k s first names
+      ((slot : ℕ) → name_at names slot ≡ []) → names.forks ≡ replicate {A = ℕ} 32 0 → Going code s bound first k s first names
   begins k names st some wide none forks =
       let x : Enters code k s (bound - 1) = enters code k st s (bound - 1) in
       let b : suc (bound - 1) ≡ bound = omega (arith, some) in
@@ -185,8 +188,8 @@ module _ (code : CodeParts) (s : State) (bound : ℕ) (first : Drawn) where
           (proceeds naming h.machine (w.others ++ h.joined) (record { holds = h.holds; by = by }))
 
       none_born : LivesBefore k0.table k.table → names ≡ old → AreNames names w.naming k.table k.used
-      none_born stays same =
-          subst (λ z. AreNames z w.naming k.table k.used) (sym same) (names_stay old w.naming k0.table k.table k0.used k.used stays (omega (arith, more)) w.named)
+      none_born lived same =
+          subst (λ z. AreNames z w.naming k.table k.used) (sym same) (names_stay old w.naming k0.table k.table k0.used k.used lived (omega (arith, more)) w.named)
 
       module _ (fork number : ℕ) (grow : Naming) (joined : List Name) (m : Machine) (h : Holds k m None (w.others ++ joined)) (by : h.naming ≡ grow)
           (are : joined ≡ children w.name fork 0 number) (g : NamesGrow fork number k0.taken k0.table k.table w.naming grow)
@@ -207,7 +210,9 @@ module _ (code : CodeParts) (s : State) (bound : ℕ) (first : Drawn) where
             let child_there : slice_get (children w.name fork 0 number) (i - before) ≡ Some (grow.name slot) =
             ap (λ n. slice_get (children w.name fork 0 number) (i - n)) (sym as_many) ∙ ap (λ xs. slice_get xs (i - length w.others)) (sym are)
             ∙ sym (past w.others joined i (omega (arith, as_many, le))) ∙ there in
-            children_at w.name fork number 0 (i - before) (grow.name slot) child_there ∙ ap (λ p. child p fork (i - before)) own_name
+            let none : 0 + (i - before) ≡ i - before = omega arith in
+            children_at w.name fork number 0 (i - before) (grow.name slot) child_there ∙ ap (child w.name fork) none
+            ∙ ap (λ p. child p fork (i - before)) own_name
 
         pub some_born : AreNames names grow k.table k.used
         some_born =
@@ -230,6 +235,13 @@ module _ (code : CodeParts) (s : State) (bound : ℕ) (first : Drawn) where
           let f : ForksInto w.name h.joined = g.0.1 in
           after_stint n left turns h h.holds.naming refl
           (some_born f.fork f.number h.holds.naming h.joined h.machine h.holds refl f.are g.1 follows)
+
+-- a stint that has not ended the run
+pub not_over : (end : StintEnd) → ended_by end ≡ None → is_over end ≡ false
+not_over (stint_end.Over used x) e = absurd (cc)
+not_over (stint_end.Arrived used) e = refl
+not_over (stint_end.Forked used) e = refl
+not_over (stint_end.Exited used) e = refl
 
 -- ---- where the state is told
 
@@ -274,16 +286,28 @@ module _ (code : CodeParts) (bound : ℕ) (first : Drawn) where
         WhereTold a c (λ s x. Going code s bound first new x later after)
     goes_more h g = WhereTold-then _ _ _ a b c (λ s x y w round. round s first (sym source) w) h g
 
-    pub goes_out : WhereTold a b (λ s x. Going code s bound first old x now before) →
-        WhereTold b c (AnyRound code bound (Some ending.Standstill) old new now later before after) →
-        (ws : List Waiting) → ws ≡ waiting_below code.words new after 32 → WhereTold a c (λ s x. StandsSo code s bound first ws)
-    goes_out h g ws e =
-        WhereTold-then _ _ _ a b c (λ s x y w round. stands_so code s bound first new later after ws (round s first (sym source) w) e) h g
+    -- what is told of those that wait, if anything is
+    abbrev pub Tells : {E : Type 0} → Result (Option (Vec Wait)) E → (List Waiting → Type 0) → Type 0
+    Tells result P = IfOk result (λ found. IfSome found (λ ws. P (all_of ws)))
+
+    pub goes_out : {E : Type 0} (e : Ending) (result : Result (Option (Vec Wait)) E) → WhereTold a b (λ s x. Going code s bound first old x now before) →
+        WhereTold b c (AnyRound code bound (Some e) old new now later before after) →
+        Tells result (λ ws. (e ≡ ending.Standstill) × (ws ≡ waiting_below code.words new after 32)) →
+        WhereTold a c (λ s x. Tells result (StandsSo code s bound first))
+    goes_out e result h g told = WhereTold-then _ _ _ a b c (λ s x y w round. each s y result told (round s first (sym source) w)) h g
+      where
+        each : {E : Type 0} (s y : State) (result : Result (Option (Vec Wait)) E) →
+            Tells result (λ ws. (e ≡ ending.Standstill) × (ws ≡ waiting_below code.words new after 32)) → Comes code s bound first (Some e) new y later after →
+            Tells result (StandsSo code s bound first)
+        each s y (Err x) told come = tt
+        each s y (Ok None) told come = tt
+        each s y (Ok (Some ws)) told come =
+            stands_so code s bound first new later after (all_of ws) (subst (λ d. Comes code s bound first (Some d) new y later after) told.0 come) told.1
 
   where_same : (o : Option State) (P : State → State → Type 0) → ((s : State) → P s s) → WhereTold o o P
   where_same None P h = tt
   where_same (Some s) P h = h s
 
   pub told_begins : (o : Option State) (k : KernelState) (names : Names) → Started code k → 0 < bound → length names.of.items ≡ 32 →
-      ((slot : ℕ) → name_at names slot ≡ []) → names.forks ≡ replicate 32 0 → WhereTold o o (λ s x. Going code s bound first k x first names)
+      ((slot : ℕ) → name_at names slot ≡ []) → names.forks ≡ replicate {A = ℕ} 32 0 → WhereTold o o (λ s x. Going code s bound first k x first names)
   told_begins o k names st some wide none forks = where_same o (λ s x. Going code s bound first k x first names) (λ s. begins code s bound first k names st some wide none forks)

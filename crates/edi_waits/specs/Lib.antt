@@ -1,3 +1,4 @@
+pub mod Places
 pub mod Waits
 pub mod Told
 pub mod Names

@@ -13,7 +13,7 @@ use Rattle.edi_kernel.specs.declared.table.Table.{Table}
 use Rattle.edi_kernel.specs.declared.state.KernelState.{KernelState}
 use Rattle.edi_kernel.specs.Table.{is_live, process_at, ready_slots}
 use Rattle.edi_kernel.specs.TableIsMachine.{Naming}
-use Rattle.edi_timed.specs.Ran.{place}
+use Rattle.edi_waits.specs.Places.{place}
 use Rattle.edi_waits.specs.declared.names.Branch.{Branch}
 use Rattle.edi_waits.specs.declared.names.Names.{Names}
 use Rattle.edi_waits.specs.Told.{name_of}
@@ -33,7 +33,7 @@ forks_at names slot = slice_index_or names.forks slot 0
 pub record AreNames (names : Names) (n : Naming) (t : Table) (used : ℕ) : Type 0 where
   pub wide : length names.of.items ≡ 32
   pub forks_wide : length names.forks ≡ 32
-  pub names : (slot : ℕ) → is_live t slot ≡ true → name_at names slot ≡ n.name slot
+  pub called : (slot : ℕ) → is_live t slot ≡ true → name_at names slot ≡ n.name slot
   pub forks : (slot : ℕ) → is_live t slot ≡ true → forks_at names slot ≡ n.forks slot
   pub few : (slot : ℕ) → is_live t slot ≡ true → forks_at names slot ≤ used
 

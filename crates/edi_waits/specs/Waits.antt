@@ -7,7 +7,7 @@ use Rattle.edi_target.specs.Check.{CodeParts}
 use Rattle.edi_target.specs.Mach.{Activity, Machine, at_when}
 use Rattle.edi_trace.specs.Drawn.{Drawn}
 use Rattle.edi_kernel.specs.Runs.{EndsAfter}
-use Rattle.edi_timed.specs.Ran.{place}
+use Rattle.edi_waits.specs.Places.{place}
 
 -- a process, and the line of its `when` with those of the calls that lead there, the innermost first; at most five
 pub record Waiting : Type 0 where

@@ -48,7 +48,7 @@ impl Names {
         ensures forks { IfOk result (λ names. names.forks ≡ replicate 32 0) }
     {
         let mut of = Vec::with_capacity(alloc, SLOTS)?;
-        for _slot in 0..SLOTS {
+        for _ in 0..SLOTS {
             of.push(Vec::new(alloc))?;
         }
         Ok(Names {
@@ -75,7 +75,10 @@ impl Names {
         let parent = Vec::from_slice(self.alloc, &self.of[slot])?;
         for index in from..kernel.ready() {
             let born = kernel.ready_slot(index).unwrap();
-            if born == slot || born >= SLOTS {
+            if born == slot {
+                continue;
+            }
+            if born >= SLOTS {
                 continue;
             }
             let number = (index - from) as u32;

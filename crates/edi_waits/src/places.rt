@@ -1,7 +1,7 @@
 //! Where a process stands, in lines.
 
 ghost use Rattle.std.specs.Prelude.{◌≡◌, ◌+◌, ◌≤◌, ◌^◌, IfOk};
-ghost use Rattle.edi_timed.specs.Ran as spec;
+ghost use Rattle.edi_waits.specs.Places as spec;
 
 use edi_kernel::Kernel;
 use edi_target::Code;

@@ -6,7 +6,7 @@ ghost use Rattle.edi_calls.specs.Names.{Name};
 ghost use Rattle.edi_calls.specs.State.{State};
 ghost use Rattle.edi_target.specs.Mach.{Machine};
 ghost use Rattle.edi_trace.specs.Drawn.{Drawn};
-ghost use Rattle.edi_kernel.specs.Kernel.{ended_by, fault_of};
+ghost use Rattle.edi_kernel.specs.Kernel.{IsKernel, ended_by, fault_of};
 ghost use Rattle.edi_kernel.specs.Named.{HoldsBy};
 ghost use Rattle.edi_kernel.specs.TableIsMachine.{Naming};
 ghost use Rattle.edi_waits.specs.Names.{FollowsNames, LivesBefore, waiting_below};
@@ -54,6 +54,7 @@ fn follow_names(
 
 /// Takes the next process, if one is ready.
 fn proceed(kernel: &mut Kernel, choices: &mut Choices) -> Option<Ending>
+    requires kernel { IsKernel kernel.old }
     requires free { kernel.old.taken ≡ None }
     ensures exact { choices.old.drawn < 2 ^ 64 - 1 → (n : Naming) (m : Machine) (ready : List Name) → HoldsBy n kernel.old m None ready
         → ProceedsBy result n kernel.old kernel.new m choices.old choices.new ready }
@@ -64,6 +65,7 @@ fn proceed(kernel: &mut Kernel, choices: &mut Choices) -> Option<Ending>
     ensures entering { kernel.new.entering ≡ kernel.old.entering }
     ensures turns { kernel.new.used ≡ kernel.old.used }
     ensures fault { fault_of result ≡ None }
+    ensures kernel { IsKernel kernel.new }
 {
     if kernel.ready() == 0 {
         return Some(Ending::Standstill);
@@ -82,6 +84,7 @@ fn round<C: Calls>(
     choices: &mut Choices,
     names: &mut Names,
 ) -> Result<Option<Ending>, AllocError>
+    requires kernel { IsKernel kernel.old }
     requires taken { IsSome kernel.old.taken }
     requires working { C.failed calls.old None }
     requires used { kernel.old.used ≤ bound }
@@ -97,6 +100,7 @@ fn round<C: Calls>(
     ensures source { IfOk result (λ end. choices.new.source ≡ choices.old.source) }
     ensures drawn { IfOk result (λ end. choices.new.drawn + kernel.old.used ≤ choices.old.drawn + kernel.new.used) }
     ensures wide { IfOk result (λ end. length names.new.of.items ≡ 32) }
+    ensures kernel { IfOk result (λ end. IsKernel kernel.new) }
 {
     let slot = kernel.taken();
     let before = kernel.ready();

@@ -4,7 +4,7 @@ use Rattle.edi_target.specs.Op.{address_of_words}
 use Rattle.edi_target.specs.Memory.{word}
 use Rattle.edi_kernel.specs.declared.frames.Below.{Below}
 use Rattle.edi_kernel.specs.Kept.{below_of, leads_down}
-use Rattle.edi_timed.specs.Ran.{call_lines, line_before}
+use Rattle.edi_waits.specs.Places.{call_lines, line_before}
 
 module _ (words memory : List ℕ) (first base : ℕ) where
   abbrev here : Below
