@@ -1,5 +1,5 @@
 -- Words of contracts. The endings that a search has found, with choices that bring them about.
-use Rattle.std.specs.Prelude.{◌≡◌, ◌<◌, ◌≤◌, ℕ, Bool, true, false, List, [], ◌∷◌, length, slice_get, All, Contains, Option, Some, None, ⊤}
+use Rattle.std.specs.Prelude.{◌≡◌, ◌≤◌, ℕ, Bool, true, false, List, [], ◌∷◌, length, slice_get, Contains, Option, Some, None, ⊤}
 use Rattle.edi_calls.specs.Choice.{listed}
 use Rattle.edi_calls.specs.Outcome as outcome
 use Rattle.edi_calls.specs.Outcome.{Outcome}
@@ -13,21 +13,8 @@ use Rattle.edi_explored.specs.machine.Kernels.{ending_of}
 use Rattle.edi_waits.specs.Told.{all_of}
 use Rattle.edi_waits.specs.Waits.{StandsSo, Waiting}
 use Rattle.edi_explore.specs.declared.ends.Found.{Found}
+pub use Rattle.edi_explore.specs.Choices.{AreChoices, most_choices, most_turns}
 use Rattle.edi_explore.specs.Offline.{offline}
-
--- the turns that a record may have, and its choices
-abbrev pub most_turns : ℕ
-most_turns = 1000000000
-
-abbrev pub most_choices : ℕ
-most_choices = 65536
-
--- a choice of a record is a byte
-abbrev pub IsChoice : ℕ → Type 0
-IsChoice choice = choice < 256
-
-abbrev pub AreChoices : List ℕ → Type 0
-AreChoices choices = All IsChoice choices
 
 -- the execution that these choices select, of at most so many turns, ends so, after as many as are told
 pub record Selects (most : ℕ) (unit : ProgramUnit) (input : List ℕ) (found : Found) (end : outcome.Ending) : Type 0 where

@@ -1,7 +1,6 @@
 -- Words of contracts. What a search answers.
 use Rattle.std.specs.Prelude.{◌≡◌, ◌⊎◌, ◌<◌, ◌≤◌, ℕ, List, length, ⊤}
 use Rattle.edi_calls.specs.Choice.{listed}
-use Rattle.edi_calls.specs.Outcome as outcome
 use Rattle.edi_calls.specs.Outcome.{Outcome}
 use Rattle.edi_unit.specs.Tree.{ProgramUnit}
 use Rattle.edi_meaning.specs.Select.{Select}
@@ -18,7 +17,8 @@ use Rattle.edi_explore.specs.declared.finding.Search.{Search}
 use Rattle.edi_explore.specs.declared.step.GivenUp.{GivenUp}
 use Rattle.edi_explore.specs.declared.step.GivenUp.TheVariants as given_up
 use Rattle.edi_explore.specs.Expand.{HasBegun}
-use Rattle.edi_explore.specs.Found.{AreChoices, endings_of, most_choices}
+use Rattle.edi_explore.specs.Choices.{AreChoices, most_choices, turn_limit}
+use Rattle.edi_explore.specs.Found.{endings_of}
 use Rattle.edi_explore.specs.Offline.{offline}
 
 -- the verdict where all executions of fewer moves were followed, and these
@@ -46,10 +46,6 @@ IsUpTo (verdict.Unrecorded moves) n = n ≡ moves
 IsUpTo (verdict.NoMemory moves) n = n ≡ moves
 
 -- ---- a cut
-
--- how an execution ends that its bound cuts
-abbrev pub turn_limit : outcome.Ending
-turn_limit = outcome.turns
 
 -- the execution that these choices select has more than so many turns; a record may have the choices
 pub record IsCutBy (turns : ℕ) (unit : ProgramUnit) (input choices : List ℕ) : Type 0 where

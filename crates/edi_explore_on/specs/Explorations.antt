@@ -1,6 +1,6 @@
 -- Definition. THE EXPLORATION OF A TEXT: the endings that choices bring about, and whether these are all. Said of the executions of the text
 -- on a system with an input, without disk and files.
-use Rattle.std.specs.Prelude.{◌≡◌, ℕ, suc, ◌<◌, ◌≤◌, List, [], ◌∷◌, length, slice_get, All, Contains, Some, ⊤}
+use Rattle.std.specs.Prelude.{◌≡◌, ℕ, suc, ◌<◌, ◌≤◌, List, [], ◌∷◌, length, slice_get, Contains, Some, ⊤}
 use Rattle.edi_calls.specs.Choice.{listed}
 use Rattle.edi_calls.specs.Outcome as outcome
 use Rattle.edi_calls.specs.Outcome.{Ending, Outcome}
@@ -13,7 +13,7 @@ use Rattle.edi_waits.specs.Waits.{StandsSo, Waiting}
 use Rattle.edi_explore.specs.declared.ends.Verdict.{Verdict}
 use Rattle.edi_explore.specs.declared.ends.Verdict.TheVariants as verdict
 use Rattle.edi_explore.specs.Offline.{offline}
-use Rattle.edi_explore.specs.Verdicts.{turn_limit}
+pub use Rattle.edi_explore.specs.Choices.{AreChoices, most_choices, most_turns, turn_limit}
 
 -- ---- what is found
 
@@ -36,13 +36,6 @@ abbrev pub endings_in : List Reached → List Ending
 endings_in [] = []
 endings_in (one ∷ found) = one.ending ∷ endings_in found
 
--- the turns that an execution may have which is recorded, and its choices
-abbrev pub most_turns : ℕ
-most_turns = 1000000000
-
-abbrev pub most_choices : ℕ
-most_choices = 65536
-
 -- An ending that is found: no bound has cut the execution, and no instruction was without a meaning.
 abbrev pub IsFound : Ending → Type 0
 IsFound outcome.done = ⊤
@@ -51,13 +44,6 @@ IsFound (outcome.failed why line) = ⊤
 IsFound outcome.turns = ⊥
 IsFound outcome.standstill = ⊤
 IsFound (outcome.bad address) = ⊥
-
--- a choice that a file of choices may have
-abbrev pub IsChoice : ℕ → Type 0
-IsChoice choice = choice < 256
-
-abbrev pub AreChoices : List ℕ → Type 0
-AreChoices choices = All IsChoice choices
 
 -- WHO WAITS WHERE: with these choices the code of the text stands still in a machine in which these processes stand at a `when`, at these lines,
 -- and no others do. After another ending nobody is told.

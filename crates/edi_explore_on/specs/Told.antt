@@ -1,7 +1,9 @@
 -- Words of contracts. What a report of the search finds, as plain data; and what reading an input takes of it.
-use Rattle.std.specs.Prelude.{◌≡◌, ℕ, ◌<◌, ◌≤◌, suc, List, [], ◌++◌, length, drop, map, Result, Ok, Err}
+use Rattle.std.specs.Prelude.{◌≡◌, ℕ, ◌<◌, ◌≤◌, suc, List, [], ◌∷◌, ◌++◌, length, drop, map, Result, Ok, Err, codes}
 use Rattle.std.specs.Global.{Vec}
 use Rattle.edi_timeline.specs.Told.{meant}
+use Rattle.edi_timeline.specs.Text.{branch_text}
+use Rattle.edi_waits.specs.declared.names.Branch.{Branch}
 use Rattle.edi_waits.specs.Told.{all_of}
 use Rattle.edi_explore.specs.declared.ends.Found as code_found
 use Rattle.edi_explore.specs.declared.ends.Report as code_report
@@ -15,6 +17,11 @@ reached_of f = record { ending = meant f.ending; choices = f.choices.items; turn
 
 abbrev pub findings_of : code_report.Report → Findings
 findings_of r = record { endings = map reached_of r.found.items; verdict = r.verdict; states = r.states; cut = r.cut.items }
+
+-- `/1.2` for each branch
+abbrev pub more_branches : List Branch → List ℕ
+more_branches [] = []
+more_branches (branch ∷ branches) = codes "/" ++ (branch_text branch.fork branch.number ++ more_branches branches)
 
 -- these first bytes of an input were taken
 abbrev pub HasTaken : (taken old new : List ℕ) → Type 0
