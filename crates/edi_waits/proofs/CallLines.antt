@@ -1,5 +1,5 @@
 -- The lines of the calls that lead to a frame, by the frame below it.
-use Rattle.std.proofs.Common.{◌≡◌, ℕ, suc, ◌+◌, Bool, true, false, if◌then◌else◌, List, [], ◌∷◌, Option, Some, None, refl, sym, ap, ◌∙◌}
+use Rattle.std.proofs.Common.{◌≡◌, ℕ, suc, ◌+◌, Bool, true, false, if◌then◌else◌, List, [], ◌∷◌, Some, None, refl, ap}
 use Rattle.edi_target.specs.Op.{address_of_words}
 use Rattle.edi_target.specs.Memory.{word}
 use Rattle.edi_kernel.specs.declared.frames.Below.{Below}

@@ -2,18 +2,13 @@
 use Rattle.std.proofs.Common.{◌≡◌, ◌⊎◌, inl, inr, ℕ, zero, suc, ◌<◌, Bool, true, false, ◌&&◌, if◌then◌else◌, List, [], ◌∷◌, ◌++◌, length, Contains, Some, refl, sym, ap, subst, ◌∙◌}
 use Rattle.std.proofs.Common.{arith, append-nil, slice_get, None, ◌≤◌}
 use Rattle.std.proofs.lemmas.Bool.{cases_lt}
-use Rattle.edi_calls.specs.Names.{Name, find, names}
-use Rattle.edi_calls.specs.Ready.{has}
+use Rattle.edi_calls.specs.Names.{Name, find}
 use Rattle.edi_target.specs.Mach.{Activity, Machine, at_when}
-use Rattle.edi_target.specs.Mach as mach
 use Rattle.edi_kernel.specs.declared.table.Standing.{Standing}
 use Rattle.edi_kernel.specs.declared.table.Standing.TheVariants as standing
-use Rattle.edi_kernel.specs.declared.table.Process.{Process}
-use Rattle.edi_kernel.specs.declared.table.Table.{Table}
 use Rattle.edi_kernel.specs.declared.state.KernelState.{KernelState}
 use Rattle.edi_kernel.specs.Table.{is_live, process_at}
 use Rattle.edi_kernel.specs.TableIsMachine.{Naming, TableIsMachine, entry_of, standing_of}
-use Rattle.edi_kernel.specs.Kernel.{Holds}
 use Rattle.edi_kernel.specs.Named.{HoldsBy}
 use Rattle.edi_kernel.proofs.Again.{found_has}
 use Rattle.edi_kernel.proofs.Changes.{live_below}

@@ -1,6 +1,6 @@
 -- The names of processes: at the start, over a stint, and over a choice.
-use Rattle.std.proofs.Common.{◌≡◌, ◌⊎◌, inl, inr, ℕ, zero, suc, ◌+◌, ◌-◌, ◌^◌, ◌<◌, ◌≤◌, min, Bool, true, false, if◌then◌else◌, List, [], ◌∷◌, length, Option}
-use Rattle.std.proofs.Common.{Some, None, refl, sym, ap, subst, ◌∙◌, arith, slice_get, nat_eq, ◌==◌, slice_index_or, replicate, nat_lt, not, ◌&&◌}
+use Rattle.std.proofs.Common.{◌≡◌, inl, inr, ℕ, zero, suc, ◌+◌, ◌-◌, ◌^◌, ◌<◌, ◌≤◌, Bool, true, false, if◌then◌else◌, List, [], ◌∷◌, length, Option}
+use Rattle.std.proofs.Common.{Some, None, refl, sym, ap, ◌∙◌, arith, slice_get, ◌==◌, slice_index_or, replicate, nat_lt, not, ◌&&◌}
 use Rattle.std.proofs.lemmas.Bool.{cases_eq, cases_lt, eqb-true}
 use Rattle.edi_calls.specs.Names.{Name, find, same}
 use Rattle.edi_calls.specs.Ready.{child, stays}
@@ -38,7 +38,7 @@ names_stay names n old new used later lives le a = record {
 module _ (names next : Names) (n after : Naming) (old new : Table) (fork number used later : ℕ) (taken : Option ℕ) (g : NamesGrow fork number taken old new n after)
     (lives : is_live old g.slot ≡ true) (more : used < later) (small : later < 2 ^ 32) (a : AreNames names n old used)
     (joined : (k i : ℕ) → length (ready_slots old) ≤ k → slice_get (ready_slots new) k ≡ Some i →
-        after.name i ≡ child (n.name g.slot) fork (k - length (ready_slots old)))
+    after.name i ≡ child (n.name g.slot) fork (k - length (ready_slots old)))
     (once : (i j x : ℕ) → slice_get (ready_slots new) i ≡ Some x → slice_get (ready_slots new) j ≡ Some x → i ≡ j)
     (within : (k i : ℕ) → slice_get (ready_slots new) k ≡ Some i → k < length (ready_slots new))
     (b : Bears g.slot (length (ready_slots old)) (length (ready_slots new)) (ready_slots new) names next)
@@ -78,9 +78,9 @@ module _ (names next : Names) (n after : Naming) (old new : Table) (fork number 
   forks_are : (i : ℕ) → is_live new i ≡ true → (forks_at next i ≡ after.forks i) × (forks_at next i ≤ later)
   forks_are i l = elim (cases_eq i g.slot) [
     | inl same ↦ (
-        ap (forks_at next) same ∙ forked ∙ same_fork ∙ sym g.forked ∙ ap after.forks (sym same),
-        omega (arith, ap (forks_at next) same, forked, a.few g.slot lives, more),
-      )
+      ap (forks_at next) same ∙ forked ∙ same_fork ∙ sym g.forked ∙ ap after.forks (sym same),
+      omega (arith, ap (forks_at next) same, forked, a.few g.slot lives, more),
+    )
     | inr other ↦ go other (is_live old i) refl
   ]
     where

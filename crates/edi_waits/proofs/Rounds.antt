@@ -1,5 +1,5 @@
 -- Rounds of a run whose processes are named.
-use Rattle.std.proofs.Common.{◌≡◌, ℕ, zero, suc, ◌-◌, ◌^◌, ◌<◌, ◌≤◌, false, List, [], ◌∷◌, ◌++◌, length, map, Option, Some, None, refl, sym, ap, subst, ◌∙◌, arith}
+use Rattle.std.proofs.Common.{◌≡◌, ℕ, suc, ◌-◌, ◌^◌, ◌<◌, ◌≤◌, false, List, [], ◌∷◌, ◌++◌, length, map, Option, Some, None, refl, sym, ap, subst, ◌∙◌, arith}
 use Rattle.std.proofs.Common.{slice_get, replicate, true, ◌+◌, Result, Ok, Err, IfOk, IfSome}
 use Rattle.std.specs.Global.{Vec}
 use Rattle.std.proofs.lemmas.Option.{slice_get_within}
@@ -13,7 +13,7 @@ use Rattle.edi_calls.specs.State.{State}
 use Rattle.edi_target.specs.Op.{Instruction}
 use Rattle.edi_target.specs.Check.{CodeParts}
 use Rattle.edi_target.specs.Fetch.{fetch}
-use Rattle.edi_target.specs.Mach.{Machine, MachineRun, after_step, entered, finished, go_on, run, went}
+use Rattle.edi_target.specs.Mach.{Machine, after_step, entered, finished, go_on, run, went}
 use Rattle.edi_trace.specs.Drawn.{Drawn}
 use Rattle.edi_kernel.specs.declared.ends.Ending.{Ending}
 use Rattle.edi_kernel.specs.declared.ends.Ending.TheVariants as ending
@@ -33,7 +33,7 @@ use Rattle.edi_waits.specs.declared.names.Names.{Names}
 use Rattle.edi_waits.specs.declared.waits.Wait.{Wait}
 use Rattle.edi_waits.specs.Told.{all_of}
 use Rattle.edi_waits.specs.Names.{AreNames, FollowsNames, LivesBefore, name_at, waiting_below}
-use Rattle.edi_waits.specs.Runs.{Comes, ComesFrom, Going, ProceedsBy, Stands}
+use Rattle.edi_waits.specs.Runs.{Comes, Going, ProceedsBy, Stands}
 use Rattle.edi_waits.specs.Waits.{AreWaiting, StandsSo, Waiting}
 use Rattle.edi_waits.proofs.Naming.{first_alone, names_begin, names_grow, names_stay}
 use Rattle.edi_waits.proofs.Listed.{are_waiting}

@@ -1,5 +1,5 @@
 -- Words of contracts. What is told of a process that waits, as plain data.
-use Rattle.std.specs.Prelude.{ℕ, List, [], ◌∷◌, map}
+use Rattle.std.specs.Prelude.{List, [], ◌∷◌, map}
 use Rattle.std.specs.Global.{Vec}
 use Rattle.edi_calls.specs.Names.{Name}
 use Rattle.edi_waits.specs.declared.names.Branch.{Branch}

@@ -28,11 +28,7 @@ pub(crate) struct Names {
 }
 
 /// The name of a child of this process. The only error is want of memory.
-fn child_of(
-    alloc: Global,
-    parent: &[Branch],
-    branch: Branch,
-) -> Result<Vec<Branch>, AllocError>
+fn child_of(alloc: Global, parent: &[Branch], branch: Branch) -> Result<Vec<Branch>, AllocError>
     ensures exact { IfOk result (λ name. name_of name.items ≡ child (name_of parent.now) branch.fork branch.number) }
 {
     let mut name = Vec::from_slice(alloc, parent)?;

@@ -1,6 +1,5 @@
 -- The stint ends the run, or the next process is taken.
-use Rattle.std.proofs.Common.{◌≡◌, ℕ, ◌-◌, Option, length, sym, ap, subst, ◌∙◌, arith}
-use Rattle.edi_kernel.specs.Table.{ready_slots}
+use Rattle.std.proofs.Common.{ℕ, ◌-◌, Option, sym, ap, subst, ◌∙◌, arith}
 use Rattle.edi_waits.specs.Names.{FollowsNames}
 use Rattle.edi_waits.proofs.Rounds.{not_over, told_on, told_over}
 use Rattle.edi_waits.proofs.runs.round.Goals as goal

@@ -1,8 +1,8 @@
 -- Round after round.
-use Rattle.std.proofs.Common.{◌≡◌, Option, refl, sym, ap, subst, ◌∙◌, arith}
+use Rattle.std.proofs.Common.{Option, refl, subst, arith}
 use Rattle.edi_told.specs.Told.{WhereTold}
 use Rattle.edi_kernel.specs.declared.ends.Ending.{Ending}
-use Rattle.edi_waits.proofs.Rounds.{AnyRound, goes_more, goes_out, told_begins}
+use Rattle.edi_waits.proofs.Rounds.{AnyRound, goes_out, told_begins}
 use Rattle.edi_waits.proofs.runs.stand_still.Goals as goal
 
 pub rounds-init : goal.rounds-init

@@ -1,13 +1,12 @@
 -- Slot after slot.
-use Rattle.std.proofs.Common.{◌≡◌, suc, ◌+◌, ◌++◌, ◌∷◌, [], List, ℕ, Bool, true, false, ◌&&◌, if◌then◌else◌, map, length, refl, sym, ap, ◌∙◌, arith}
+use Rattle.std.proofs.Common.{◌≡◌, suc, ◌+◌, ◌++◌, ◌∷◌, [], List, Bool, true, false, ◌&&◌, if◌then◌else◌, map, length, refl, sym, ap, ◌∙◌, arith}
 use Rattle.std.proofs.lemmas.Option.{slice_get_read}
 use Rattle.std.proofs.lemmas.List.{map-append}
 use Rattle.edi_machine.specs.declared.activity.Activity.{Activity}
 use Rattle.edi_kernel.specs.Table.{is_live, process_at}
-use Rattle.edi_waits.specs.declared.waits.Wait.{Wait}
 use Rattle.edi_waits.specs.Names.{is_at_when, name_at, name_or_none, waiting_at, waiting_below}
 use Rattle.edi_waits.specs.Places.{place}
-use Rattle.edi_waits.specs.Told.{all_of, name_of, waiting_of}
+use Rattle.edi_waits.specs.Told.{name_of, waiting_of}
 use Rattle.edi_waits.specs.Waits.{Waiting}
 use Rattle.edi_waits.proofs.waits.waits_in.Goals as goal
 

@@ -1,5 +1,5 @@
 -- One empty name more.
-use Rattle.std.proofs.Common.{◌≡◌, ℕ, length, sym, ap, ◌∙◌, arith, slice_get}
+use Rattle.std.proofs.Common.{length, ap, ◌∙◌, arith, slice_get}
 use Rattle.edi_waits.specs.Names.{name_or_none}
 use Rattle.edi_waits.proofs.Lists.{none_more}
 use Rattle.edi_waits.proofs.names.Names.first.Goals as goal
