@@ -2,13 +2,16 @@
 use Rattle.std.proofs.Common.{◌≡◌, ℕ, zero, suc, ◌-◌, ◌≤◌, length, map, get_or, Bool, true, false, if◌then◌else◌, List, [], ◌∷◌, ◌++◌, All, Option, Some, None, refl, sym, ap, subst, ◌∙◌, arith}
 use Rattle.std.specs.Prelude.{◌==◌, ◌<◌, ◌+◌, nat_lt}
 use Rattle.std.proofs.lemmas.Bool.{eqb-true, false≢true}
+use Rattle.std.specs.Option.{option_map}
 use Rattle.edi_unit.specs.Tree.{ProgramUnit}
+use Rattle.edi_machine.specs.declared.activity.Activity.{Activity}
 use Rattle.edi_target.specs.Arrivals.{Arrived}
 use Rattle.edi_scheme.specs.Awaits.{await_address}
 use Rattle.edi_sights.specs.declared.answer.Sight.{Sight}
 use Rattle.edi_debug.specs.declared.answer.Point.{Point}
 use Rattle.edi_debug.specs.Points.{watched}
-use Rattle.edi_debug.specs.stops.Near.{is_near, TellsSight, TellsPoint, TellsPoints}
+use Rattle.edi_debug.specs.Looking.{arrived_now, stop_now}
+use Rattle.edi_debug.specs.stops.Near.{is_near, may_stop, TellsSight, TellsPoint, TellsPoints}
 use Rattle.edi_debug.specs.stops.Stops.{Watched, each_in}
 use Rattle.edi_debug.specs.stops.Watching.{is_address_here, slot_lines, sight_lines, point_lines, stop_lines}
 
@@ -37,6 +40,21 @@ module _ (unit : ProgramUnit) (bound : ℕ) (table : List Bool) (y : Arrived) (f
 
   pub nothing_near : (points : List Watched) → TellsPoints unit table points → stop_lines unit bound points y ≡ []
   nothing_near points tells = none_in (point_lines unit bound y) points (λ i d l. no_lines _ (tells i d l))
+
+-- where no process stands, or none at such an address, nothing is logged
+pub nothing_stands : (unit : ProgramUnit) (bound : ℕ) (table : List Bool) (memory : List ℕ) (used : ℕ) (o : Option Activity) (points : List Watched)
+    → may_stop table o ≡ false → TellsPoints unit table points → stop_now unit bound memory o used points ≡ []
+nothing_stands unit bound table memory used None points far tells = refl
+nothing_stands unit bound table memory used (Some a) points far tells = nothing_near unit bound table (arrived_now memory a (bound - used)) far points tells
+
+-- by the address alone
+pub stops_at : (table : List Bool) (o : Option Activity) (at : ℕ) → option_map (λ (a : Activity). a.pc) o ≡ Some at → is_near table at ≡ may_stop table o
+stops_at table None at e = absurd (cc)
+stops_at table (Some a) at e = let h : a.pc ≡ at = cc in ap (is_near table) (sym h)
+
+pub stops_nowhere : (table : List Bool) (o : Option Activity) → option_map (λ (a : Activity). a.pc) o ≡ None → false ≡ may_stop table o
+stops_nowhere table None e = refl
+stops_nowhere table (Some a) e = absurd (cc)
 
 -- ---- the table, as it is filled
 

@@ -19,6 +19,7 @@ ghost use Rattle.edi_scheme.specs.Awaits.{await_address};
 ghost use Rattle.edi_code.specs.Mapped.{IsMapped};
 ghost use Rattle.edi_debug.specs.stops.Kept.{Kept, after_lines};
 ghost use Rattle.edi_debug.specs.stops.Stops.{each_in};
+ghost use Rattle.edi_debug.specs.stops.Near as near_spec;
 ghost use Rattle.edi_debug.specs.stops.Near.{TellsPoints};
 ghost use Rattle.edi_debug.specs.stops.Seen.{IsElementaryVariable, PointsFit, SightFits};
 ghost use Rattle.edi_debug.specs.stops.Watching as spec;
@@ -157,12 +158,22 @@ struct Stops<'a> {
     near: &'a Near,
 }
 
-/// Logs what the points say where the last stint left its process at its `when`. At most `when`s no point stands, and the table
-/// of addresses tells so at once.
+/// Whether a point may stand where the last stint left its process at its `when`. Its activity is not read for that.
+#[inline(always)]
+fn may_stop(kernel: &Kernel, near: &Near) -> bool
+    ensures exact { result ≡ near_spec.may_stop near.now kernel.now.arrived }
+{
+    match kernel.standing_at() {
+        Some(at) => is_near(near, at),
+        None => false,
+    }
+}
+
+/// Logs what the points say where the last stint left its process at its `when`.
 #[tactic(auto, using(crate::proofs::Logged::grows_none))]
-fn log_stop(kernel: &Kernel, stops: &Stops<'_>, log: &mut Log)
+#[inline(never)]
+fn log_standing(kernel: &Kernel, stops: &Stops<'_>, log: &mut Log)
     requires named { AreNamed stops.now.points.now }
-    requires near { (unit : ProgramUnit) → IsMapped unit stops.now.mapped.now → TellsPoints unit stops.now.near.now (watched_in stops.now.points.now) }
     ensures exact { (unit : ProgramUnit) (bound : ℕ) → IsMapped unit stops.now.mapped.now → PointsFit unit (watched_in stops.now.points.now) →
         kernel.now.used ≤ bound →
         log.new ≡ after_lines (stop_now unit bound kernel.now.store kernel.now.arrived kernel.now.used (watched_in stops.now.points.now)) log.old }
@@ -171,16 +182,30 @@ fn log_stop(kernel: &Kernel, stops: &Stops<'_>, log: &mut Log)
     let Some(activity) = kernel.standing() else {
         return;
     };
-    if is_near(stops.near, activity.pc) {
-        let turns = kernel.turns_used();
-        log_points(
-            kernel,
-            stops.mapped,
-            stops.points.items.as_slice(),
-            &activity,
-            turns,
-            log,
-        );
+    let turns = kernel.turns_used();
+    log_points(
+        kernel,
+        stops.mapped,
+        stops.points.items.as_slice(),
+        &activity,
+        turns,
+        log,
+    );
+}
+
+/// The same. At most `when`s no point stands, and the table of addresses tells so at once.
+#[tactic(auto, using(crate::proofs::Logged::grows_none))]
+#[inline(always)]
+fn log_stop(kernel: &Kernel, stops: &Stops<'_>, log: &mut Log)
+    requires named { AreNamed stops.now.points.now }
+    requires near { (unit : ProgramUnit) → IsMapped unit stops.now.mapped.now → TellsPoints unit stops.now.near.now (watched_in stops.now.points.now) }
+    ensures exact { (unit : ProgramUnit) (bound : ℕ) → IsMapped unit stops.now.mapped.now → PointsFit unit (watched_in stops.now.points.now) →
+        kernel.now.used ≤ bound →
+        log.new ≡ after_lines (stop_now unit bound kernel.now.store kernel.now.arrived kernel.now.used (watched_in stops.now.points.now)) log.old }
+    ensures grows { Grows log.old log.new }
+{
+    if may_stop(kernel, stops.near) {
+        log_standing(kernel, stops, log);
     }
 }
 

@@ -1,9 +1,7 @@
 -- The arrivals of a selection and those of the run of its code are the same, one after another.
 use Rattle.std.proofs.Common.{◌≡◌, ℕ, zero, suc, inl, Bool, true, false, ◌||◌, if◌then◌else◌, List, [], ◌∷◌, ◌++◌, ◌+◌, Option, Some, None, refl, sym, subst, ap, ◌∙◌}
-use Rattle.std.specs.Prelude.{⊤}
 use Rattle.edi_calls.specs.Choice.{Choices}
 use Rattle.edi_calls.specs.Names.{Name, find}
-use Rattle.edi_calls.proofs.Names.{some_is}
 use Rattle.edi_calls.specs.Outcome as outcome
 use Rattle.edi_calls.specs.Outcome.{Ending}
 use Rattle.edi_calls.proofs.Tables.{same-refl}
@@ -25,14 +23,14 @@ use Rattle.edi_target.specs.Mach as target
 use Rattle.edi_target.specs.Mach.{Activity, Machine}
 use Rattle.edi_follows.specs.places.Coded.{Coded}
 use Rattle.edi_follows.specs.places.Related.{standing_of, activity, IsPlaced, Related, MayStep}
-use Rattle.edi_follows.specs.places.Lands.{step, Passes, EndsSo, StandsStill, LandsNext, LandsTested, Lands, Taken, StepClaim, StepsCohere, QueueAfter, StepsQueue, StartClaim}
+use Rattle.edi_follows.specs.places.Lands.{step, Passes, EndsSo, LandsNext, LandsTested, Lands, Taken, StepClaim, StepsCohere, QueueAfter, StepsQueue, StartClaim}
 use Rattle.edi_follows.specs.places.Lands.{Begins, BeginsNot}
 use Rattle.edi_meaning.specs.Arrivals.{Arrival, arrival_as, arrival_of, arrival_after, arrivals}
 use Rattle.edi_meaning.specs.Arrivals as meant
 use Rattle.edi_target.specs.Arrivals.{Arrived, arrived_as, arrived_in, arrived_at_end, arrived_after, arrived_on, arrived_next, arrived, arrived_from_start}
 use Rattle.edi_meaning.proofs.Arrivals.{step_stays_ready}
 use Rattle.edi_target.proofs.Arrivals.{stays_ready}
-use Rattle.edi_follows.specs.Arrivals.{StandsFor, AreAlike}
+use Rattle.edi_follows.specs.Arrivals.{AreAlike}
 use Rattle.edi_follows.proofs.Arrived.{none_by_names, alike_here}
 
 alike_append : (unit : _) (xs vs : List Arrival) (ys ws : List Arrived) → AreAlike unit xs ys → AreAlike unit vs ws → AreAlike unit (xs ++ vs) (ys ++ ws)

@@ -1,9 +1,8 @@
 -- A process that stands at a `when` in a state of the meaning stands there in the machine that agrees with it, with the words of its
 -- variables.
-use Rattle.std.proofs.Common.{◌≡◌, ℕ, zero, suc, ◌+◌, ◌-◌, ◌<◌, Bool, true, false, if◌then◌else◌, List, [], ◌∷◌, length, Option, Some, None, slice_get, refl, sym}
+use Rattle.std.proofs.Common.{◌≡◌, ℕ, ◌+◌, ◌-◌, ◌<◌, Bool, true, false, if◌then◌else◌, List, [], ◌∷◌, length, Some, None, slice_get, refl, sym}
 use Rattle.std.proofs.Common.{subst, ap, ◌∙◌, arith, IsTrue}
 use Rattle.std.proofs.lemmas.Bool.{lt-ltb}
-use Rattle.std.specs.Prelude.{⊤, nat_lt}
 use Rattle.edi_calls.specs.Names.{Name, Table, find, names, same}
 use Rattle.edi_calls.proofs.Names.{some_is}
 use Rattle.edi_store.specs.Memory.{words_at}
@@ -12,18 +11,16 @@ use Rattle.edi_unit.specs.declared.units.Parameter.{Parameter}
 use Rattle.edi_unit.specs.declared.units.Parameter.TheVariants as slot
 use Rattle.edi_unit.specs.Types.{is_elementary, size}
 use Rattle.edi_unit.specs.Values.{Value, IsOf, ordinal_of}
-use Rattle.edi_unit.specs.Tree.{Clauses, when_act}
+use Rattle.edi_unit.specs.Tree.{Clauses}
 use Rattle.edi_unit.specs.Need.{outer, slot_at}
 use Rattle.edi_meaning.specs.Store.{Spot, Location, Cell, value, location, Shape, shape, frame_at, reached, now, located, cell, get, IsLive}
 use Rattle.edi_meaning.specs.Store as store
-use Rattle.edi_meaning.specs.Evaluation.{World}
 use Rattle.edi_meaning.specs.Permitted as source
-use Rattle.edi_meaning.specs.Step.{Process, Processes, Position, Standing, ready, at_when, waiting}
+use Rattle.edi_meaning.specs.Step.{Process, Processes, Position, Standing, at_when}
 use Rattle.edi_meaning.specs.Laws.{IsWaiting}
 use Rattle.edi_meaning.proofs.Dangling.{Coherent, owner_waits}
 use Rattle.edi_meaning.proofs.Parents.{waiting_does_not_run}
 use Rattle.edi_target.specs.Memory.{word, level}
-use Rattle.edi_target.specs.Mach as target
 use Rattle.edi_target.specs.Mach.{Activity, Machine, is_first}
 use Rattle.edi_follows.specs.values.Words.{value_words, IsTable}
 use Rattle.edi_follows.proofs.values.Lengths.{values_are_long}
@@ -35,16 +32,15 @@ use Rattle.edi_follows.specs.places.Spots.{address, block_at, Holds, Leads, slot
 use Rattle.edi_follows.specs.places.Located.{IsAt, IsAwaited}
 use Rattle.edi_follows.specs.places.Scene.{Scene, Stands}
 use Rattle.edi_follows.specs.places.Instructions.{IsPart, Reaches}
-use Rattle.edi_follows.specs.places.Related.{standing_of, activity, Lives, IsPlaced, Related}
+use Rattle.edi_follows.specs.places.Related.{standing_of, activity, IsPlaced, Related}
 use Rattle.edi_follows.specs.places.Lands.{Stepping, scene}
-use Rattle.edi_follows.proofs.places.Places.{reached_live, level_is}
+use Rattle.edi_follows.proofs.places.Places.{level_is}
 use Rattle.edi_follows.proofs.places.Slots.{slot_is_in, HasValue, value_cell, HasLocation, location_cell}
 use Rattle.edi_follows.proofs.places.Effects.{word_is}
 use Rattle.edi_follows.proofs.places.Variables.{levels_reach}
 use Rattle.edi_follows.proofs.places.Stores.{parts_are_there}
 use Rattle.edi_follows.proofs.steps.Local.{stands}
-use Rattle.edi_scheme.specs.Sites.{site, statement, body_site}
-use Rattle.edi_scheme.specs.Awaits.{await_number, await_address, await_paths, block_awaits, place_of, variable_offset}
+use Rattle.edi_scheme.specs.Awaits.{await_paths, block_awaits, place_of, variable_offset}
 use Rattle.edi_scheme.proofs.Awaits.{await_stands}
 use Rattle.edi_meaning.specs.Arrivals.{Arrival, arrival_as, arrival_of}
 use Rattle.edi_target.specs.Arrivals.{Arrived, arrived_as, arrived_in}

@@ -25,7 +25,7 @@ use Rattle.edi_follows.proofs.Private.{private_words}
 use Rattle.edi_follows.proofs.Standstills.{never_bad, stands_by_marks}
 use Rattle.edi_follows.proofs.Wholes.{code_ends, to_machine, to_meaning, moments_to_machine, moments_to_meaning}
 
-entry_up : (types : List Shape) (blocks : List Block) (n m : ℕ) → n ≤ m → entry types blocks n ≤ entry types blocks m
+pub entry_up : (types : List Shape) (blocks : List Block) (n m : ℕ) → n ≤ m → entry types blocks n ≤ entry types blocks m
 entry_up types blocks n zero le = let e : n ≡ zero = omega arith in subst (λ k. entry types blocks k ≤ 0) (sym e) (omega arith)
 entry_up types blocks n (suc m) le = go (cases_lt n (suc m)) (entry_up types blocks n m)
   where
@@ -34,7 +34,7 @@ entry_up types blocks n (suc m) le = go (cases_lt n (suc m)) (entry_up types blo
     go (inr h) ih = let e : n ≡ suc m = omega arith in subst (λ k. entry types blocks n ≤ entry types blocks k) e (omega arith)
 
 -- what is read at an address is as long as the words of the instruction there
-fetched_long : (words : List ℕ) → AreWords words → (at : ℕ) (found : Instruction × ℕ) → fetch words at ≡ Some found →
+pub fetched_long : (words : List ℕ) → AreWords words → (at : ℕ) (found : Instruction × ℕ) → fetch words at ≡ Some found →
     found.1 ≡ at + length (words_of found.0)
 fetched_long words w at found e = go (decode (drop at words)) refl e
   where
@@ -44,7 +44,7 @@ fetched_long words w at found e = go (decode (drop at words)) refl e
     go None d e = absurd (cc)
     go (Some x) d e = subst (λ (y : Instruction × ℕ). y.1 ≡ at + length (words_of y.0)) (some_is e) (decode_reads words at x.0 x.1 w d).follows
 
-pub coded : (unit : ProgramUnit) → CanBeCoded unit → Coded
+abbrev pub coded : (unit : ProgramUnit) → CanBeCoded unit → Coded
 coded unit c =
     let words : AreWords (code_of unit) = code_is_words unit c.fits c.parts c.lines (omega (arith, c.short)) in
     record {
@@ -61,45 +61,37 @@ coded unit c =
 
 module _ (claim : (g : Coded) → StepClaim g) (start : (g : Coded) → StartClaim g) (cohere : StepsCohere) (queues : StepsQueue) where
   pub code_ends_as_meant : CodeEndsAsMeant
-  unfolding coded
   code_ends_as_meant unit c system bound choices ending end turns drawn order e =
       code_ends (coded unit c) (claim (coded unit c)) (start (coded unit c)) cohere queues system bound choices ending end turns drawn order e
 
   pub same_outcome : SameOutcome
-  unfolding coded
   same_outcome unit c system bound choices o = (
     to_machine (coded unit c) (claim (coded unit c)) (start (coded unit c)) cohere queues system bound choices o,
     to_meaning (coded unit c) (claim (coded unit c)) (start (coded unit c)) cohere queues system bound choices o,
   )
 
   pub same_moments : SameMoments
-  unfolding coded
   same_moments unit c system bound choices moment = (
     moments_to_machine (coded unit c) (claim (coded unit c)) (start (coded unit c)) cohere queues system bound choices moment,
     moments_to_meaning (coded unit c) (claim (coded unit c)) (start (coded unit c)) cohere queues system bound choices moment,
   )
 
   pub code_is_private : CodeIsPrivate
-  unfolding coded
   code_is_private unit c system bound choices m p others drawn i n u o a foreign =
       private_words (coded unit c) (claim (coded unit c)) (start (coded unit c)) cohere queues system choices bound m p others drawn i n u o a foreign
 
   -- each `cobegin` of a unit that fits has a branch
   branches : (unit : ProgramUnit) (c : CanBeCoded unit) → ForksHaveBranches (coded unit c).unit
-  unfolding coded
   branches unit c = fitting_forks_have_branches unit c.fits
 
   pub code_is_never_bad : CodeIsNeverBad
-  unfolding coded
   code_is_never_bad unit c system bound choices ending m drawn e =
       never_bad (coded unit c) (claim (coded unit c)) (start (coded unit c)) cohere queues (branches unit c) choices system bound ending m drawn e
 
   pub code_stands_by_marks : CodeStandsByMarks
-  unfolding coded
   code_stands_by_marks unit c system bound choices m drawn e =
       stands_by_marks (coded unit c) (claim (coded unit c)) (start (coded unit c)) cohere queues (branches unit c) choices system bound m drawn e
 
   pub code_arrives_as_meant : CodeArrivesAsMeant
-  unfolding coded
   code_arrives_as_meant unit c system bound choices ending end turns drawn order e =
       code_arrives (coded unit c) (claim (coded unit c)) (start (coded unit c)) cohere queues system bound choices ending end turns drawn order e

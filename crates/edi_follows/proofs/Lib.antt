@@ -10,6 +10,7 @@ pub mod Marking
 pub mod Standstills
 pub mod Zeros
 pub mod Start
+pub mod Lined
 pub mod Arrived
 pub mod Arrivals
 pub mod Whole

@@ -12,7 +12,7 @@ use Rattle.edi_target.specs.Op.{Instruction}
 use Rattle.edi_target.specs.Effect.{Local, Turn, entering, leaving, looping, arriving, again, forking, exiting, finishing, Effect, goes, released, asks, due}
 use Rattle.edi_target.specs.Effect.{fails, bad}
 use Rattle.edi_target.specs.Mach.{Running, Answer, on, behind, turned, over, ending_of, called, turn_from, settled, effect_at, local_step, Standing, ready}
-use Rattle.edi_target.specs.Mach.{at_when, waiting, Activity, Machine, Stepped, went, ended, running_of, activity_of, back, one_less, notified, at_turn}
+use Rattle.edi_target.specs.Mach.{at_when, Activity, Machine, Stepped, went, ended, running_of, activity_of, back, one_less, notified, at_turn}
 use Rattle.edi_target.specs.Mach.{kernel, is_first, step_of, step}
 
 -- an instruction alone never ends the run so

@@ -334,6 +334,7 @@ module _ (g : Coded) (long : ValuesAreLong) (zeros : ZeroIsZeros) (system : Stat
           subst (λ i. g.fetched stands.end ≡ Some (i, stands.after)) (returns_so B.result B refl no_result) stands.returns,
           refl,
           refl,
+          refl,
         ),
       )
 

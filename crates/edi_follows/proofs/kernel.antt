@@ -2,6 +2,7 @@
 -- has the claim for a step, `step_claim`, for the crates above.
 pub mod Lifting
 pub mod Kernels
+pub mod Attempted
 pub mod Meaning
 pub mod Steps
 pub mod Settled

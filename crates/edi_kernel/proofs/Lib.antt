@@ -29,3 +29,8 @@ pub mod Passed
 pub mod Keeping
 pub mod PutBacks
 pub mod Again
+pub mod NameLists
+pub mod Remembered
+pub mod Remembering
+pub mod StandsStill
+pub mod LastInstruction

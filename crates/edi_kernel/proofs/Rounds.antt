@@ -227,9 +227,11 @@ module _ (words : List ℕ) (bound : ℕ) (k : KernelState) (old : Drawn) (left 
 pub keeps_unready : (result : Option Ending) (k mid new : KernelState) → EndsUnready result mid new → mid.store ≡ k.store → mid.table ≡ k.table
     → mid.taken ≡ k.taken → (machine : Machine) (ready : List Name) → Holds k machine None ready → KeepsIf result new machine
 keeps_unready None k mid new h e f g machine ready holds = tt
-keeps_unready (Some ending.Standstill) k mid new h e f g machine ready holds =
-    (ready, holds_same k new machine None ready (ap (λ (x : KernelState). x.store) h.0 ∙ e) (ap (λ (x : KernelState). x.table) h.0 ∙ f)
-    (ap (λ (x : KernelState). x.taken) h.0 ∙ g) holds)
+keeps_unready (Some ending.Standstill) k mid new h e f g machine ready holds = (
+  ready,
+  holds_same k new machine None ready (ap (λ (x : KernelState). x.store) h.0 ∙ e) (ap (λ (x : KernelState). x.table) h.0 ∙ f)
+      (ap (λ (x : KernelState). x.taken) h.0 ∙ g) holds,
+)
 keeps_unready (Some ending.Done) k mid new h e f g machine ready holds = absurd h
 keeps_unready (Some (ending.Halted line)) k mid new h e f g machine ready holds = absurd h
 keeps_unready (Some (ending.Failed cause line)) k mid new h e f g machine ready holds = absurd h

@@ -10,3 +10,5 @@ pub mod Named
 pub mod Passed
 pub mod Kept
 pub mod Frames
+pub mod StandsStill
+pub mod LastInstruction

@@ -3,6 +3,7 @@
 ghost use Rattle.edi_kernel.specs.Passed.{FaultIsMoment, MomentAdds, MomentIsNewest, OfEveryRun, PastIsOfMoments};
 ghost use Rattle.edi_kernel.specs.Runs.{RunsAreTheMachines};
 ghost use Rattle.edi_kernel.specs.Kept.{StandsAgain};
+ghost use Rattle.edi_kernel.specs.StandsStill.{StandstillIsMarked};
 
 /// Where no choice had been drawn before, a run of the kernel has an outcome of the machine's definition.
 pub fn runs_are_the_machines()
@@ -34,4 +35,10 @@ pub fn fault_is_moment()
 /// count, marks, turns, the system and the order of the ready ones.
 pub fn stands_again()
     ensures law { StandsAgain }
+{}
+
+/// A run of any code comes to a standstill only by its marks, never because nobody is ready: then a process stands at its `when`, and each
+/// one that does not wait for children is marked.
+pub fn standstill_is_marked()
+    ensures law { StandstillIsMarked }
 {}

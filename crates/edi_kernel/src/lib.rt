@@ -24,7 +24,8 @@ ghost use Rattle.edi_machine.specs.Activities.{IsOrdered};
 ghost use Rattle.edi_target.specs.Mach.{Machine};
 ghost use Rattle.edi_kernel.specs.Table.{first_home, is_live, is_waiting, no_marks, process_at, ready_slots};
 ghost use Rattle.edi_kernel.specs.Stretch.{Blamed};
-ghost use Rattle.edi_kernel.specs.Kernel.{GoesTo, Holds, IsKernel, MayFail, StandsAfter, StandsAtEnd, fault_of, faulted, is_over, used_in};
+ghost use Rattle.edi_kernel.specs.Kernel.{GoesTo, Holds, IsKernel, MayFail, StandsAfter, StandsAtEnd, ended_by, fault_of, faulted, is_over, used_in};
+ghost use Rattle.edi_kernel.specs.LastInstruction.{IsEnded};
 ghost use Rattle.edi_kernel.specs.Kept.{IsCleared, IsKeptOf, IsMarkCount, IsWhole, LinesUp, PutsBack, TakesAt, below_of};
 ghost use Rattle.edi_kernel.specs.TableIsMachine.{Naming};
 ghost use Rattle.edi_kernel.specs.Named.{ChoosesBy, GoesBy, HoldsBy};
@@ -157,6 +158,7 @@ impl Kernel {
         ensures failed { MayFail result self.new.failed }
         ensures spent { is_over result ≡ false → 0 < used_in result }
         ensures used { used_in result ≤ turns_left }
+        ensures ended { IsEnded code.now.words self.new.store (ended_by result) }
         ensures later { (outside : Outside) → C.faults calls.old outside ≤ C.faults calls.new outside }
         ensures blame { Blamed (faulted result) (C.failed calls.new) (C.faults calls.old) (C.faults calls.new) }
         ensures references { C.references calls.new ≡ C.references calls.old }
@@ -290,6 +292,7 @@ impl Kernel {
         ensures stands { choices.old.drawn + bound < 2 ^ 64 → WhereTold (C.state calls.old) (C.state calls.new) (λ s t.
             StandsIn code.now s bound choices.old result self.new choices.new) }
         ensures standing { StandsAtEnd (Some result) self.new.table self.new.arrived }
+        ensures ended { IsEnded code.now.words self.new.store (Some result) }
         ensures used { self.new.used ≤ bound }
         ensures source { choices.new.source ≡ choices.old.source }
         ensures drawn { choices.new.drawn ≤ choices.old.drawn + bound }

@@ -13,6 +13,7 @@ ghost use Rattle.edi_kernel.specs.Stretch.{Blamed};
 ghost use Rattle.edi_kernel.specs.Kernel.{GoesTo, Holds, IsKernel, MayFail, ended_by, fault_of, faulted, is_over, later_by, used_in, StandsAfter, StandsAtEnd};
 ghost use Rattle.edi_kernel.specs.TableIsMachine.{Naming};
 ghost use Rattle.edi_kernel.specs.Named.{ChoosesBy, GoesBy, HoldsBy};
+ghost use Rattle.edi_kernel.specs.LastInstruction.{IsEnded};
 ghost use Rattle.edi_kernel.specs.Runs.{Chooses, EndsUnready, IsAt, Picks, Proceeds, Rounds, RunsTo, StandsIn, Started, TakesNext};
 
 use crate::ends::{Ending, StintEnd};
@@ -165,6 +166,7 @@ impl KernelState {
         ensures used { self.new.used ≤ bound }
         ensures spent { result ≡ None → self.old.used < self.new.used }
         ensures standing { StandsAtEnd result self.new.table self.new.arrived }
+        ensures ended { IsEnded code.now.words self.new.store result }
         ensures source { choices.new.source ≡ choices.old.source }
         ensures drawn { choices.new.drawn ≤ choices.old.drawn + 1 }
         ensures blame { Blamed (fault_of result) (C.failed calls.new) (C.faults calls.old) (C.faults calls.new) }
@@ -192,6 +194,7 @@ impl KernelState {
         ensures stands { choices.old.drawn + bound < 2 ^ 64 → WhereTold (C.state calls.old) (C.state calls.new) (λ s t.
             StandsIn code.now s bound choices.old result self.new choices.new) }
         ensures standing { StandsAtEnd (Some result) self.new.table self.new.arrived }
+        ensures ended { IsEnded code.now.words self.new.store (Some result) }
         ensures kernel { IsKernel self.new }
         ensures used { self.new.used ≤ bound }
         ensures source { choices.new.source ≡ choices.old.source }
@@ -237,6 +240,7 @@ impl KernelState {
         ensures failed { MayFail result self.new.failed }
         ensures spent { is_over result ≡ false → 0 < used_in result }
         ensures used { used_in result ≤ turns_left }
+        ensures ended { IsEnded code.now.words self.new.store (ended_by result) }
         ensures blame { Blamed (faulted result) (C.failed calls.new) (C.faults calls.old) (C.faults calls.new) }
         ensures lasts { CallsLast C.faults C.references C.leads calls.old calls.new }
         ensures turns { self.new.used ≡ min (self.old.used + used_in result) (2 ^ 64 - 1) }

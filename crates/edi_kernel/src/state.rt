@@ -21,12 +21,14 @@ ghost use Rattle.edi_kernel.specs.Kernel.{
   StandsAfter,
   StandsLast,
   attempt_end,
+  ended_by,
   faulted,
   is_failure,
   is_over,
   used_in,
 };
 ghost use Rattle.edi_kernel.specs.Named.{GoesBy, HoldsBy};
+ghost use Rattle.edi_kernel.specs.LastInstruction.{IsEnded, IsEndedAt};
 
 use crate::ends::{Ending, StintEnd};
 use crate::fork::{branch_count, fork};
@@ -212,6 +214,7 @@ impl KernelState {
             (local_of self.new.store progress.new.activity) }
         ensures less { progress.new.left ≤ progress.old.left }
         ensures spends { Spends (Some result) progress.old.left progress.new.left }
+        ensures ended { IsEndedAt code.now.words self.new.store (Some result) }
         ensures blame { Blamed (Some result) (C.failed calls.new) (C.faults calls.old) (C.faults calls.new) }
         ensures lasts { CallsLast C.faults C.references C.leads calls.old calls.new }
         ensures ordered { IsOrdered progress.new.activity }
@@ -234,6 +237,7 @@ impl KernelState {
         ensures standing { StandsAfter result self.old.taken (ready_slots self.old.table) self.new.table self.new.arrived }
         ensures failed { MayFail result self.new.failed }
         ensures used { used_in result ≤ left }
+        ensures ended { IsEnded code.now.words self.new.store (ended_by result) }
         ensures spent { is_over result ≡ false → 0 < used_in result }
         ensures blame { Blamed (faulted result) (C.failed calls.new) (C.faults calls.old) (C.faults calls.new) }
         ensures lasts { CallsLast C.faults C.references C.leads calls.old calls.new }

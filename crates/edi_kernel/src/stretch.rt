@@ -10,6 +10,7 @@ ghost use Rattle.edi_calls.specs.State.{State};
 ghost use Rattle.edi_store.specs.Copied.{IsMemory};
 ghost use Rattle.edi_machine.specs.Activities.{IsOrdered, local_of};
 ghost use Rattle.edi_calls.specs.Ends.{CallsLast};
+ghost use Rattle.edi_kernel.specs.LastInstruction.{IsEndedAt};
 ghost use Rattle.edi_kernel.specs.Stretch.{
   Allows,
   Blamed,
@@ -186,6 +187,7 @@ fn instruct<C: Calls>(
     ensures falls { Falls result code.now.words progress.old.left progress.old.activity.pc progress.new.left progress.new.activity.pc }
     ensures less { progress.new.left ≤ progress.old.left }
     ensures spends { Spends result progress.old.left progress.new.left }
+    ensures ended { IsEndedAt code.now.words store.new result }
     ensures blame { Blamed result (C.failed calls.new) (C.faults calls.old) (C.faults calls.new) }
     ensures lasts { CallsLast C.faults C.references C.leads calls.old calls.new }
     ensures ordered { IsOrdered progress.new.activity }
@@ -316,6 +318,7 @@ pub(crate) fn advance<C: Calls>(
     ensures allowed { Allows (Some result) code.now.words live first (local_of store.new progress.new.activity) }
     ensures less { progress.new.left ≤ progress.old.left }
     ensures spends { Spends (Some result) progress.old.left progress.new.left }
+    ensures ended { IsEndedAt code.now.words store.new (Some result) }
     ensures blame { Blamed (Some result) (C.failed calls.new) (C.faults calls.old) (C.faults calls.new) }
     ensures lasts { CallsLast C.faults C.references C.leads calls.old calls.new }
     ensures ordered { IsOrdered progress.new.activity }

@@ -14,3 +14,5 @@ pub mod Demonstrated
 pub mod Watched
 pub mod Walked
 pub mod Explored
+pub mod always
+pub mod OneEnd

@@ -43,7 +43,7 @@ use Rattle.edi_statuses.proofs.StepLemmas.{loads_one, old_one, finds_one, has_pl
 -- ---- executions
 
 -- a program has one outcome
-outcome_same : (program : Runnable) (system : State) (bound : ℕ) (choices : Choices) (one other : Outcome)
+pub outcome_same : (program : Runnable) (system : State) (bound : ℕ) (choices : Choices) (one other : Outcome)
     → HasOutcome program system bound choices one → HasOutcome program system bound choices other → one ≡ other
 outcome_same (text bytes) system bound choices one other h k = one_outcome bytes system bound choices one other h k
 outcome_same (code parts) system bound choices one other h k =
@@ -184,24 +184,24 @@ module _ (each : TextsAreOne) (before after behind : Outside) (is_told : IsTold 
       (there _ _ _ d.devices e.devices d.are e.are h.walked) (there _ _ _ d.devices f.devices d.are f.are k.walked) in
       (h.status_is ∙ ap status_of same.0 ∙ sym k.status_is, same.1)
 
-  text_steps : (file : List ℕ) (from : ChoicesFrom) → IsOne (RunSteps before file from)
+  pub text_steps : (file : List ℕ) (from : ChoicesFrom) → IsOne (RunSteps before file from)
   text_steps file from =
       then_one _ _ (fetches_one before is_told.files file) (λ bytes. then_one _ _ (choices_one before is_told.files from)
       (λ choices. then_one _ _ (accepts_one each bytes) (λ unit. then_one _ _ (mounts_one before is_told.blocks) (λ done. ready_one _))))
 
-  watch_steps : (file points_file : List ℕ) (from : ChoicesFrom) → IsOne (WatchSteps before file points_file from)
+  pub watch_steps : (file points_file : List ℕ) (from : ChoicesFrom) → IsOne (WatchSteps before file points_file from)
   watch_steps file points_file from =
       then_one _ _ (then_one _ _ (fetches_one before is_told.files file) (λ bytes. then_one _ _ (choices_one before is_told.files from)
       (λ choices. then_one _ _ (accepts_one each bytes) (λ unit. then_one _ _ (fetches_one before is_told.files points_file)
       (λ lines. then_one _ _ (finds_one bytes lines) (λ points. ready_one _))))))
       (λ a. then_one _ _ (mounts_one before is_told.blocks) (λ done. ready_one _))
 
-  code_steps : (file : List ℕ) (from : ChoicesFrom) → IsOne (ExecSteps before file from)
+  pub code_steps : (file : List ℕ) (from : ChoicesFrom) → IsOne (ExecSteps before file from)
   code_steps file from =
       then_one _ _ (fetches_one before is_told.files file) (λ bytes. then_one _ _ (choices_one before is_told.files from)
       (λ choices. then_one _ _ (loads_one bytes) (λ parts. then_one _ _ (mounts_one before is_told.blocks) (λ done. ready_one _))))
 
-  compile_steps : (file : List ℕ) → IsOne (TextSteps before file)
+  pub compile_steps : (file : List ℕ) → IsOne (TextSteps before file)
   compile_steps file =
       then_one _ _ (fetches_one before is_told.files file) (λ bytes. then_one _ _ (accepts_one each bytes) (λ unit. ready_one _))
 
@@ -214,24 +214,24 @@ module _ (each : TextsAreOne) (before after behind : Outside) (is_told : IsTold 
   unit_fits file a (inl never) = absurd never
   unit_fits file a (inr h) = accepted_fits h.0 a h.2
 
-  old_steps : (blocks : ℕ) (file : List ℕ) → IsOne (OldSteps before blocks file)
+  pub old_steps : (blocks : ℕ) (file : List ℕ) → IsOne (OldSteps before blocks file)
   old_steps blocks file =
       then_one _ _ (fetches_one before is_told.files file) (λ bytes. then_one _ _ (old_one bytes)
       (λ old. then_one _ _ (tests_one _ _) (λ done. ready_one _)))
 
-  put_steps : (file title : List ℕ) → IsOne (PutSteps before file title)
+  pub put_steps : (file title : List ℕ) → IsOne (PutSteps before file title)
   put_steps file title =
       then_one _ _ (fetches_one before is_told.files file) (λ bytes. then_one _ _ (tests_one _ _)
       (λ fits. then_one _ _ (mounts_one before is_told.blocks) (λ done. then_one _ _ (has_place_one before is_told.blocks title _)
       (λ room. ready_one _))))
 
-  get_steps : (title : List ℕ) → IsOne (GetSteps before title)
+  pub get_steps : (title : List ℕ) → IsOne (GetSteps before title)
   get_steps title = then_one _ _ (mounts_one before is_told.blocks) (λ done. reads_one before is_told.blocks title)
 
-  list_steps : (file : List ℕ) → IsOne (ListSteps before file)
+  pub list_steps : (file : List ℕ) → IsOne (ListSteps before file)
   list_steps file = then_one _ _ (fetches_one before is_told.files file) (λ bytes. loads_one bytes)
 
-  demo_steps : (from : ChoicesFrom) → IsOne (DemoSteps before from)
+  pub demo_steps : (from : ChoicesFrom) → IsOne (DemoSteps before from)
   demo_steps from = choices_one before is_told.files from
 
   -- each command has one status and shows one thing

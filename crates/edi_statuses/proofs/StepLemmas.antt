@@ -32,15 +32,15 @@ abbrev status_or : {A : Type 0} → Status → AfterStep A → Status
 status_or s (goes a) = s
 status_or s (stops t) = t
 
-abbrev value_or : {A : Type 0} → A → AfterStep A → A
+abbrev pub value_or : {A : Type 0} → A → AfterStep A → A
 value_or a (goes b) = b
 value_or a (stops t) = a
 
-abbrev Goes : {A : Type 0} → AfterStep A → Type 0
+abbrev pub Goes : {A : Type 0} → AfterStep A → Type 0
 Goes (goes a) = ⊤
 Goes (stops s) = ⊥
 
-not_both : {A : Type 0} (a : A) (s : Status) → goes a ≡ stops s → ⊥
+pub not_both : {A : Type 0} (a : A) (s : Status) → goes a ≡ stops s → ⊥
 not_both a s same = subst (λ r. Goes r) same tt
 
 -- ---- chains

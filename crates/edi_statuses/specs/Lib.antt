@@ -17,3 +17,5 @@ pub mod OnFiles
 pub mod Rows
 pub mod Walked
 pub mod Explored
+pub mod Always
+pub mod OneEnd

@@ -1,6 +1,8 @@
 //! Laws of statuses. Each function does nothing, and its contract is the law.
 
+ghost use Rattle.edi_statuses.specs.Always.{SomeStatus, SomeStep};
 ghost use Rattle.edi_statuses.specs.Decided.{LinesEnd, OneRefusal, OneStatus};
+ghost use Rattle.edi_statuses.specs.OneEnd.{OneEnd};
 
 /// Contents that are told decide the status of a command and what it shows before the line of the status, but for `boot` and `explore`. So each
 /// status comes exactly where its cause is there, unless an object fails or memory runs out; and where no refusal has its cause, the
@@ -20,4 +22,22 @@ pub fn one_refusal()
 /// as it has to.
 pub fn lines_end()
     ensures law { LinesEnd }
+{}
+
+/// Of every command, whatever is told before it: a step stops it at a status that words and contents decide, with nothing done; or all its steps go on.
+pub fn some_step()
+    ensures law { SomeStep }
+{}
+
+/// Whatever is told before a command, there is an end of it at a status that words and contents decide. So want of memory is never the only answer that
+/// the contracts leave. The law speaks of `run`, `replay`, `exec`, `walk`, `watch`, `demo`, `compile`, `newdisk` without an old image, `put`, `get`, `list` and
+/// `explore`, whose drives have blocks of 512 bytes.
+pub fn some_status()
+    ensures law { SomeStatus }
+{}
+
+/// Contents that are told decide all that a command leaves, but for `boot` and `explore`: the files, but for the code of `compile` and the log of `watch`;
+/// the number of blocks and the files on them, wherever these lie; the input, the bytes printed and the turns of the kernel.
+pub fn one_end()
+    ensures law { OneEnd }
 {}

@@ -1,4 +1,5 @@
-//! Worked examples of texts: lists, pieces, what may stand after symbols and where symbols stand, trees and programs that are printed.
+//! Worked examples of what no run of the program shows: lists of symbols and numbers, a text that comes in pieces, a program that is
+//! printed and read again, types that no text can declare. All else of texts is in `tests/syntax`, `tests/sema` and `tests/compile`.
 #![tactic(auto)]
 
 #[cfg(test)]

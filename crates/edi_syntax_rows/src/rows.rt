@@ -1,7 +1,7 @@
 //! The examples, a file for each subject.
 
-mod expected;
 mod lists;
 mod pieces;
+mod places;
 mod printed;
-mod printing;
+mod types;

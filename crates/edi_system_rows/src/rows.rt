@@ -1,4 +1,4 @@
-//! The examples, a file for each subject.
+//! The examples of a system, a file for each subject.
 
 mod calls;
 mod faults;

@@ -2,5 +2,6 @@
 #![tactic(auto)]
 
 mod heard;
+pub mod laws;
 
 pub use heard::Heard;

@@ -1,7 +1,7 @@
 -- A fork: the limits, the turn, and all children, on both sides.
 use Rattle.std.proofs.Common.{◌≡◌, ℕ, zero, suc, ◌+◌, ◌-◌, ◌/◌, ◌≤◌, ◌⊎◌, inl, inr, Bool, true, false, ◌||◌, if◌then◌else◌, List, [], ◌∷◌, ◌++◌, length}
 use Rattle.std.proofs.Common.{Some, None, refl, sym, ap, ◌∙◌, arith}
-use Rattle.std.specs.Prelude.{nat_lt, All}
+use Rattle.std.specs.Prelude.{nat_lt, All, is_some}
 use Rattle.std.specs.List.{list_any}
 use Rattle.std.proofs.lemmas.Bool.{ltb-false}
 use Rattle.std.proofs.Math.Nat.{mul-div-le}
@@ -15,9 +15,9 @@ use Rattle.edi_calls.specs.State.{Traced}
 use Rattle.edi_unit.specs.Tree.{ProgramUnit}
 use Rattle.edi_unit.specs.Fits.{BranchFits}
 use Rattle.edi_meaning.specs.Store.{Spot, Shape, instances, frames, shape, frame_at, now, used, room, IsLive}
-use Rattle.edi_meaning.specs.Evaluation.{World}
+use Rattle.edi_meaning.specs.Evaluation.{World, gives}
 use Rattle.edi_meaning.specs.Step as source
-use Rattle.edi_meaning.specs.Step.{Process, Processes, Work, Asks, forks, kernel, fork_taken}
+use Rattle.edi_meaning.specs.Step.{Process, Processes, Work, ready, Asks, forks, kernel, fork_taken}
 use Rattle.edi_meaning.specs.Laws.{IsWaiting}
 use Rattle.edi_meaning.proofs.Kernel.{After}
 use Rattle.edi_meaning.proofs.Dangling.{Coherent}
@@ -40,7 +40,8 @@ use Rattle.edi_follows.specs.places.Lands.{step, Keeps, Switches, EndsSo, Lands,
 use Rattle.edi_follows.proofs.kernel.Lifting.{length-names, Before}
 use Rattle.edi_follows.proofs.places.Places.{tail_free, start_within}
 use Rattle.edi_follows.proofs.places.Doing.{stretch_turned}
-use Rattle.edi_follows.proofs.kernel.Kernels.{activity_here, size_here, in_outer, before_here, stepped, words_there, adds_there, step_after_sound}
+use Rattle.edi_follows.proofs.kernel.Kernels.{activity_here, size_here, in_outer, before_here, stepped, words_there, adds_there, step_after_sound, fails_there}
+use Rattle.edi_follows.proofs.kernel.Attempted.{was_ready, ready_spot, not_again}
 use Rattle.edi_follows.proofs.kernel.Settled.{Written, related_on}
 use Rattle.edi_follows.proofs.kernel.Going.{may_go_on, theirs}
 use Rattle.edi_follows.proofs.kernel.Forking.{Stage}
@@ -79,7 +80,7 @@ fit_all g b (n ∷ bs) h = (h 0 n (omega arith), fit_all g b bs (λ k d l. h (su
 
 module _ (g : Coded) (bs : List ℕ) (line : ℕ) (ws : List Work) (w : World) (outer : ℕ → Type 0) (s : Processes) (t : Machine) (p : Name)
     (others marks : List Name) (k : Taken g s t p others marks) (out : Outside g t p outer) (q : Process) (x : Stepping g s p q)
-    (h : Forks g (scene g s t p q x k.related) s.world.store t.memory (taken_as g s t p q x k.related) bs line ws w) where
+    (h : Forks g (scene g s t p q x k.related) s.world.store t.memory (taken_as g s t p q x k.related) bs line ws w) (rested : q.standing ≡ ready) where
   abbrev r : Related g s t
   r = k.related
 
@@ -319,6 +320,9 @@ module _ (g : Coded) (bs : List ℕ) (line : ℕ) (ws : List Work) (w : World) (
           related = stage_related g p f limit base parent all.0 all.1 all.2 (source.with_children g.unit p f 0 share parent bs s0) after all.3 sound;
           kept = record { coherent = coherent; sound = sound };
           same_marks = children_marks p f 0 base from share (branches_of g bs) t0;
+          fails = fails_there g p others outer t s.world.system.past a at h.cleared b (turned (turn.forking (branches_of g bs)) end) e
+              ∙ sym (ap is_some (ready_spot g s t p q x r rested));
+          spots = not_again g s t p q x r rested _;
         }
 
   -- the turn
@@ -336,5 +340,7 @@ module _ (g : Coded) (bs : List ℕ) (line : ℕ) (ws : List Work) (w : World) (
 
 pub fork_claim : (g : Coded) → ForkClaim g
 fork_claim g bs line ws w outer s t p others marks k out q x of coherent h =
-    limits g bs line ws w outer s t p others marks k out q x h (over1 g bs line ws w outer s t p others marks k out q x h)
-    (over2 g bs line ws w outer s t p others marks k out q x h) refl (step_is g bs line ws w outer s t p others marks k out q x h) coherent
+    let rested : q.standing ≡ ready =
+    was_ready g.unit p q.size q.work s.world q.standing (gives (forks bs line ws) w) of x.runs (λ c o n. n) in
+    limits g bs line ws w outer s t p others marks k out q x h rested (over1 g bs line ws w outer s t p others marks k out q x h rested)
+    (over2 g bs line ws w outer s t p others marks k out q x h rested) refl (step_is g bs line ws w outer s t p others marks k out q x h rested) coherent

@@ -306,7 +306,7 @@ module _ (g : Coded) (p : Name) (f limit share : ℕ) (parent : Spot) (first : N
       matches_acts g false at one_frame t'.memory (block g n).body _ 0 (branch_end ∷ []) (entry g n) branch.end 0
       (branch_listed g n (ap is_branch fit.1)) branch.list bf.statements
       (omega (arith, enough))
-      (0, branch.end, refl, (branch.after, branch.exits, refl, refl))
+      (0, branch.end, refl, (branch.after, branch.exits, refl, refl, refl))
 
   abbrev made : Activity
   made = record {

@@ -1,7 +1,7 @@
 -- A process that goes on, that arrives at its `when`, or that stands there again: the kernels agree.
-use Rattle.std.proofs.Common.{◌≡◌, ℕ, ◌+◌, ◌⊎◌, inl, inr, Bool, true, false, if◌then◌else◌, List, [], ◌∷◌, ◌++◌, length, length-append, Some, refl, sym}
+use Rattle.std.proofs.Common.{◌≡◌, ℕ, ◌+◌, ◌-◌, ◌⊎◌, inl, inr, Bool, true, false, if◌then◌else◌, List, [], ◌∷◌, ◌++◌, length, length-append, Some, refl, sym}
 use Rattle.std.proofs.Common.{subst, ap, ◌∙◌, arith}
-use Rattle.std.specs.Prelude.{unwrap_or}
+use Rattle.std.specs.Prelude.{unwrap_or, is_some}
 use Rattle.edi_calls.specs.Names.{Name, same, find}
 use Rattle.edi_calls.specs.Outcome as outcome
 use Rattle.edi_calls.specs.Ready.{joins, all_marked}
@@ -21,6 +21,7 @@ use Rattle.edi_meaning.proofs.Standstill.{Unmarked, work_unmarked}
 use Rattle.edi_target.specs.Effect as turn
 use Rattle.edi_target.specs.Mach as target
 use Rattle.edi_target.specs.Mach.{Machine, Running, Activity, running_of, activity_of, held_at, is_first, turned, OwnWords, IsAncestor}
+use Rattle.edi_target.specs.Attempts.{is_failed_turn}
 use Rattle.edi_target.specs.Moments.{news_at}
 use Rattle.edi_target.specs.segments.Nested.{MayGoOn}
 use Rattle.edi_follows.specs.places.Coded.{Coded}
@@ -28,10 +29,12 @@ use Rattle.edi_follows.specs.places.Walks.{Walker, plain, Comes}
 use Rattle.edi_follows.specs.places.Scene.{Outer}
 use Rattle.edi_follows.specs.places.Follows.{GoesOn, Waits, resting}
 use Rattle.edi_follows.specs.places.Related.{no_process, standing_of, activity, Related, MarksAgree}
-use Rattle.edi_follows.specs.places.Lands.{step, Keeps, Switches, LandsTested, Lands, Taken, Outside, Stepping, scene, taken_as, GoesClaim, ArrivesClaim, AgainClaim}
+use Rattle.edi_follows.specs.places.Lands.{step, spot_of, Keeps, Switches, LandsTested, Lands, Taken, Outside, Stepping, scene, taken_as, GoesClaim}
+use Rattle.edi_follows.specs.places.Lands.{ArrivesClaim, AgainClaim}
 use Rattle.edi_follows.proofs.kernel.Lifting.{marks_after, Before}
 use Rattle.edi_follows.proofs.kernel.Kernels.{activity_here, found_here, size_here, in_outer, before_here, stepped, words_there, adds_there, passes_sound}
-use Rattle.edi_follows.proofs.kernel.Kernels.{step_after_sound}
+use Rattle.edi_follows.proofs.kernel.Kernels.{step_after_sound, fails_there}
+use Rattle.edi_follows.proofs.kernel.Attempted.{was_ready, stood_there, ready_spot, not_again, when_spot, same_spot}
 use Rattle.edi_follows.proofs.kernel.Settled.{process_same, Written, related_on}
 
 -- ---- the activity of p
@@ -164,9 +167,18 @@ module _ (g : Coded) (outer : ℕ → Type 0) (s : Processes) (t : Machine) (p :
     adds_after : w.system.past ≡ news_at g.fetched b.machine p ++ c.at.system.past
     adds_after = adds_there g p others outer t s.world.system.past a c.at h.cleared b end c.adds
 
+    -- after an attempt that has failed it stands where it stood
+    stands_again : (ms : List Name) → q.standing ≡ at_when cs position → (spot : ℕ × ℕ) → spot_of (find t.activities p) ≡ Some spot →
+        spot_of (find (after ms).activities p) ≡ Some spot
+    stands_again ms was spot e =
+        ap spot_of (find-with_at-same b.machine.activities p (activity_of end.local b.now.forks target.at_when))
+        ∙ same_spot g s t p q x r cs position was (shape w.store) h.memory ws h.pc (length (shape w.store p) - 1) h.shaped h.at spot e
+
     hands_over : (ms ms' : List Name) → ms ≡ ms' → Coherent (source.back s p q' w) → step g b.machine p others ≡ target.went (after ms) (joins (p ∷ [])) →
+        is_failed_turn (turned kind (plain end)) ≡ is_some (spot_of (find t.activities p)) →
+        ((spot : ℕ × ℕ) → spot_of (find t.activities p) ≡ Some spot → spot_of (find (after ms).activities p) ≡ Some spot) →
         Switches g outer t s.world.system.past p others ms' (source.back s p q' w) (p ∷ [])
-    hands_over ms ms' e coherent is = record {
+    hands_over ms ms' e coherent is fails spots = record {
       steps = b.steps;
       before = b.machine;
       since = c.at.system.past;
@@ -182,6 +194,8 @@ module _ (g : Coded) (outer : ℕ → Type 0) (s : Processes) (t : Machine) (p :
             (joins (p ∷ [])) b.passes is k.kept.sound may_go_on;
       };
       same_marks = e;
+      fails = fails_there g p others outer t s.world.system.past a c.at h.cleared b (turned kind (plain end)) c.is ∙ fails;
+      spots = spots;
     }
 
     here : step g b.machine p others ≡ target.kernel b.machine p others b.now (turned kind (plain end))
@@ -192,8 +206,11 @@ goes_claim g ws w outer s t p others marks k out q x of coherent h = goes_lands 
 
 pub arrives_claim : (g : Coded) → ArrivesClaim g
 arrives_claim g cs position ws w outer s t p others marks k out q x of coherent h =
+    let was : q.standing ≡ ready =
+    was_ready g.unit p q.size q.work s.world q.standing (gives (arrives cs position ws) w) of x.runs (λ c o n. n) in
     hands_over g outer s t p others marks k out q x turn.arriving cs position ws w false h [] [] refl coherent
     (here g outer s t p others marks k out q x turn.arriving cs position ws w false h)
+    (sym (ap is_some (ready_spot g s t p q x k.related was))) (not_again g s t p q x k.related was _)
 
 -- only an attempt stands again
 no_again : {r : Evaluation Asks} {cs : Clauses} {position : Position} {quiet : Bool} {ws : List Work} {w : World} → Unmarked r →
@@ -212,10 +229,16 @@ same_marks_now g s t p q marks (inr e) found never = absurd (never (sym (ap (λ 
 
 pub again_claim : (g : Coded) → AgainClaim g
 again_claim g cs position false ws w outer s t p others marks k out q x of coherent h =
+    let was : q.standing ≡ at_when cs position = stood_there g.unit p q.size q.work s.world q.standing cs position false ws w of x.runs in
     hands_over g outer s t p others marks k out q x (turn.again false) cs position ws w false h [] [] refl coherent
     (here g outer s t p others marks k out q x (turn.again false) cs position ws w false h)
+    (sym (ap is_some (when_spot g s t p q x k.related cs position was)))
+    (stands_again g outer s t p others marks k out q x (turn.again false) cs position ws w false h [] was)
 again_claim g cs position true ws w outer s t p others marks k out q x of coherent h = tested (all_marked (p ∷ marks) (p ∷ others)) refl
   where
+    was : q.standing ≡ at_when cs position
+    was = stood_there g.unit p q.size q.work s.world q.standing cs position true ws w of x.runs
+
     there : Before g p others outer t s.world.system.past (activity_here g s t p q x k.related) h.comes_there.at h.cleared
     there = b g outer s t p others marks k out q x (turn.again true) cs position ws w true h
 
@@ -255,4 +278,5 @@ again_claim g cs position true ws w outer s t p others marks k out q x of cohere
     }
     tested false e =
         hands_over g outer s t p others marks k out q x (turn.again true) cs position ws w true h (p ∷ there.machine.marks) (p ∷ marks) both coherent
-        (is false e)
+        (is false e) (sym (ap is_some (when_spot g s t p q x k.related cs position was)))
+        (stands_again g outer s t p others marks k out q x (turn.again true) cs position ws w true h (p ∷ there.machine.marks) was)

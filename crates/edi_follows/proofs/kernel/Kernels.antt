@@ -12,6 +12,7 @@ use Rattle.edi_target.specs.Memory.{word}
 use Rattle.edi_target.specs.Effect as turn
 use Rattle.edi_target.specs.Mach as target
 use Rattle.edi_target.specs.Mach.{Machine, Running, Answer, Activity, is_first, turned, over, running_of, kernel, local_step, OwnWords, IsAncestor}
+use Rattle.edi_target.specs.Attempts.{is_failed_turn, attempt_fails}
 use Rattle.edi_target.specs.Moments.{news_of, news_from, news_at}
 use Rattle.edi_target.specs.segments.Nested.{MayGoOn}
 use Rattle.edi_target.proofs.segments.Families.{Sound}
@@ -88,6 +89,14 @@ module _ (g : Coded) (p : Name) (others : List Name) (outer : ℕ → Type 0) (t
       step_at g p others b.machine b.now b.found
       ∙ (λ i. kernel b.machine p others b.now (local_step g.fetched (b.as_many i) (is_first p) (b.running i)))
       ∙ ap (kernel b.machine p others b.now) e
+
+  -- whether it is the end of an attempt that has failed
+  pub fails_there : (x : Answer) → local_step g.fetched (length t.activities) (is_first p) (plain at) ≡ x →
+      attempt_fails g.fetched b.machine p (find b.machine.activities p) ≡ is_failed_turn x
+  fails_there x e =
+      ap (attempt_fails g.fetched b.machine p) b.found
+      ∙ (λ i. is_failed_turn (local_step g.fetched (b.as_many i) (is_first p) (b.running i)))
+      ∙ ap is_failed_turn e
 
   pub words_there : (x : ℕ) → word b.machine.memory x ≡ word at.local.memory x
   words_there x = ap (λ (r : Running). word r.local.memory x) b.running

@@ -1,7 +1,7 @@
 -- The end of a process: its frames go, and its parent waits for one child less.
 use Rattle.std.proofs.Common.{◌≡◌, ℕ, zero, suc, ◌+◌, ◌-◌, ◌<◌, ◌⊎◌, inl, inr, Bool, true, false, if◌then◌else◌, List, [], ◌∷◌, length, Option, Some, None}
 use Rattle.std.proofs.Common.{refl, sym, subst, ap, ◌∙◌, arith}
-use Rattle.std.specs.Prelude.{slice_index_or}
+use Rattle.std.specs.Prelude.{slice_index_or, is_some}
 use Rattle.edi_calls.specs.Names.{Name, Table, same, find, with_at, without, names}
 use Rattle.edi_calls.specs.Ready.{parent_of, joins, freed}
 use Rattle.edi_calls.proofs.Tables.{same-or-other, find-with_at-same, find-with_at-other, find-without-same, find-without-other}
@@ -32,7 +32,8 @@ use Rattle.edi_follows.specs.places.Follows.{Leaves}
 use Rattle.edi_follows.specs.places.Related.{Lives, size_in, standing_of, activity, IsPlaced, Words, Related}
 use Rattle.edi_follows.specs.places.Lands.{step, Keeps, Switches, LandsNext, Lands, Taken, Outside, Stepping, scene, taken_as, LeaveClaim}
 use Rattle.edi_follows.proofs.kernel.Lifting.{Before}
-use Rattle.edi_follows.proofs.kernel.Kernels.{activity_here, in_outer, before_here, stepped, words_there, adds_there, step_after_sound}
+use Rattle.edi_follows.proofs.kernel.Kernels.{activity_here, in_outer, before_here, stepped, words_there, adds_there, step_after_sound, fails_there}
+use Rattle.edi_follows.proofs.kernel.Attempted.{was_ready, ready_spot, not_again}
 use Rattle.edi_follows.proofs.kernel.Settled.{fine_kept}
 use Rattle.edi_follows.proofs.places.Nested.{SameAt, segments_of, address_kept, block_kept, words_kept}
 use Rattle.edi_follows.proofs.kernel.Going.{may_go_on}
@@ -196,7 +197,7 @@ awaits_at g lead from fs m (suc n) k ws pc d h = h
 
 module _ (g : Coded) (w : World) (outer : ℕ → Type 0) (s : Processes) (t : Machine) (p : Name) (others marks : List Name) (k : Taken g s t p others marks)
     (out : Outside g t p outer) (q : Process) (x : Stepping g s p q)
-    (h : Leaves g (scene g s t p q x k.related) s.world.store t.memory (taken_as g s t p q x k.related) w) where
+    (h : Leaves g (scene g s t p q x k.related) s.world.store t.memory (taken_as g s t p q x k.related) w) (rested : q.standing ≡ source.ready) where
   abbrev r : Related g s t
   r = k.related
 
@@ -268,6 +269,9 @@ module _ (g : Coded) (w : World) (outer : ℕ → Type 0) (s : Processes) (t : M
     related = related;
     kept = record { coherent = coherent; sound = sound_after acts ps is };
     same_marks = refl;
+    fails = fails_there g p others outer t s.world.system.past a c.at h.cleared b (turned turn.exiting (plain h.end)) c.is
+        ∙ sym (ap is_some (ready_spot g s t p q x r rested));
+    spots = not_again g s t p q x r rested _;
   }
     where
       sound_after : (acts : Table Activity) (ps : List Name) → step g b.machine p others ≡ target.went (record rest { activities = acts }) (joins ps) →
@@ -392,15 +396,18 @@ module _ (g : Coded) (w : World) (outer : ℕ → Type 0) (s : Processes) (t : M
 pub leave_claim : (g : Coded) → LeaveClaim g
 leave_claim g w outer s t p others marks k out q x of coherent h = go (k.kept.coherent.family.family.parents p q x.found)
   where
+    rested : q.standing ≡ source.ready
+    rested = was_ready g.unit p q.size q.work s.world q.standing (gives leaves w) of x.runs (λ c o n. n)
+
     go : (p ≡ []) ⊎ IsWaiting s.live (parent_of p) → Lands g outer t s.world.system.past p others marks (kernel g.unit s p q (gives leaves w))
-    go (inr v) = child_leaves g w outer s t p others marks k out q x h v (other (same-or-other (parent_of p) p)) coherent
+    go (inr v) = child_leaves g w outer s t p others marks k out q x h rested v (other (same-or-other (parent_of p) p)) coherent
       where
         other : (parent_of p ≡ p) ⊎ (same (parent_of p) p ≡ false) → same (parent_of p) p ≡ false
         other (inl e) = absurd (x.free (subst (IsWaiting s.live) e v))
         other (inr n) = n
     go (inl e) =
         let own : parent_of p ≡ p = ap parent_of e ∙ sym e in
-        first_leaves g w outer s t p others marks k out q x h
+        first_leaves g w outer s t p others marks k out q x h rested
         (ap (find (without s.live p)) own ∙ find-without-same s.live p)
-        (ap (find (acts1 g w outer s t p others marks k out q x h)) own ∙ find-without-same
-        (b g w outer s t p others marks k out q x h).machine.activities p) coherent
+        (ap (find (acts1 g w outer s t p others marks k out q x h rested)) own ∙ find-without-same
+        (b g w outer s t p others marks k out q x h rested).machine.activities p) coherent

@@ -7,7 +7,6 @@ use Rattle.edi_meaning.specs.Store.{Spot, Shape, shape, frame_at, now, used, IsL
 use Rattle.edi_meaning.specs.Evaluation.{World}
 use Rattle.edi_meaning.specs.Step as source
 use Rattle.edi_meaning.specs.Step.{Process, Processes, waiting}
-use Rattle.edi_meaning.specs.Permitted.{is_running}
 use Rattle.edi_meaning.specs.Laws.{IsWaiting}
 use Rattle.edi_meaning.proofs.Dangling.{Coherent, owner_waits}
 use Rattle.edi_calls.proofs.Names.{some_is}

@@ -6,7 +6,7 @@ use Rattle.edi_calls.proofs.Tables.{same-refl}
 use Rattle.edi_meaning.specs.Evaluation.{Evaluation, gives, ends}
 use Rattle.edi_meaning.specs.Step as source
 use Rattle.edi_meaning.specs.Step.{Process, Processes, Asks, goes, arrives, again, forks, leaves, local_step, kernel}
-use Rattle.edi_meaning.specs.Permitted.{is_running, is_running_process}
+use Rattle.edi_meaning.specs.Permitted.{is_running_process}
 use Rattle.edi_meaning.proofs.Kernel.{After, of_process}
 use Rattle.edi_meaning.specs.Laws.{IsWaiting}
 use Rattle.edi_meaning.proofs.Dangling.{Coherent, owner_waits}

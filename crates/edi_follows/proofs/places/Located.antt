@@ -11,7 +11,7 @@ use Rattle.edi_target.specs.Memory.{word}
 use Rattle.edi_scheme.specs.Pieces.{released, is_branch, entry_of}
 use Rattle.edi_scheme.specs.Lengths.{act_length}
 use Rattle.edi_scheme.specs.Stands as code
-use Rattle.edi_scheme.specs.Sites.{Site, statements, into, led, nth_statement, body_start, body_site, site}
+use Rattle.edi_scheme.specs.Sites.{statements, into, nth_statement, body_start, body_site, site}
 use Rattle.edi_scheme.proofs.Sites.{led_behind}
 use Rattle.edi_follows.specs.places.Coded.{Coded, entry, kept}
 use Rattle.edi_follows.specs.places.Spots.{frame_start}

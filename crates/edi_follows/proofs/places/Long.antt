@@ -1,9 +1,7 @@
 -- What stands from an address to another has as many words as its length says.
-use Rattle.std.proofs.Common.{◌≡◌, ℕ, ◌+◌, ◌*◌, Bool, true, false, if◌then◌else◌, List, [], ◌∷◌, length, Option, Some, None, arith, sym, ap, ◌∙◌, length-append}
-use Rattle.std.proofs.lemmas.List.{append-nil, length-map}
+use Rattle.std.proofs.Common.{◌≡◌, ℕ, ◌+◌, Bool, true, false, if◌then◌else◌, List, [], ◌∷◌, length, Option, Some, None, arith, length-append}
+use Rattle.std.proofs.lemmas.List.{length-map}
 use Rattle.std.specs.Prelude.{map}
-use Rattle.edi_unit.specs.declared.expressions.Callee.{Callee}
-use Rattle.edi_unit.specs.declared.expressions.Callee.TheVariants as callee
 use Rattle.edi_unit.specs.Types.{shape_at, is_set_shape}
 use Rattle.edi_unit.specs.Tree as tree
 use Rattle.edi_unit.specs.Tree.{Expression, Expressions, Link, Links, Place, Part, Parts, Argument, Arguments, Act, Acts, Clause, Clauses}
@@ -12,8 +10,8 @@ use Rattle.edi_meaning.specs.Step.{is_quiet}
 use Rattle.edi_target.specs.Op.{Instruction, Branch, words_of}
 use Rattle.edi_scheme.specs.Pieces.{Code, words_of_code, code_length, ClauseKind, once, repeated, released, constant_words, row_length, variable_code}
 use Rattle.edi_scheme.specs.Pieces.{decision, operation, close_code, again_code, check_code, element_code}
-use Rattle.edi_scheme.specs.Lengths.{expression_length, expressions_length, members_length, links_length, place_length, parts_length, part_length}
-use Rattle.edi_scheme.specs.Lengths.{argument_length, arguments_length, act_length, acts_length, clause_length, clauses_length, call_length, procedure_length}
+use Rattle.edi_scheme.specs.Lengths.{expression_length, expressions_length, members_length, links_length, place_length, parts_length}
+use Rattle.edi_scheme.specs.Lengths.{arguments_length, act_length, acts_length, clauses_length}
 use Rattle.edi_scheme.specs.Code.{slot_offset, call_code, procedure_code}
 use Rattle.edi_scheme.specs.Stands as code
 use Rattle.edi_scheme.proofs.Lengths.{decision_length, close_length, again_length, branches_length, variable_length, call_is_long, procedure_is_long}

@@ -4,7 +4,7 @@ use Rattle.std.specs.Prelude.{ℤ, All, IsTrue, unwrap_or}
 use Rattle.edi_unit.specs.Types as types
 use Rattle.edi_unit.specs.Types.{array_of, shape_at, int_type, field_type, is_elementary}
 use Rattle.edi_unit.specs.Types.{is_elementary_shape, element_count, size}
-use Rattle.edi_unit.specs.TypeTables.{part_types, named_types, ordinal_types}
+use Rattle.edi_unit.specs.TypeTables.{part_types, named_types}
 use Rattle.edi_unit.specs.Tree as tree
 use Rattle.edi_unit.specs.Tree.{Expression, Parts, Acts}
 use Rattle.edi_unit.specs.Need.{slot_type, part_type, parts_type, parts_height}

@@ -6,9 +6,7 @@ use Rattle.edi_unit.specs.Types.{size}
 use Rattle.edi_unit.specs.Tree as tree
 use Rattle.edi_unit.specs.Tree.{Expression, Place, Arguments, Acts}
 use Rattle.edi_unit.specs.Need.{expression_type, expression_height, place_type, place_height, arguments_height}
-use Rattle.edi_unit.specs.Fits as fits
 use Rattle.edi_unit.specs.Headings as headings
-use Rattle.edi_unit.specs.Fits.{callee_heading, CalleeFits}
 use Rattle.edi_unit.specs.Headings.{Heading, no_formal, value_then, variable_then, procedure_then, heading_result}
 use Rattle.edi_meaning.specs.Store.{Cell, value, location, Shape, now}
 use Rattle.edi_meaning.specs.Evaluation.{World, Evaluation, gives}

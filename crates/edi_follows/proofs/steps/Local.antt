@@ -257,6 +257,7 @@ module _ (g : Coded) (s : Processes) (t : Machine) (p : Name) (q : Process) (x :
             (hops_get h.0 pc h.1 base 0 s.world t.memory h.2) is
             (ap (λ k. target.turn_from k turn.arriving (at_pc h.3.1.0).local (plain (at_pc h.1))) e) refl (λ a o. refl);
         still = λ z. refl;
+        shaped = refl;
         stretch = still n (omega (arith, e));
         at = (
           h.3.1.1,
@@ -265,7 +266,7 @@ module _ (g : Coded) (s : Processes) (t : Machine) (p : Name) (q : Process) (x :
           h.3.1.4,
           h.3.2,
           h.3.3,
-          record { line = line; at = h.1; sited = h.3.4; behind = one_long g h.1 (op.when line) h.3.1.0 h.3.1.2 },
+          record { line = line; at = h.1; sited = h.3.4; stands = h.3.1.2; behind = one_long g h.1 (op.when line) h.3.1.0 h.3.1.2 },
           h.3.5,
         );
       }

@@ -197,6 +197,7 @@ module _ (g : Coded) (s : Processes) (t : Machine) (p : Name) (q : Process) (x :
                 keeps = λ a o. refl;
               };
               still = λ z. still (f ∙ z);
+              shaped = now_shape g s t p q x r w' y.memory y.cleared a;
               stretch = stretched g s t p q x r w' y.memory y.cleared a;
               at = subst (λ H. IsAt g (is_first p) (r.first p) (H p) y.memory (at_when cs position) ws pc (length (H p) - 1))
                   (now_shape g s t p q x r w' y.memory y.cleared a)

@@ -13,7 +13,7 @@ use Rattle.edi_word.specs.Words.{signed, unsigned}
 use Rattle.edi_word.specs.SetWords.{IsOrdinalSet, words_of_members}
 use Rattle.edi_word.proofs.IntLaws.{fits_from_is_int, signed-unsigned}
 use Rattle.edi_word.proofs.SetLaws.{same_set_from_words}
-use Rattle.edi_unit.specs.Types.{Shape, int, char, bool, enumeration, record_of, array_of, set_of, shape_at, is_set_shape, is_ordinal_of}
+use Rattle.edi_unit.specs.Types.{Shape, record_of, array_of, set_of, shape_at, is_set_shape, is_ordinal_of}
 use Rattle.edi_unit.specs.TypeTables.{part_types, has_parts}
 use Rattle.edi_unit.specs.Values.{Value, ordinal, compound, members, Values, no_value, value_then, IsOf, AreOf, same_value, same_values, same_members}
 use Rattle.edi_follows.specs.values.Words.{value_words, values_words, IsTable, WordsTellValues}

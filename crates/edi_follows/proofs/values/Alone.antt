@@ -5,7 +5,7 @@ use Rattle.std.specs.Prelude.{nat_eq}
 use Rattle.std.proofs.lemmas.Bool.{false≢true}
 use Rattle.std.proofs.lemmas.Int.{ints}
 use Rattle.edi_word.proofs.IntLaws.{fits_from_is_int, signed-unsigned}
-use Rattle.edi_unit.specs.Types.{Shape, int, char, bool, enumeration, record_of, array_of, set_of, shape_at, int_type, char_type, bool_type, is_elementary}
+use Rattle.edi_unit.specs.Types.{Shape, int, char, bool, record_of, array_of, set_of, shape_at, int_type, char_type, bool_type, is_elementary}
 use Rattle.edi_unit.specs.Types.{is_elementary_shape, is_ordinal_of, is_set_shape}
 use Rattle.edi_unit.specs.TypeTables.{has_parts}
 use Rattle.edi_unit.specs.Values.{Value, ordinal, compound, members, IsOf, ordinal_of, is_true, truth}

@@ -73,6 +73,8 @@ module _ (g : Coded) (s : Scene) where
     pub comes_there : comes r kind (resting w memory pc) cleared
     -- an attempt without calls took no turn before its own
     pub still : silent ≡ true → cleared ≡ false
+    -- in the frames where it was
+    pub shaped : shape store ≡ shape w.store
     pub stretch : Stretch store w m memory
     pub at : is_at w memory standing ws pc
 

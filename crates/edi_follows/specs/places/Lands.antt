@@ -1,5 +1,5 @@
 -- Helper. A step of the meaning, and where the machine comes meanwhile.
-use Rattle.std.specs.Prelude.{◌≡◌, ℕ, zero, suc, Bool, true, false, List, [], ◌∷◌, ◌++◌, length, Some, ⊤}
+use Rattle.std.specs.Prelude.{◌≡◌, ℕ, zero, suc, Bool, true, false, List, [], ◌∷◌, ◌++◌, length, Option, Some, None, is_some, ⊤}
 use Rattle.edi_calls.specs.Names.{Name, same, find}
 use Rattle.edi_calls.specs.Outcome as outcome
 use Rattle.edi_calls.specs.Outcome.{Ending}
@@ -18,6 +18,7 @@ use Rattle.edi_meaning.proofs.Dangling.{Coherent}
 use Rattle.edi_target.specs.Memory.{word}
 use Rattle.edi_target.specs.Mach as target
 use Rattle.edi_target.specs.Mach.{Activity, Machine, running_of, OwnWords}
+use Rattle.edi_target.specs.Attempts.{attempt_fails}
 use Rattle.edi_target.specs.Moments.{news_at}
 use Rattle.edi_follows.specs.places.Coded.{Coded}
 use Rattle.edi_follows.specs.places.Walks.{Walker}
@@ -28,6 +29,16 @@ use Rattle.edi_follows.specs.places.Related.{Lives, size_in, activity, Related, 
 -- the process of this activity in the machine, where the system has this past
 abbrev pub walker_of : Machine → List State → Activity → Walker
 walker_of t past a = record { local = (running_of t a).local; system = record { now = t.system; past = past }; turns = t.turns }
+
+-- where a process stands at its `when`: the base of its frame, and its program counter
+abbrev pub spot_as : Activity → target.Standing → Option (ℕ × ℕ)
+spot_as a target.at_when = Some (a.base, a.pc)
+spot_as a target.ready = None
+spot_as a (target.waiting n) = None
+
+abbrev pub spot_of : Option Activity → Option (ℕ × ℕ)
+spot_of None = None
+spot_of (Some a) = spot_as a a.standing
 
 module _ (g : Coded) where
   abbrev pub step : Machine → Name → List Name → target.Stepped
@@ -67,6 +78,10 @@ module _ (g : Coded) where
       pub related : Related g s machine
       pub kept : Kept s machine
       pub same_marks : machine.marks ≡ marks
+      -- the last instruction is the end of an attempt that has failed just where p stood at its `when` before the step
+      pub fails : attempt_fails g.fetched before p (find before.activities p) ≡ is_some (spot_of (find t.activities p))
+      -- and then p stands there again
+      pub spots : (spot : ℕ × ℕ) → spot_of (find t.activities p) ≡ Some spot → spot_of (find machine.activities p) ≡ Some spot
 
     -- the run ends
     pub record EndsSo (t : Machine) (past : List State) (p : Name) (others : List Name) (ending : Ending) (system : Traced) (turns : ℕ) : Type 0 where

@@ -38,6 +38,7 @@ module _ (g : Coded) where
     pub line : ℕ
     pub at : ℕ
     pub sited : Sited b position (when_act cs line) at
+    pub stands : code.InstructionStands g.fetched at (op.when line) pc
     pub behind : pc ≡ at + 2
 
   -- frame `suc e` keeps what the procedure's end leaves it by: the base of the frame below, the address behind the call, and
@@ -52,29 +53,30 @@ module _ (g : Coded) where
     by_block : (at level target : ℕ) → code.InstructionStands g.fetched at (op.call level target line) back → IsCalledFrom back line
     by_parameter : (at level offset : ℕ) → code.InstructionStands g.fetched at (op.call_p level offset line) back → IsCalledFrom back line
 
-  -- one piece of work for the frame at depth d; `rest` says where what follows it stands; `lead` says whether this is the first
-  -- process, which alone comes to the program's end
-  abbrev pub Item : Bool → ℕ → List Frame → List ℕ → Work → ℕ → ℕ → (ℕ → ℕ → Type 0) → Type 0
-  Item lead from fs m (doing a position) q d rest =
+  -- One piece of work for the frame at depth d, before the work `after`, of which `rest` says where it stands. After the end of a branch and of
+  -- the program nothing is left. `lead` says whether this is the first process, which alone comes to the program's end.
+  abbrev pub Item : Bool → ℕ → List Frame → List ℕ → Work → ℕ → ℕ → (after : List Work) → (ℕ → ℕ → Type 0) → Type 0
+  Item lead from fs m (doing a position) q d after rest =
       (to : ℕ) × code.IsAct g.fetched g.unit.types g.unit.blocks (entry g) (frame_of fs d).block a q to
       × ActFits g.unit.types g.unit.blocks g.fits.headings (frame_of fs d).block a
       × Room (frame_of fs d) (act_height g.unit.types g.unit.blocks (frame_of fs d).block a) × Sited (frame_of fs d).block position a q × rest to d
-  Item lead from fs m (loop_end cs position) q d rest =
+  Item lead from fs m (loop_end cs position) q d after rest =
       (top next to : ℕ) × code.InstructionStands g.fetched q (op.loop top) next
       × code.IsAct g.fetched g.unit.types g.unit.blocks (entry g) (frame_of fs d).block (while_act cs) top to
       × ClausesFit g.unit.types g.unit.blocks g.fits.headings (frame_of fs d).block cs
       × Room (frame_of fs d) (clauses_height g.unit.types g.unit.blocks (frame_of fs d).block cs)
       × Sited (frame_of fs d).block position (while_act cs) top × rest to d
-  Item lead from fs m (procedure_end line) q zero rest = ⊥
-  Item lead from fs m (procedure_end line) q (suc e) rest =
+  Item lead from fs m (procedure_end line) q zero after rest = ⊥
+  Item lead from fs m (procedure_end line) q (suc e) after rest =
       (next back : ℕ) × code.InstructionStands g.fetched q (op.return 0 0) next × Links from fs m e back × IsCalledFrom back line × rest back e
-  Item lead from fs m branch_end q d rest = (next : ℕ) × code.InstructionStands g.fetched q op.exit next × (d ≡ 0) × (lead ≡ false)
-  Item lead from fs m program_entry q d rest = ⊥
-  Item lead from fs m program_end q d rest = (next : ℕ) × code.InstructionStands g.fetched q (op.return 0 0) next × (d ≡ 0) × (lead ≡ true)
+  Item lead from fs m branch_end q d after rest = (next : ℕ) × code.InstructionStands g.fetched q op.exit next × (d ≡ 0) × (lead ≡ false) × (after ≡ [])
+  Item lead from fs m program_entry q d after rest = ⊥
+  Item lead from fs m program_end q d after rest =
+      (next : ℕ) × code.InstructionStands g.fetched q (op.return 0 0) next × (d ≡ 0) × (lead ≡ true) × (after ≡ [])
 
   abbrev pub Matches : Bool → ℕ → List Frame → List ℕ → List Work → ℕ → ℕ → Type 0
   Matches lead from fs m [] pc d = ⊥
-  Matches lead from fs m (x ∷ ws) pc d = (n q : ℕ) × Hops n pc q × Item lead from fs m x q d (Matches lead from fs m ws)
+  Matches lead from fs m (x ∷ ws) pc d = (n q : ℕ) × Hops n pc q × Item lead from fs m x q d ws (Matches lead from fs m ws)
 
   -- a process between two of its steps
   abbrev pub IsAt : Bool → ℕ → List Frame → List ℕ → Standing → List Work → ℕ → ℕ → Type 0

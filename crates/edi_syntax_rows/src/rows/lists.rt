@@ -1,6 +1,7 @@
 //! The lists.
 
 use edi_lex::{Mark, Marks, Symbol, Text};
+use edi_unit::Numbers;
 use std::alloc::{AllocError, Global};
 use std::test::Fail;
 
@@ -94,5 +95,30 @@ fn marks(rt: HostRuntime) -> Result<(), Fail> {
     let two = are_two(&marks);
     let marks = Marks::from_vec(marks.into_vec());
     assert!(rt; empty && two && are_two(&marks));
+    Ok(())
+}
+
+/// Whether a list has just these items.
+fn has_items(list: &Numbers, items: &[u32]) -> bool {
+    list.len() == items.len()
+        && list.is_empty() == items.is_empty()
+        && list.get(0).copied() == items.get(0).copied()
+        && list.get(1).copied() == items.get(1).copied()
+        && list.get(2).copied() == items.get(2).copied()
+        && list.items() == items
+}
+
+#[test]
+fn numbers(rt: HostRuntime) -> Result<(), Fail> {
+    let alloc = rt.alloc();
+    let mut list = Numbers::new(alloc);
+    let none = has_items(&list, &[]);
+    list.push(alloc, 4)?;
+    list.push(alloc, 5)?;
+    let two = has_items(&list, &[4, 5]);
+    let mut vector = list.into_vec();
+    vector.push(6)?;
+    let three = has_items(&Numbers::from_vec(vector), &[4, 5, 6]);
+    assert!(rt; none && two && three);
     Ok(())
 }

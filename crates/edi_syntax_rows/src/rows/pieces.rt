@@ -27,12 +27,11 @@ fn in_pieces(alloc: Global, text: &[u8], length: usize) -> Result<Symbols, LexFa
     scanner.finish(alloc)
 }
 
-/// The symbols of a text that comes in pieces, between which a bar stands; a star is a long one.
-pub(crate) fn fed(alloc: Global, pieces: &str, long: &[u8]) -> Result<Symbols, LexFault> {
+/// The symbols of a text that comes in pieces, between which a bar stands.
+fn fed(alloc: Global, pieces: &str) -> Result<Symbols, LexFault> {
     let mut scanner = Scanner::new(alloc);
     for piece in pieces.split('|') {
-        let bytes = if piece == "*" { long } else { piece.as_bytes() };
-        if scanner.feed(alloc, bytes).is_err() {
+        if scanner.feed(alloc, piece.as_bytes()).is_err() {
             return Err(LexFault::NoMemory);
         }
     }
@@ -67,7 +66,7 @@ fn are_string(symbols: &Symbols, characters: &[u8]) -> bool {
 
 #[test]
 fn a_string_in_two_pieces(rt: HostRuntime) -> Result<(), Fail> {
-    let symbols = fed(rt.alloc(), "'||a'", b"")?;
+    let symbols = fed(rt.alloc(), "'||a'")?;
     assert!(rt; are_string(&symbols, b"a"));
     Ok(())
 }

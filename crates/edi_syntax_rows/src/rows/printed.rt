@@ -2,7 +2,7 @@
 
 use edi_lex::scan;
 use edi_syntax::parse;
-use edi_tree::print;
+use edi_tree::{depth, print};
 use std::alloc::Global;
 use std::process::Abort;
 
@@ -56,17 +56,26 @@ cobegin 1 do skip also 2
 do display ( 'b' ) end
 end";
 
-/// What is printed for the program that a text is read as.
-fn printed(rt: &impl Abort, alloc: Global, text: &str) -> Vec<u8> {
+/// A program that shows one character, as it is printed.
+const LETTER: &str = "proc main ( proc display ( value : char ) ) begin display ( 'a' ) end";
+
+/// The depth of the program that a text is read as, and what is printed for it.
+fn printed(rt: &impl Abort, alloc: Global, text: &str) -> (u32, Vec<u8>) {
     let symbols = scan(alloc, text.as_bytes()).expect(rt, "symbols");
     let tree = parse(alloc, &symbols).expect(rt, "a program");
-    print(alloc, &tree).expect(rt, "memory")
+    (depth(&tree), print(alloc, &tree).expect(rt, "memory"))
 }
 
 #[test]
 fn a_printed_program_is_read_again(rt: HostRuntime) {
-    for text in [TEXT, PRINTED] {
-        let found = printed(&rt, rt.alloc(), text);
-        assert!(rt; found.as_slice() == PRINTED.as_bytes(), "{text}");
+    // The levels of the last one: `proc`, its parenthesis, the `proc` in it, and the parenthesis of that.
+    for (text, wanted, levels) in [
+        (TEXT, PRINTED, 0),
+        (PRINTED, PRINTED, 0),
+        (LETTER, LETTER, 4),
+    ] {
+        let (found, shown) = printed(&rt, rt.alloc(), text);
+        assert!(rt; shown.as_slice() == wanted.as_bytes(), "{text}");
+        assert!(rt; levels == 0 || found == levels, "{text}");
     }
 }

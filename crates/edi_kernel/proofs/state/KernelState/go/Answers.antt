@@ -3,6 +3,7 @@ use Rattle.std.proofs.Common.{◌≡◌, ap, None, subst, sym, ◌∙◌}
 use Rattle.edi_told.proofs.Told.{WhereTold-map}
 use Rattle.edi_kernel.specs.declared.state.KernelState.{KernelState}
 use Rattle.edi_kernel.proofs.Going.{mid_of, few_marks, stays_kernel, goes_all}
+use Rattle.edi_kernel.proofs.LastInstruction.{handled}
 use Rattle.edi_kernel.specs.Table.{no_marks, ready_slots}
 use Rattle.edi_kernel.proofs.Placing.{ready_if, stands_same}
 use Rattle.edi_kernel.proofs.state.KernelState.go.Goals as goal
@@ -49,3 +50,8 @@ returns-clause-standing g c =
     (ap ready_slots c.unmark_if.ensures ∙ ready_if c.walk-pause.new.progress.cleared c.walk-pause.new.self.table ∙ ap (λ (k : KernelState). ready_slots k.table)
     c.walk-pause.ensures.same)
     c.handle.ensures.standing
+
+pub returns-clause-ended : goal.returns-clause-ended
+returns-clause-ended g c =
+    handled c.args.code.now.words c.walk-pause.result c.unwrap-slot.result _ _ (record c.walk-pause.new.self { table = c.unmark_if.new.self; taken = None })
+    c.handle.new.self c.handle.result c.handle.ensures.exact c.walk-pause.ensures.ended

@@ -1,5 +1,7 @@
 -- A round of the kernel is one of the machine.
-use Rattle.std.proofs.Common.{◌+◌, ◌-◌, ◌∙◌, sym, refl, arith}
+use Rattle.std.proofs.Common.{◌+◌, ◌-◌, ◌∙◌, sym, subst, refl, arith}
+use Rattle.edi_kernel.specs.LastInstruction.{IsEnded}
+use Rattle.edi_kernel.proofs.LastInstruction.{unready}
 use Rattle.edi_kernel.proofs.Named.{told_goes_to}
 use Rattle.edi_kernel.proofs.Rounds.{told_round_ends, told_round_goes, holds_same, keeps_unready}
 use Rattle.edi_kernel.proofs.Placing.{stands_at_end, stands_unready}
@@ -35,3 +37,12 @@ pub returns-clause-standing : goal.returns-clause-standing
 returns-clause-standing g c =
     stands_unready c.go-end.result _ _ c.proceed.result (record c.go-end.new.self { used = c.go-end.new.self.used + c.used_in.result }) c.proceed.new.self
     (sym c.ended_by.ensures ∙ c.in_default.is) c.proceed.ensures.nobody c.go-end.ensures.standing
+
+pub returns-in-Some-clause-ended : goal.returns-in-Some-clause-ended
+returns-in-Some-clause-ended g c =
+    subst (λ e. IsEnded c.args.code.now.words c.go-end.new.self.store e) (sym c.in-Some.ensures) c.go-end.ensures.ended
+
+pub returns-clause-ended : goal.returns-clause-ended
+returns-clause-ended g c =
+    unready c.args.code.now.words c.proceed.result _ (record c.go-end.new.self { used = c.go-end.new.self.used + c.used_in.result }) c.proceed.new.self
+    c.proceed.ensures.nobody

@@ -1,5 +1,6 @@
 -- A stint of the kernel is one of the machine.
 use Rattle.std.proofs.Common.{refl, arith, false}
+use Rattle.edi_kernel.proofs.LastInstruction.{later}
 use Rattle.edi_kernel.proofs.Named.{told_goes_to}
 use Rattle.edi_kernel.proofs.Stinting.{told_stint, told_names}
 use Rattle.edi_kernel.proofs.state.KernelState.stint.Goals as goal
@@ -17,3 +18,7 @@ returns-clause-names g c =
     (record c.go.new.self { used = c.saturating_add-self.result }) c.args.turns_left c.entry_turns-entry.result c.go.result
     refl refl refl refl refl refl refl refl _ _ c.later_by-end.result c.later_by-end.ensures.exact c.entry_turns-entry.ensures
     (omega (arith, c.if-turns_left-entry.false)) c.go.ensures.exact
+
+pub returns-clause-ended : goal.returns-clause-ended
+returns-clause-ended g c =
+    later c.args.code.now.words c.entry_turns-entry.result c.go.result c.later_by-end.result _ c.later_by-end.ensures.exact c.go.ensures.ended

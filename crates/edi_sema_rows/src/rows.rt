@@ -1,4 +1,0 @@
-//! The examples, a file for each subject.
-
-mod needs;
-mod tables;

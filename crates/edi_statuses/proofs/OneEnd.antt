@@ -1,0 +1,300 @@
+-- Contents that are told decide all that a command leaves.
+use Rattle.std.proofs.Common.{◌≡◌, ◌∙◌, ℕ, Bool, cond, List, [], ◌∷◌, length, Option, Some, None, false, true, refl, sym, ap, subst, inl, inr, rules, true≢false}
+use Rattle.std.specs.Cmp.Lexicographic.{slice_cmp}
+use Rattle.std.specs.FinMap as map
+use Rattle.std.specs.FinMap.{slice_cmp-IsAntisymmetric, nat_cmp-IsAntisymmetric}
+use Rattle.std.specs.Ordering.{nat_cmp, eq_by_cmp}
+use Rattle.std.proofs.lemmas.Cmp.{nat_list_cmp_total}
+use Rattle.edi_calls.specs.Choice.{Choices}
+use Rattle.edi_calls.specs.Outcome.{Ending, Outcome}
+use Rattle.edi_calls.specs.State.{State}
+use Rattle.edi_debug.specs.stops.Stops.{Watched}
+use Rattle.edi_host.specs.Contents.{Contents}
+use Rattle.edi_image.specs.Image.{slots_of}
+use Rattle.edi_unit.specs.Tree.{ProgramUnit}
+use Rattle.edi_utils.specs.Demo.{demo_text}
+use Rattle.edi_utils.specs.Listing.{listing_of}
+use Rattle.edi_walk_on.proofs.Texts.{texts_have_one_walk}
+use Rattle.edi_words.specs.Words as words
+use Rattle.edi_words.specs.Words.{Command}
+use Rattle.edi_statuses.specs.declared.status.Status.{Status}
+use Rattle.edi_statuses.specs.Outside.{Outside, Devices, Kept, KernelLeft, system_on, with_kept, without_names}
+use Rattle.edi_statuses.specs.Steps.{AfterStep, goes, stops, Fetches, Ready}
+use Rattle.edi_statuses.specs.Executions.{Runnable, text, code, HasRun, record_of}
+use Rattle.edi_statuses.specs.Walked.{Walks}
+use Rattle.edi_statuses.specs.Commands.{Comes, CommandEffect, Demonstrates, Does, Explains, IsDone, IsNothing, KeepsCode, OnlyBlocks, OnlyKeeps, OnlyShows}
+use Rattle.edi_statuses.specs.Commands.{Runs, ShowsReport, AreMigrated, AreNew, ArePut, RunSteps, ExecSteps, WatchSteps, Watches, TextSteps, OldSteps}
+use Rattle.edi_statuses.specs.Commands.{PutSteps, GetSteps, ListSteps, DemoSteps}
+use Rattle.edi_statuses.specs.Decided.{IsTold, is_decided}
+use Rattle.edi_statuses.specs.Always.{lent_from, told_outside}
+use Rattle.edi_statuses.specs.OneEnd.{LeaveSame, OneEnd, names_free}
+use Rattle.edi_statuses.proofs.StepLemmas.{IsOne, TextsAreOne, fetches_one, not_both, ready_one, value_or}
+use Rattle.edi_statuses.proofs.OneStatus.{outcome_same, text_steps, watch_steps, code_steps, compile_steps, old_steps, put_steps, get_steps, list_steps}
+use Rattle.edi_statuses.proofs.OneStatus.{demo_steps}
+
+pub told_is : (files : Contents) (d : Devices) → IsTold (told_outside files d)
+told_is files d =
+    record { files = search rules; blocks = search rules; input = search rules; shown = search rules; printed = search rules }
+
+-- ---- a file whose bytes differ
+
+abbrev is_named : List ℕ → List ℕ → Bool
+is_named name other = eq_by_cmp (slice_cmp nat_cmp) other name
+
+either_gone : (same : Bool) (x y rest : Option (List ℕ)) → cond same None (cond same x rest) ≡ cond same None (cond same y rest)
+either_gone true x y rest = refl
+either_gone false x y rest = refl
+
+-- without the file of a name the others are the same, whatever its bytes are
+gone_same : (files : Contents) (name bytes other : List ℕ) → map.remove (map.insert files name bytes) name ≡ map.remove (map.insert files name other) name
+gone_same files name bytes other =
+    map.same_map nat_list_cmp_total (slice_cmp-IsAntisymmetric nat_cmp-IsAntisymmetric) _ _ (λ q.
+    map.get-remove nat_list_cmp_total (map.insert files name bytes) name q
+    ∙ ap (λ o. cond (is_named name q) None o) (map.get-insert nat_list_cmp_total files name bytes q)
+    ∙ either_gone (is_named name q) (Some bytes) (Some other) (map.get files q)
+    ∙ sym (map.get-remove nat_list_cmp_total (map.insert files name other) name q
+    ∙ ap (λ o. cond (is_named name q) None o) (map.get-insert nat_list_cmp_total files name other q)))
+
+later_gone : (same again : Bool) (x y z rest : Option (List ℕ))
+    → cond same None (cond again z (cond same x rest)) ≡ cond same None (cond again z (cond same y rest))
+later_gone true again x y z rest = refl
+later_gone false again x y z rest = refl
+
+-- another file kept after it
+gone_under : (files : Contents) (name bytes other next more : List ℕ)
+    → map.remove (map.insert (map.insert files name bytes) next more) name ≡ map.remove (map.insert (map.insert files name other) next more) name
+gone_under files name bytes other next more =
+    map.same_map nat_list_cmp_total (slice_cmp-IsAntisymmetric nat_cmp-IsAntisymmetric) _ _ (λ q.
+    seen bytes q ∙ later_gone (is_named name q) (is_named next q) (Some bytes) (Some other) (Some more) (map.get files q) ∙ sym (seen other q)) where
+      seen : (x q : List ℕ) → map.get (map.remove (map.insert (map.insert files name x) next more) name) q
+          ≡ cond (is_named name q) None (cond (is_named next q) (Some more) (cond (is_named name q) (Some x) (map.get files q)))
+      seen x q =
+          map.get-remove nat_list_cmp_total (map.insert (map.insert files name x) next more) name q
+          ∙ ap (λ o. cond (is_named name q) None o) (map.get-insert nat_list_cmp_total (map.insert files name x) next more q
+          ∙ ap (λ o. cond (is_named next q) (Some more) o) (map.get-insert nat_list_cmp_total files name x q))
+
+-- so with a record
+log_gone : (files : Contents) (out log other : List ℕ) (record_file : Option (List ℕ)) (choices : Choices) (drawn : ℕ)
+    → map.remove (with_kept ((out, log) ∷ record_of record_file choices drawn) files) out
+    ≡ map.remove (with_kept ((out, other) ∷ record_of record_file choices drawn) files) out
+log_gone files out log other None choices drawn = gone_same files out log other
+log_gone files out log other (Some name) choices drawn = gone_under files out log other name _
+
+-- ---- two runs of a program
+
+record RunsLeave (drawn other_drawn : ℕ) (e f : Devices) (left also : KernelLeft) : Type 0 where
+  draws : drawn ≡ other_drawn
+  slots : slots_of e.blocks ≡ slots_of f.blocks
+  count : length e.blocks ≡ length f.blocks
+  input : e.input ≡ f.input
+  printed : e.printed ≡ f.printed
+  turns : left.used ≡ also.used
+
+runs_leave : (program : Runnable) (bound : ℕ) (choices : Choices) (s t : Ending) (m n : ℕ) (d e f : Devices) (shown bytes : List ℕ)
+    (left also : KernelLeft) → HasRun program bound choices s m d e shown left → HasRun program bound choices t n d f bytes also
+    → RunsLeave m n e f left also
+runs_leave program bound choices s t m n d e f shown bytes left also h k =
+    let same = outcome_same program (system_on d) bound choices h.outcome_ k.outcome_ h.outcome_is k.outcome_is in record {
+      draws = sym h.draws ∙ ap (λ (o : Outcome). o.draws) same ∙ k.draws;
+      slots = h.leaves.disk.files ∙ ap (λ (o : Outcome). o.slots) same ∙ sym k.leaves.disk.files;
+      count = h.leaves.count ∙ sym k.leaves.count;
+      input = h.leaves.input ∙ ap (λ (o : Outcome). o.input) same ∙ sym k.leaves.input;
+      printed = h.leaves.printed ∙ ap (λ (o : Outcome). o.printed) same ∙ sym k.leaves.printed;
+      turns = h.kernel_is.turns ∙ ap (λ (o : Outcome). o.turns) same ∙ sym k.kernel_is.turns;
+    }
+
+module _ (each : TextsAreOne) (files : Contents) (d : Devices) (kernel : KernelLeft) where
+  -- an effect that leaves one thing, but for the files of these names
+  abbrev EndsOne : List (List ℕ) → CommandEffect → Type 0
+  EndsOne names effect =
+      (s t : Status) (one other : Contents) (e f : Devices) (shown bytes : List ℕ) (left also : KernelLeft)
+      → effect s (told_outside files d) (told_outside one e) shown (lent_from kernel left)
+      → effect t (told_outside files d) (told_outside other f) bytes (lent_from kernel also)
+      → LeaveSame names one other e f left also
+
+  -- all is as before
+  stays : (names : List (List ℕ)) (one other : Contents) (e f : Devices) (left also : KernelLeft) → one ≡ files → other ≡ files
+      → e.blocks ≡ d.blocks → f.blocks ≡ d.blocks → e.input ≡ d.input → f.input ≡ d.input → e.printed ≡ d.printed → f.printed ≡ d.printed
+      → left ≡ kernel → also ≡ kernel → LeaveSame names one other e f left also
+  stays names one other e f left also o p b c i j q r l m = record {
+    files_ = ap (without_names names) (o ∙ sym p);
+    slots = ap slots_of (b ∙ sym c);
+    count = ap length (b ∙ sym c);
+    input = i ∙ sym j;
+    printed = q ∙ sym r;
+    turns = ap (λ (x : KernelLeft). x.used) (l ∙ sym m);
+  }
+
+  nothing_one : (names : List (List ℕ)) (one other : Contents) (e f : Devices) (shown bytes : List ℕ) (left also : KernelLeft)
+      → IsNothing (told_outside files d) (told_outside one e) shown (lent_from kernel left)
+      → IsNothing (told_outside files d) (told_outside other f) bytes (lent_from kernel also) → LeaveSame names one other e f left also
+  nothing_one names one other e f shown bytes left also h k =
+      stays names one other e f left also h.same.files k.same.files h.same.blocks k.same.blocks h.same.input k.same.input h.same.printed k.same.printed
+      h.kernel_same k.kernel_same
+
+  does_end : {A : Type 0} (names : List (List ℕ)) (steps : AfterStep A → Type 0) (effect : A → CommandEffect) → IsOne steps
+      → ((a : A) → EndsOne names (effect a)) → EndsOne names (Does steps effect)
+  does_end names steps effect one_step ones s t one other e f shown bytes left also (inl h) (inl k) =
+      nothing_one names one other e f shown bytes left also h.1 k.1
+  does_end names steps effect one_step ones s t one other e f shown bytes left also (inl h) (inr k) =
+      absurd (not_both k.0 s (one_step (goes k.0) (stops s) k.1 h.0))
+  does_end names steps effect one_step ones s t one other e f shown bytes left also (inr h) (inl k) =
+      absurd (not_both h.0 t (one_step (goes h.0) (stops t) h.1 k.0))
+  does_end names steps effect one_step ones s t one other e f shown bytes left also (inr h) (inr k) =
+      let same = ap (λ x. value_or h.0 x) (one_step (goes h.0) (goes k.0) h.1 k.1) in
+      ones k.0 s t one other e f shown bytes left also
+      (subst (λ a. effect a s (told_outside files d) (told_outside one e) shown (lent_from kernel left)) same h.2) k.2
+
+  -- ---- effects that touch one object
+
+  shows_end : (all : List ℕ) → EndsOne [] (IsDone (OnlyShows all))
+  shows_end all s t one other e f shown bytes left also h k =
+      stays [] one other e f left also h.1.same.files k.1.same.files h.1.same.blocks k.1.same.blocks h.1.same.input k.1.same.input h.1.same.printed
+      k.1.same.printed h.1.kernel_same k.1.kernel_same
+
+  report_end : (unit : ProgramUnit) → EndsOne [] (IsDone (ShowsReport unit))
+  report_end unit s t one other e f shown bytes left also h k =
+      stays [] one other e f left also h.1.2.same.files k.1.2.same.files h.1.2.same.blocks k.1.2.same.blocks h.1.2.same.input k.1.2.same.input
+      h.1.2.same.printed k.1.2.same.printed h.1.2.kernel_same k.1.2.kernel_same
+
+  explains_end : (program : List ℕ) → EndsOne [] (Explains program)
+  explains_end program s t one other e f shown bytes left also h k =
+      stays [] one other e f left also h.2.same.files k.2.same.files h.2.same.blocks k.2.same.blocks h.2.same.input k.2.same.input h.2.same.printed
+      k.2.same.printed h.2.kernel_same k.2.kernel_same
+
+  -- the files of these names may differ
+  kept_end : (names : List (List ℕ)) (one other : Contents) (e f : Devices) (kept others : List Kept) (shown bytes : List ℕ) (left also : KernelLeft)
+      → without_names names (with_kept kept files) ≡ without_names names (with_kept others files)
+      → OnlyKeeps kept (told_outside files d) (told_outside one e) shown (lent_from kernel left)
+      → OnlyKeeps others (told_outside files d) (told_outside other f) bytes (lent_from kernel also) → LeaveSame names one other e f left also
+  kept_end names one other e f kept others shown bytes left also same h k = record {
+    files_ = ap (without_names names) h.keeps ∙ same ∙ sym (ap (without_names names) k.keeps);
+    slots = ap slots_of (h.blocks ∙ sym k.blocks);
+    count = ap length (h.blocks ∙ sym k.blocks);
+    input = h.input ∙ sym k.input;
+    printed = h.printed ∙ sym k.printed;
+    turns = ap (λ (x : KernelLeft). x.used) (h.kernel_same ∙ sym k.kernel_same);
+  }
+
+  keeps_end : (kept : List Kept) → EndsOne [] (IsDone (OnlyKeeps kept))
+  keeps_end kept s t one other e f shown bytes left also h k = kept_end [] one other e f kept kept shown bytes left also refl h.1 k.1
+
+  code_end : (out program : List ℕ) → EndsOne (out ∷ []) (IsDone (KeepsCode out program))
+  code_end out program s t one other e f shown bytes left also h k =
+      kept_end (out ∷ []) one other e f _ _ shown bytes left also
+      (gone_same files out _ _) h.1.keeps k.1.keeps
+
+  blocks_end : (P : List (List ℕ) → List (List ℕ) → Type 0)
+      → ((a b : List (List ℕ)) → P d.blocks a → P d.blocks b → (slots_of a ≡ slots_of b) × (length a ≡ length b)) → EndsOne [] (IsDone (OnlyBlocks P))
+  blocks_end P same s t one other e f shown bytes left also h k =
+      let blocks = same e.blocks f.blocks h.1.blocks k.1.blocks in record {
+        files_ = h.1.files ∙ sym k.1.files;
+        slots = blocks.0;
+        count = blocks.1;
+        input = h.1.input ∙ sym k.1.input;
+        printed = h.1.printed ∙ sym k.1.printed;
+        turns = ap (λ (x : KernelLeft). x.used) (h.1.kernel_same ∙ sym k.1.kernel_same);
+      }
+
+  -- ---- runs and walks
+
+  runs_end : (program : Runnable) (bound : ℕ) (choices : Choices) (record_file : Option (List ℕ)) → EndsOne [] (Runs program bound choices record_file)
+  runs_end program bound choices record_file s t one other e f shown bytes left also h k =
+      let same = runs_leave program bound choices h.ending k.ending h.drawn k.drawn d e f shown bytes left also h.ran k.ran in record {
+        files_ = h.keeps ∙ ap (λ n. with_kept (record_of record_file choices n) files) same.draws ∙ sym k.keeps;
+        slots = same.slots;
+        count = same.count;
+        input = same.input;
+        printed = same.printed;
+        turns = same.turns;
+      }
+
+  walks_end : (program : List ℕ) (bound : ℕ) (choices : Choices) → EndsOne [] (Walks program bound choices)
+  walks_end program bound choices s t one other e f shown bytes left also h k =
+      let last : h.walked.last ≡ k.walked.last =
+      (texts_have_one_walk program (system_on d) bound choices h.ending k.ending h.walked.last k.walked.last h.walked.walk k.walked.walk).1 in record {
+        files_ = h.files ∙ sym k.files;
+        slots = h.walked.leaves.disk.files ∙ ap (λ (x : State). x.slots) last ∙ sym k.walked.leaves.disk.files;
+        count = h.walked.leaves.count ∙ sym k.walked.leaves.count;
+        input = h.walked.leaves.input ∙ ap (λ (x : State). x.input) last ∙ sym k.walked.leaves.input;
+        printed = h.walked.leaves.printed ∙ ap (λ (x : State). x.printed) last ∙ sym k.walked.leaves.printed;
+        turns = ap (λ (x : KernelLeft). x.used) (h.kernel_same ∙ sym k.kernel_same);
+      }
+
+  demo_end : (n bound : ℕ) (choices : Choices) (record_file : Option (List ℕ)) → EndsOne [] (Demonstrates n bound choices record_file)
+  demo_end n bound choices record_file s t one other e f shown bytes left also h k =
+      let same = runs_leave (text (demo_text n)) bound choices h.ran.is.ending k.ran.is.ending h.ran.is.drawn k.ran.is.drawn
+      (record { blocks = []; input = []; shown = d.shown; printed = d.printed })
+      (record { blocks = h.ran.disk; input = h.ran.left; shown = e.shown; printed = e.printed })
+      (record { blocks = k.ran.disk; input = k.ran.left; shown = f.shown; printed = f.printed })
+      h.by_program k.by_program left also h.ran.is.ran k.ran.is.ran in record {
+        files_ = h.ran.is.keeps ∙ ap (λ n. with_kept (record_of record_file choices n) files) same.draws ∙ sym k.ran.is.keeps;
+        slots = ap slots_of (h.ran.blocks ∙ sym k.ran.blocks);
+        count = ap length (h.ran.blocks ∙ sym k.ran.blocks);
+        input = h.ran.input ∙ sym k.ran.input;
+        printed = same.printed;
+        turns = same.turns;
+      }
+
+  -- the log is that of the execution; that a text has one log is not claimed here
+  watches_end : (program : List ℕ) (points : List Watched) (bound : ℕ) (choices : Choices) (out : List ℕ) (record_file : Option (List ℕ))
+      → EndsOne (out ∷ []) (Watches program points bound choices out record_file)
+  watches_end program points bound choices out record_file s t one other e f shown bytes left also h k =
+      let same = runs_leave (text program) bound choices h.ending k.ending h.drawn k.drawn d e f shown bytes left also h.ran k.ran in record {
+        files_ =
+            ap (λ x. map.remove x out) h.keeps ∙ log_gone files out h.log k.log record_file choices h.drawn
+            ∙ ap (λ n. map.remove (with_kept ((out, k.log) ∷ record_of record_file choices n) files) out) same.draws
+            ∙ sym (ap (λ x. map.remove x out) k.keeps);
+        slots = same.slots;
+        count = same.count;
+        input = same.input;
+        printed = same.printed;
+        turns = same.turns;
+      }
+
+  -- ---- the commands
+
+  abbrev before : Outside
+  before = told_outside files d
+
+  told : IsTold (told_outside files d)
+  told = told_is files d
+
+  ends_one : (c : Command) → is_decided c ≡ true → EndsOne (names_free c) (Comes c)
+  ends_one (words.run file o) decided = does_end [] (RunSteps before file o.choices) (λ a. Runs (text a.0) o.turns a.1 o.record_file)
+      (text_steps each before before before told told told file o.choices) (λ a. runs_end (text a.0) o.turns a.1 o.record_file)
+  ends_one (words.replay file choices turns) decided = does_end [] (RunSteps before file (words.file choices)) (λ a. Runs (text a.0) turns a.1 None)
+      (text_steps each before before before told told told file (words.file choices)) (λ a. runs_end (text a.0) turns a.1 None)
+  ends_one (words.exec file o) decided = does_end [] (ExecSteps before file o.choices) (λ a. Runs (code a.0) o.turns a.1 o.record_file)
+      (code_steps each before before before told told told file o.choices) (λ a. runs_end (code a.0) o.turns a.1 o.record_file)
+  ends_one (words.boot o) decided = absurd (true≢false (sym decided))
+  ends_one (words.compile file out) decided = does_end (out ∷ []) (TextSteps before file) (λ a. IsDone (KeepsCode out a.0))
+      (compile_steps each before before before told told told file) (λ a. code_end out a.0)
+  ends_one (words.newdisk blocks None) decided = does_end [] (Ready blocks) (λ n. IsDone (OnlyBlocks (AreNew n))) (ready_one blocks)
+      (λ n. blocks_end (AreNew n) (λ a b h k. (h.1.files ∙ sym k.1.files, h.0 ∙ sym k.0)))
+  ends_one (words.newdisk blocks (Some file)) decided =
+      does_end [] (OldSteps before blocks file) (λ old. IsDone (OnlyBlocks (AreMigrated blocks old))) (old_steps each before before before told told told blocks file)
+      (λ old. blocks_end (AreMigrated blocks old) (λ a b h k. (h.1.files ∙ sym k.1.files, h.0 ∙ sym k.0)))
+  ends_one (words.put file title) decided = does_end [] (PutSteps before file title) (λ bytes. IsDone (OnlyBlocks (ArePut title bytes)))
+      (put_steps each before before before told told told file title)
+      (λ bytes. blocks_end (ArePut title bytes) (λ a b h k. (h.1.files ∙ sym k.1.files, h.0 ∙ sym k.0)))
+  ends_one (words.get title file) decided = does_end [] (GetSteps before title) (λ bytes. IsDone (OnlyKeeps ((file, bytes) ∷ [])))
+      (get_steps each before before before told told told title) (λ bytes. keeps_end ((file, bytes) ∷ []))
+  ends_one (words.list file) decided = does_end [] (ListSteps before file) (λ parts. IsDone (OnlyShows (listing_of parts.words)))
+      (list_steps each before before before told told told file) (λ parts. shows_end (listing_of parts.words))
+  ends_one (words.demo n o) decided = does_end [] (DemoSteps before o.choices) (λ choices. Demonstrates n o.turns choices o.record_file)
+      (demo_steps each before before before told told told o.choices) (λ choices. demo_end n o.turns choices o.record_file)
+  ends_one (words.check file) decided = does_end [] (TextSteps before file) (λ a. IsDone (ShowsReport a.1))
+      (compile_steps each before before before told told told file) (λ a. report_end a.1)
+  ends_one (words.explain file) decided = does_end [] (Fetches before file) Explains (fetches_one before told.files file) explains_end
+  ends_one (words.walk file choices turns) decided = does_end [] (RunSteps before file (words.file choices)) (λ a. Walks a.0 turns a.1)
+      (text_steps each before before before told told told file (words.file choices)) (λ a. walks_end a.0 turns a.1)
+  ends_one (words.watch file points_file out o) decided =
+      does_end (out ∷ []) (WatchSteps before file points_file o.choices) (λ a. Watches a.0 a.2 o.turns a.1 out o.record_file)
+      (watch_steps each before before before told told told file points_file o.choices) (λ a. watches_end a.0 a.2 o.turns a.1 out o.record_file)
+  ends_one (words.explore file o) decided = absurd (true≢false (sym decided))
+
+-- THE LAW
+pub one_end : TextsAreOne → OneEnd
+one_end each s t c files one other d e f shown bytes kernel left also decided h k =
+    ends_one each files d kernel c decided s t one other e f shown bytes left also h k

@@ -1,0 +1,13 @@
+pub mod Rules
+pub mod Steps
+pub mod Ends
+pub mod Stored
+pub mod Images
+pub mod Calls
+pub mod Runs
+pub mod Executions
+pub mod Walks
+pub mod Plain
+pub mod Programs
+pub mod Puts
+pub mod Law

@@ -1,0 +1,95 @@
+-- Words of contracts. The laws that a status which words and contents decide is always open: want of memory is never the only answer that is left.
+use Rattle.std.specs.Prelude.{◌≡◌, ◌≤◌, ◌⊎◌, ℕ, Bool, true, false, List, ◌++◌, Some, None, ⊤}
+use Rattle.std.specs.List.{list_all}
+use Rattle.edi_host.specs.Blocks.{is_block}
+use Rattle.edi_host.specs.Contents.{Contents}
+use Rattle.edi_calls.specs.State.{is_title}
+use Rattle.edi_words.specs.Words as words
+use Rattle.edi_words.specs.Words.{Command}
+use Rattle.edi_statuses.specs.declared.status.Status.{Status}
+use Rattle.edi_statuses.specs.Outside.{Outside, Devices, KernelLeft, Lent, outside_with}
+use Rattle.edi_statuses.specs.Steps.{Fetches}
+use Rattle.edi_statuses.specs.Sessions.{BootSteps}
+use Rattle.edi_statuses.specs.Commands.{CommandEffect, Comes, RunSteps, ExecSteps, WatchSteps, TextSteps, OldSteps, PutSteps, GetSteps, ListSteps, DemoSteps}
+use Rattle.edi_statuses.specs.Broken.{WentOn}
+use Rattle.edi_statuses.specs.Decided.{IsDecisive}
+use Rattle.edi_statuses.specs.EachObject.{LeavesEach}
+
+-- ---- told outsides
+
+-- the outside that has these files and devices, all of them told
+abbrev pub told_outside : Contents → Devices → Outside
+told_outside files d = outside_with (Some files) (Some d.blocks) (Some d.input) (Some d.shown) (Some d.printed)
+
+-- a drive has blocks of 512 bytes
+abbrev pub HasBlocks : Devices → Type 0
+HasBlocks d = list_all is_block d.blocks ≡ true
+
+-- the kernel before a call and after it
+abbrev pub lent_from : (before after : KernelLeft) → Lent
+lent_from before after = record { before = before; after = after }
+
+-- ---- an end that is open
+
+-- THE COMMAND MAY END: at a status that words and contents decide. There is an outside after it, told as the one before, with the bytes that were
+-- shown, and a kernel, of which this effect holds; each object is left as a command may leave it.
+pub record MayCome (c : Command) (effect : CommandEffect) (files : Contents) (d : Devices) (kernel : KernelLeft) : Type 0 where
+  pub answer : Status
+  pub decisive : IsDecisive answer
+  pub files_after : Contents
+  pub devices_after : Devices
+  pub shown : List ℕ
+  pub left : KernelLeft
+  pub comes : effect answer (told_outside files d) (told_outside files_after devices_after) shown (lent_from kernel left)
+  pub shows : devices_after.shown ≡ d.shown ++ shown
+  pub each : LeavesEach (Some c) (told_outside files d) (told_outside files_after devices_after)
+
+abbrev pub MayEnd : Command → Contents → Devices → KernelLeft → Type 0
+MayEnd c = MayCome c (Comes c)
+
+-- ---- refusals
+
+-- all steps of a command have gone on
+abbrev pub StepsGo : Command → Outside → Type 0
+StepsGo (words.run file o) before = WentOn (RunSteps before file o.choices)
+StepsGo (words.replay file choices turns) before = WentOn (RunSteps before file (words.file choices))
+StepsGo (words.exec file o) before = WentOn (ExecSteps before file o.choices)
+StepsGo (words.boot o) before = WentOn (BootSteps before o.choices)
+StepsGo (words.compile file out) before = WentOn (TextSteps before file)
+StepsGo (words.newdisk blocks None) before = ⊤
+StepsGo (words.newdisk blocks (Some file)) before = WentOn (OldSteps before blocks file)
+StepsGo (words.put file title) before = WentOn (PutSteps before file title)
+StepsGo (words.get title file) before = WentOn (GetSteps before title)
+StepsGo (words.list file) before = WentOn (ListSteps before file)
+StepsGo (words.demo n o) before = WentOn (DemoSteps before o.choices)
+StepsGo (words.check file) before = WentOn (TextSteps before file)
+StepsGo (words.explain file) before = WentOn (Fetches before file)
+StepsGo (words.walk file choices turns) before = WentOn (RunSteps before file (words.file choices))
+StepsGo (words.watch file points_file out o) before = WentOn (WatchSteps before file points_file o.choices)
+StepsGo (words.explore file o) before = WentOn (TextSteps before file)
+
+-- Of every command: a step stops it at such a status, or all its steps go on.
+abbrev pub SomeStep : Type 0
+SomeStep = (c : Command) (files : Contents) (d : Devices) (kernel : KernelLeft) → MayEnd c files d kernel ⊎ StepsGo c (told_outside files d)
+
+-- ---- the whole
+
+-- what the words of a command give: ranges of numbers, and a title
+abbrev pub IsInRange : Command → Type 0
+IsInRange (words.newdisk blocks old) = (64 ≤ blocks) × (blocks ≤ 4096)
+IsInRange (words.demo n o) = (1 ≤ n) × (n ≤ 1000)
+IsInRange (words.put file title) = is_title title ≡ true
+IsInRange c = ⊤
+
+-- the commands of which the law speaks
+abbrev pub is_open : Command → Bool
+is_open (words.boot o) = false
+is_open (words.newdisk blocks (Some file)) = false
+is_open (words.check file) = false
+is_open (words.explain file) = false
+is_open c = true
+
+-- THE LAW. Each of these commands may end at a decisive status, whatever the files are, the blocks of the drive, the input, the terminal, the printer
+-- and the kernel: want of memory is never the only answer that is left.
+abbrev pub SomeStatus : Type 0
+SomeStatus = (c : Command) (files : Contents) (d : Devices) (kernel : KernelLeft) → is_open c ≡ true → IsInRange c → HasBlocks d → MayEnd c files d kernel

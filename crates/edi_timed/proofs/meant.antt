@@ -1,0 +1,10 @@
+pub mod Lines
+pub mod Whens
+pub mod Placed
+pub mod Left
+pub mod Stays
+pub mod Remembered
+pub mod Stints
+pub mod Ends
+pub mod Meant
+pub mod Selected
