@@ -1,6 +1,6 @@
 -- Definition. WHAT `explore` SHOWS: a line for each ending that was found, and a line that says whether these are all. And the status by which
 -- they are told.
-use Rattle.std.specs.Prelude.{ℕ, zero, suc, ◌==◌, nat_lt, nat_le, Bool, true, false, if◌then◌else◌, List, [], ◌∷◌, ◌++◌, length, take, Option, Some, None, codes}
+use Rattle.std.specs.Prelude.{ℕ, zero, suc, ◌+◌, ◌==◌, nat_lt, nat_le, Bool, true, false, if◌then◌else◌, List, [], ◌∷◌, ◌++◌, length, take, Option, Some, None, codes}
 use Rattle.std.specs.Fmt.{decimal}
 use Rattle.edi_calls.specs.Outcome as outcome
 use Rattle.edi_calls.specs.Outcome.{Ending}
@@ -48,18 +48,18 @@ states_text n = decimal n ++ (codes " state" ++ plural n)
 
 -- ---- the lines
 
--- `, called on line 28` for each call that leads there
-abbrev pub called_text : List ℕ → List ℕ
-called_text [] = []
-called_text (line ∷ lines) = codes ", called on line " ++ (decimal line ++ called_text lines)
+-- ` waits at line 15` for the first line, `, called on line 28` for each other one
+abbrev pub line_text : (first : Bool) → ℕ → List ℕ
+line_text true line = codes " waits at line " ++ decimal line
+line_text false line = codes ", called on line " ++ decimal line
 
-abbrev pub at_text : List ℕ → List ℕ
-at_text [] = []
-at_text (line ∷ lines) = codes " waits at line " ++ (decimal line ++ called_text lines)
+abbrev pub lines_text : (first : Bool) → List ℕ → List ℕ
+lines_text first [] = []
+lines_text first (line ∷ lines) = line_text first line ++ lines_text false lines
 
 -- `  1.1 waits at line 15, called on line 28`
 abbrev pub wait_line : Waiting → List ℕ
-wait_line w = codes "  " ++ (process_text w.process ++ (at_text w.lines ++ codes "\n"))
+wait_line w = codes "  " ++ (process_text w.process ++ (lines_text true w.lines ++ codes "\n"))
 
 abbrev pub wait_lines : List Waiting → List ℕ
 wait_lines [] = []
@@ -69,18 +69,21 @@ wait_lines (w ∷ waits) = wait_line w ++ wait_lines waits
 abbrev pub kept_text : (name : List ℕ) → (most number : ℕ) → List ℕ
 kept_text name most number = if nat_le number most then codes " in " ++ record_name name number else []
 
--- `line 12 range after 57 turns: choices 4 0 in NAME.3`, and who waits where
+-- `line 12 range after 57 turns: `
+abbrev pub head_text : Reached → List ℕ
+head_text one = ending_text one.ending ++ (codes " after " ++ (turns_text one.turns ++ codes ": "))
+
+-- `choices 4 0 in NAME.3`, and who waits where
+abbrev pub tail_text : (name : List ℕ) → (most number : ℕ) → Reached → List ℕ
+tail_text name most number one = choices_text one.choices ++ (kept_text name most number ++ (codes "\n" ++ wait_lines one.waits))
+
 abbrev pub ending_line : (name : List ℕ) → (most number : ℕ) → Reached → List ℕ
-ending_line name most number one =
-    ending_text one.ending
-    ++ (codes " after "
-    ++ (turns_text one.turns
-    ++ (codes ": " ++ (choices_text one.choices ++ (kept_text name most number ++ (codes "\n" ++ wait_lines one.waits))))))
+ending_line name most number one = head_text one ++ tail_text name most number one
 
 -- from this number on
 abbrev pub ending_lines : (name : List ℕ) → (most number : ℕ) → List Reached → List ℕ
 ending_lines name most number [] = []
-ending_lines name most number (one ∷ found) = ending_line name most number one ++ ending_lines name most (suc number) found
+ending_lines name most number (one ∷ found) = ending_line name most number one ++ ending_lines name most (number + 1) found
 
 -- Where all executions were followed. That one ends so does not say that each one ends.
 abbrev pub all_text : (found : ℕ) → List ℕ
@@ -104,7 +107,7 @@ abbrev pub verdict_line : Findings → List ℕ
 verdict_line f = verdict_text f.verdict (length f.endings) f.cut ++ (codes "; " ++ (states_text f.states ++ codes "\n"))
 
 -- THE LINES, where choices are kept under this name or not
-abbrev pub report_text : (record : Option (List ℕ)) → Findings → List ℕ
+abbrev pub report_text : Option (List ℕ) → Findings → List ℕ
 report_text None f = ending_lines [] 0 1 f.endings ++ verdict_line f
 report_text (Some name) f = ending_lines name most_records 1 f.endings ++ verdict_line f
 

@@ -1,5 +1,5 @@
 -- Words of contracts. What a report of the search finds, as plain data; and what reading an input takes of it.
-use Rattle.std.specs.Prelude.{◌≡◌, ℕ, ◌<◌, ◌≤◌, suc, List, [], ◌∷◌, ◌++◌, length, drop, map, Result, Ok, Err, codes}
+use Rattle.std.specs.Prelude.{◌≡◌, ℕ, ◌<◌, ◌≤◌, suc, Bool, true, false, List, [], ◌∷◌, ◌++◌, length, drop, map, Result, Ok, Err, codes}
 use Rattle.std.specs.Global.{Vec}
 use Rattle.edi_timeline.specs.Told.{meant}
 use Rattle.edi_timeline.specs.Text.{branch_text}
@@ -18,10 +18,14 @@ reached_of f = record { ending = meant f.ending; choices = f.choices.items; turn
 abbrev pub findings_of : code_report.Report → Findings
 findings_of r = record { endings = map reached_of r.found.items; verdict = r.verdict; states = r.states; cut = r.cut.items }
 
--- `/1.2` for each branch
-abbrev pub more_branches : List Branch → List ℕ
-more_branches [] = []
-more_branches (branch ∷ branches) = codes "/" ++ (branch_text branch.fork branch.number ++ more_branches branches)
+-- `1.2` for the first branch, `/1.2` for each other one
+abbrev pub step_text : (first : Bool) → Branch → List ℕ
+step_text true branch = branch_text branch.fork branch.number
+step_text false branch = codes "/" ++ branch_text branch.fork branch.number
+
+abbrev pub steps_text : (first : Bool) → List Branch → List ℕ
+steps_text first [] = []
+steps_text first (branch ∷ branches) = step_text first branch ++ steps_text false branches
 
 -- these first bytes of an input were taken
 abbrev pub HasTaken : (taken old new : List ℕ) → Type 0

@@ -24,6 +24,34 @@ fn put_kept(out: &mut Vec<u8>, name: &str, most: usize, number: usize) -> Result
     put_number(out, number as u64)
 }
 
+// Puts an ending, and after how many turns it comes.
+fn put_head(out: &mut Vec<u8>, found: &Found) -> Result<(), AllocError>
+    ensures exact { OnOk result (out.new.items ≡ out.old.items ++ spec.head_text (reached_of found.now)) }
+{
+    put_ending(out, found.ending)?;
+    out.extend_from_slice(b" after ")?;
+    put_turns(out, found.turns)?;
+    out.extend_from_slice(b": ")?;
+    Ok(())
+}
+
+// Puts the choices of the ending with this number, and who waits where.
+fn put_tail(
+    out: &mut Vec<u8>,
+    name: &str,
+    most: usize,
+    number: usize,
+    found: &Found,
+) -> Result<(), AllocError>
+    ensures exact { OnOk result (out.new.items ≡ out.old.items ++ spec.tail_text name.now most number (reached_of found.now)) }
+{
+    put_choices(out, &found.choices)?;
+    put_kept(out, name, most, number)?;
+    out.extend_from_slice(b"\n")?;
+    put_waits(out, &found.waits)?;
+    Ok(())
+}
+
 // Puts the lines of the ending with this number.
 fn put_found(
     out: &mut Vec<u8>,
@@ -34,14 +62,9 @@ fn put_found(
 ) -> Result<(), AllocError>
     ensures exact { OnOk result (out.new.items ≡ out.old.items ++ spec.ending_line name.now most number (reached_of found.now)) }
 {
-    put_ending(out, found.ending)?;
-    out.extend_from_slice(b" after ")?;
-    put_turns(out, found.turns)?;
-    out.extend_from_slice(b": ")?;
-    put_choices(out, &found.choices)?;
-    put_kept(out, name, most, number)?;
-    out.extend_from_slice(b"\n")?;
-    put_waits(out, &found.waits)
+    put_head(out, found)?;
+    put_tail(out, name, most, number, found)?;
+    Ok(())
 }
 
 // Puts the lines of endings, of which the first has number 1.
@@ -53,10 +76,10 @@ fn put_endings(
 ) -> Result<(), AllocError>
     ensures exact { OnOk result (out.new.items ≡ out.old.items ++ spec.ending_lines name.now most 1 (map reached_of endings.now)) }
 {
-    let mut number: usize = 0;
+    let mut number: usize = 1;
     for found in endings {
-        number += 1;
         put_found(out, name, most, number, found)?;
+        number += 1;
     }
     Ok(())
 }
@@ -73,17 +96,25 @@ fn put_all(out: &mut Vec<u8>, endings: usize) -> Result<(), AllocError>
     Ok(())
 }
 
-// Puts which executions were followed where not all were.
-fn put_below(out: &mut Vec<u8>, why: &[u8], moves: usize) -> Result<(), AllocError>
-    ensures exact { OnOk result (out.new.items ≡ out.old.items ++ (why.now ++ spec.below_text moves)) }
+// Puts that all executions of fewer moves were followed.
+fn put_followed(out: &mut Vec<u8>, moves: usize) -> Result<(), AllocError>
+    ensures exact { OnOk result (out.new.items ≡ out.old.items ++ spec.below_text moves) }
 {
-    out.extend_from_slice(why)?;
     if moves == 0 {
         return Ok(());
     }
     out.extend_from_slice(b"; every execution of fewer than ")?;
     put_moves(out, moves as u64)?;
     out.extend_from_slice(b" was followed")?;
+    Ok(())
+}
+
+// Puts which executions were followed where not all were.
+fn put_below(out: &mut Vec<u8>, why: &[u8], moves: usize) -> Result<(), AllocError>
+    ensures exact { OnOk result (out.new.items ≡ out.old.items ++ (why.now ++ spec.below_text moves)) }
+{
+    out.extend_from_slice(why)?;
+    put_followed(out, moves)?;
     Ok(())
 }
 
@@ -96,7 +127,8 @@ fn put_cut(out: &mut Vec<u8>, choices: &[u8], moves: usize) -> Result<(), AllocE
         b"perhaps not all: a process goes on for more turns than --turns allows, with ",
     )?;
     put_choices(out, choices)?;
-    put_below(out, b"", moves)
+    put_followed(out, moves)?;
+    Ok(())
 }
 
 // Puts whether there are others than so many endings.
@@ -146,15 +178,16 @@ fn text_with(alloc: Global, report: &Report, name: &str, most: usize) -> Result<
 /// The lines of a report: one for each ending in the order in which they were found, as `line 12 range after 57 turns: choices 4 0`; after that of
 /// a standstill one for each process that waits; and one that says whether there are others, as `no execution ends otherwise; 45 states`. Where
 /// choices are kept under a name, the line of an ending says in which file. The only error is want of memory.
+#[tactic(auto, unfolding(crate::specs::Records::most_records))]
 pub fn report_text(
     alloc: Global,
     report: &Report,
-    record: Option<&str>,
+    kept: Option<&str>,
 ) -> Result<Vec<u8>, AllocError>
     ensures exact { IfOk result (λ text. text.items
-        ≡ spec.report_text (option_map (λ name. name.now) record.entry) (findings_of report.now)) }
+        ≡ spec.report_text (option_map (λ name. name.now) kept.entry) (findings_of report.now)) }
 {
-    match record {
+    match kept {
         Some(name) => text_with(alloc, report, name, MOST_RECORDS),
         None => text_with(alloc, report, "", 0),
     }

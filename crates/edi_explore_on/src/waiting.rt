@@ -4,7 +4,7 @@ ghost use Rattle.std.specs.Prelude.{◌≡◌, ◌++◌, OnOk, map};
 ghost use Rattle.edi_timeline.specs.Text.{branch_text, process_text};
 ghost use Rattle.edi_waits.specs.Told.{name_of, waiting_of};
 ghost use Rattle.edi_explore_on.specs.Lines as spec;
-ghost use Rattle.edi_explore_on.specs.Told.{more_branches};
+ghost use Rattle.edi_explore_on.specs.Told.{step_text, steps_text};
 
 use edi_timeline::words::put_number;
 use edi_waits::{Branch, Wait};
@@ -19,13 +19,25 @@ fn put_branch(out: &mut Vec<u8>, branch: Branch) -> Result<(), AllocError>
     put_number(out, u64::from(branch.number) + 1)
 }
 
-// Puts `/1.2` for each branch.
-fn put_more(out: &mut Vec<u8>, branches: &[Branch]) -> Result<(), AllocError>
-    ensures exact { OnOk result (out.new.items ≡ out.old.items ++ more_branches branches.now) }
+// Puts a branch, after a stroke unless it is the first one.
+fn put_step(out: &mut Vec<u8>, first: bool, branch: Branch) -> Result<(), AllocError>
+    ensures exact { OnOk result (out.new.items ≡ out.old.items ++ step_text first branch) }
 {
+    if first {
+        return put_branch(out, branch);
+    }
+    out.extend_from_slice(b"/")?;
+    put_branch(out, branch)
+}
+
+// Puts the branches of a process.
+fn put_steps(out: &mut Vec<u8>, branches: &[Branch]) -> Result<(), AllocError>
+    ensures exact { OnOk result (out.new.items ≡ out.old.items ++ steps_text true branches.now) }
+{
+    let mut first = true;
     for branch in branches {
-        out.extend_from_slice(b"/")?;
-        put_branch(out, *branch)?;
+        put_step(out, first, *branch)?;
+        first = false;
     }
     Ok(())
 }
@@ -38,31 +50,32 @@ fn put_process(out: &mut Vec<u8>, process: &[Branch]) -> Result<(), AllocError>
         out.extend_from_slice(b"main")?;
         return Ok(());
     }
-    put_branch(out, process[0])?;
-    put_more(out, &process[1..])
-}
-
-// Puts on which lines the calls stand.
-fn put_called(out: &mut Vec<u8>, lines: &[u16]) -> Result<(), AllocError>
-    ensures exact { OnOk result (out.new.items ≡ out.old.items ++ spec.called_text lines.now) }
-{
-    for line in lines {
-        out.extend_from_slice(b", called on line ")?;
-        put_number(out, u64::from(*line))?;
-    }
+    put_steps(out, process)?;
     Ok(())
 }
 
-// Puts at which line a process waits, and where it was called.
-fn put_at(out: &mut Vec<u8>, lines: &[u16]) -> Result<(), AllocError>
-    ensures exact { OnOk result (out.new.items ≡ out.old.items ++ spec.at_text lines.now) }
+// Puts the line at which a process waits, or that of a call.
+fn put_line(out: &mut Vec<u8>, first: bool, line: u16) -> Result<(), AllocError>
+    ensures exact { OnOk result (out.new.items ≡ out.old.items ++ spec.line_text first line) }
 {
-    if lines.is_empty() {
-        return Ok(());
+    if first {
+        out.extend_from_slice(b" waits at line ")?;
+        return put_number(out, u64::from(line));
     }
-    out.extend_from_slice(b" waits at line ")?;
-    put_number(out, u64::from(lines[0]))?;
-    put_called(out, &lines[1..])
+    out.extend_from_slice(b", called on line ")?;
+    put_number(out, u64::from(line))
+}
+
+// Puts at which line a process waits, and where it was called.
+fn put_lines(out: &mut Vec<u8>, lines: &[u16]) -> Result<(), AllocError>
+    ensures exact { OnOk result (out.new.items ≡ out.old.items ++ spec.lines_text true lines.now) }
+{
+    let mut first = true;
+    for line in lines {
+        put_line(out, first, *line)?;
+        first = false;
+    }
+    Ok(())
 }
 
 // Puts the line of a process that waits.
@@ -71,7 +84,7 @@ fn put_wait(out: &mut Vec<u8>, wait: &Wait) -> Result<(), AllocError>
 {
     out.extend_from_slice(b"  ")?;
     put_process(out, &wait.process)?;
-    put_at(out, &wait.lines)?;
+    put_lines(out, &wait.lines)?;
     out.extend_from_slice(b"\n")?;
     Ok(())
 }
