@@ -1,6 +1,6 @@
 //! The lines that tell who waits where.
 
-ghost use Rattle.std.specs.Prelude.{◌≡◌, ◌++◌, OnOk, map};
+ghost use Rattle.std.specs.Prelude.{◌≡◌, ◌++◌, true, false, OnOk, map};
 ghost use Rattle.edi_timeline.specs.Text.{branch_text, process_text};
 ghost use Rattle.edi_waits.specs.Told.{name_of, waiting_of};
 ghost use Rattle.edi_explore_on.specs.Lines as spec;
@@ -54,16 +54,32 @@ fn put_process(out: &mut Vec<u8>, process: &[Branch]) -> Result<(), AllocError>
     Ok(())
 }
 
+// Puts the line at which a process waits.
+fn put_waiting(out: &mut Vec<u8>, line: u16) -> Result<(), AllocError>
+    ensures exact { OnOk result (out.new.items ≡ out.old.items ++ spec.line_text true line) }
+{
+    out.extend_from_slice(b" waits at line ")?;
+    put_number(out, u64::from(line))?;
+    Ok(())
+}
+
+// Puts the line of a call.
+fn put_called(out: &mut Vec<u8>, line: u16) -> Result<(), AllocError>
+    ensures exact { OnOk result (out.new.items ≡ out.old.items ++ spec.line_text false line) }
+{
+    out.extend_from_slice(b", called on line ")?;
+    put_number(out, u64::from(line))?;
+    Ok(())
+}
+
 // Puts the line at which a process waits, or that of a call.
 fn put_line(out: &mut Vec<u8>, first: bool, line: u16) -> Result<(), AllocError>
     ensures exact { OnOk result (out.new.items ≡ out.old.items ++ spec.line_text first line) }
 {
     if first {
-        out.extend_from_slice(b" waits at line ")?;
-        return put_number(out, u64::from(line));
+        return put_waiting(out, line);
     }
-    out.extend_from_slice(b", called on line ")?;
-    put_number(out, u64::from(line))
+    put_called(out, line)
 }
 
 // Puts at which line a process waits, and where it was called.
