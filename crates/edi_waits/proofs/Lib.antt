@@ -1,0 +1,5 @@
+mod Lists
+mod CallLines
+mod Listed
+mod Naming
+mod Rounds

@@ -1,0 +1,5 @@
+pub mod Places
+pub mod Waits
+pub mod Told
+pub mod Names
+pub mod Runs
