@@ -13,7 +13,7 @@ use Rattle.edi_explore.proofs.search.is_cut.Goals as goal
 pub returns : goal.returns
 returns c = λ unit coded is told.
     let found = c.in_ok-found.found in
-    let same : found.ending ≡ ending.Turns = ending_same found.ending ending.Turns (sym c.eq.ensures ∙ told) in
+    let same : found.ending ≡ ending.Turns = ending_same found.ending ending.Turns (sym c.eq-2.ensures ∙ told) in
     let r = c.in_ok-found.ensures.exact unit coded is in
     let s = r.came outcome.turns (ap ending_of same) in
     let list : found.choices.items ≡ c.args.choices.now = r.choices_are ∙ c.in_ok-again.ensures.items in
