@@ -269,10 +269,12 @@ fn watch_round<C: Calls>(
 {
     let left = bound - kernel.turns_used();
     let end = kernel.stint(stops.mapped.code(), calls, left);
-    log_stop(kernel, stops, log);
+    // Logged on each way by itself: then no ending is carried along where none is.
     if let Some(ending) = ended_by(end) {
+        log_stop(kernel, stops, log);
         return Some(ending);
     }
+    log_stop(kernel, stops, log);
     proceed(kernel, choices)
 }
 

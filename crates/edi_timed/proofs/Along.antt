@@ -1,5 +1,5 @@
 -- A timed run, stint by stint: the stints so far, and those that end from here on, are those of the run from its start.
-use Rattle.std.proofs.Common.{◌≡◌, ℕ, zero, suc, Bool, true, false, List, [], ◌∷◌, ◌++◌, length, Option, Some, None, refl, sym, ap, ◌∙◌, subst}
+use Rattle.std.proofs.Common.{◌≡◌, ℕ, zero, suc, Bool, false, List, [], ◌++◌, length, Option, Some, None, refl, sym, ap, ◌∙◌, subst}
 use Rattle.edi_calls.specs.Choice.{Choices}
 use Rattle.edi_calls.specs.Names.{Name, find}
 use Rattle.edi_calls.specs.Outcome as outcome
@@ -14,7 +14,7 @@ use Rattle.edi_kernel.specs.Moments.{Moment, moment_at, moment, moment_on, momen
 use Rattle.edi_kernel.specs.Stints as stints
 use Rattle.edi_kernel.specs.Stints.{stint_after, stint, goes_with, followed}
 use Rattle.edi_timeline.specs.Stints.{Stint, over}
-use Rattle.edi_timed.specs.Ran.{Open, opened, start_in, end_in, closed, with_closed, timed_on, timed_after, timed}
+use Rattle.edi_timed.specs.Ran.{Open, opened, start_in, end_in, with_closed, timed_on, timed_after, timed}
 use Rattle.edi_timed.specs.Underway.{From, MomentOf, StintsOf, Underway}
 
 module _ (code : CodeParts) (choices : Choices) (bound : ℕ) where

@@ -1,5 +1,5 @@
 -- A round of a timed run, by how its stint has ended.
-use Rattle.std.proofs.Common.{◌≡◌, ◌≤◌, ◌<◌, ℕ, zero, suc, ◌+◌, ◌-◌, Bool, true, false, nat_le, if◌then◌else◌, List, [], ◌∷◌, ◌++◌, length, map, drop}
+use Rattle.std.proofs.Common.{◌≡◌, ◌<◌, ℕ, ◌+◌, ◌-◌, Bool, true, false, if◌then◌else◌, List, [], ◌∷◌, ◌++◌, length, drop}
 use Rattle.std.proofs.Common.{Option, Some, None, refl, ap, sym, ◌∙◌, subst, arith}
 use Rattle.std.specs.Prelude.{◌&&◌, ◌==◌, nat_lt}
 use Rattle.std.proofs.lemmas.Bool.{eqb-true, lt-leb}
@@ -19,24 +19,22 @@ use Rattle.edi_kernel.specs.declared.ends.StintEnd.{StintEnd}
 use Rattle.edi_kernel.specs.declared.ends.StintEnd.TheVariants as stint_end
 use Rattle.edi_kernel.specs.declared.state.KernelState.{KernelState}
 use Rattle.edi_kernel.specs.declared.table.Standing.TheVariants as standing
-use Rattle.edi_kernel.specs.Table.{is_live, process_at, ready_slots}
+use Rattle.edi_kernel.specs.Table.{process_at, ready_slots}
 use Rattle.edi_kernel.specs.TableIsMachine.{Naming}
-use Rattle.edi_kernel.specs.Kernel.{ForksInto, Holds, StandsArrived, Switches, ended_by, is_over, used_in}
+use Rattle.edi_kernel.specs.Kernel.{ForksInto, Switches, ended_by, used_in}
 use Rattle.edi_kernel.specs.Named.{ChoosesBy, EndsBy, GoesBy, HoldsBy, NamesGrow, SlotsStay}
 use Rattle.edi_kernel.proofs.Named.{goes_to}
 use Rattle.edi_timeline.specs.Stints.{End, Stint, arrives, waits, tries}
 use Rattle.edi_timeline.specs.Timelines.{Told}
-use Rattle.edi_timeline.specs.declared.entry.Came.{Came}
-use Rattle.edi_timeline.specs.declared.entry.Came.TheVariants as came
 use Rattle.edi_timeline.specs.declared.entry.Said.{Said}
-use Rattle.edi_timeline.specs.Adding.{end_of, is_at, is_fork}
+use Rattle.edi_timeline.specs.Adding.{is_fork}
 use Rattle.edi_timed.specs.declared.seats.Seated.{Seated}
 use Rattle.edi_timed.specs.declared.leaving.Begun.{Begun}
 use Rattle.edi_timed.specs.Ran.{end_in, is_spot, place, start_in}
-use Rattle.edi_timed.specs.Seats.{Fitting, seats_after}
+use Rattle.edi_timed.specs.Seats.{Fitting}
 use Rattle.edi_timed.specs.Leaving.{AddsBy, AddsStint, arrived_at, ended_as, left_at, spot_in}
 use Rattle.edi_timed.specs.Timed.{Timed}
-use Rattle.edi_timed.specs.Underway.{AreSeated, AreUnborn, Going, Sits}
+use Rattle.edi_timed.specs.Underway.{AreSeated, AreUnborn, Going}
 use Rattle.edi_timed.proofs.Left.{arrived_is, failed_marks, forked_is, marks_are, ready_more}
 use Rattle.edi_timed.proofs.Rounds.{AddsHeard, HasGone, Closed, End_now, Own, live, table, name_is, process_is, count_is, sits, stood_is, over_at, unready, goes_further}
 use Rattle.edi_timed.proofs.Seated.{a_fork, seated_forked, seated_on, unborn_forked, unborn_on}

@@ -1,7 +1,6 @@
 -- How a stint has left its process: what the kernel keeps tells what the machine has.
-use Rattle.std.proofs.Common.{◌≡◌, ◌≤◌, ◌<◌, ◌⊎◌, inl, inr, ℕ, zero, suc, ◌+◌, ◌-◌, Bool, true, false, ◌&&◌, ◌||◌, if◌then◌else◌, nat_lt, List, [], ◌∷◌, ◌++◌}
-use Rattle.std.proofs.Common.{length, map, Option, Some, None, refl, ap, sym, ◌∙◌, subst, arith, length-append}
-use Rattle.std.specs.Option.{option_map}
+use Rattle.std.proofs.Common.{◌≡◌, ◌⊎◌, inl, inr, ℕ, ◌+◌, Bool, true, false, ◌&&◌, ◌||◌, if◌then◌else◌, nat_lt, List, [], ◌∷◌, ◌++◌}
+use Rattle.std.proofs.Common.{length, map, Option, Some, None, refl, ap, sym, ◌∙◌, arith, length-append}
 use Rattle.std.proofs.lemmas.List.{length-map}
 use Rattle.edi_calls.specs.Names.{Name, find, same}
 use Rattle.edi_calls.specs.Outcome as outcome
@@ -13,7 +12,6 @@ use Rattle.edi_target.specs.Fetch.{fetch}
 use Rattle.edi_target.specs.Mach.{Answer, on, behind, turned, local_step, running_of, is_first, Running, Activity, Machine, Stepped, went, ended, step, step_of}
 use Rattle.edi_target.specs.Mach.{at_when, waiting, activity_of, back, kernel}
 use Rattle.edi_target.specs.Mach as mach
-use Rattle.edi_machine.specs.Activities.{local_of}
 use Rattle.edi_kernel.specs.declared.ends.StintEnd.TheVariants as stint_end
 use Rattle.edi_kernel.specs.declared.state.KernelState.{KernelState}
 use Rattle.edi_kernel.specs.declared.table.Standing.TheVariants as standing
@@ -23,7 +21,7 @@ use Rattle.edi_kernel.specs.Kernel.{IsKernel, Holds, StandsArrived}
 use Rattle.edi_kernel.specs.Kept.{IsMarkCount}
 use Rattle.edi_kernel.proofs.Again.{mark_count}
 use Rattle.edi_kernel.proofs.Changes.{positive}
-use Rattle.edi_timeline.specs.Stints.{Start, End, arrives, waits, tries, forks, ends}
+use Rattle.edi_timeline.specs.Stints.{Start, End, arrives, waits, tries, forks}
 use Rattle.edi_timeline.specs.Adding.{is_at}
 use Rattle.edi_timed.specs.declared.leaving.Begun.{Begun}
 use Rattle.edi_timed.specs.Ran.{Open, place, is_spot, is_marked, left_as, end_in}

@@ -1,6 +1,6 @@
 -- The lines of a place, one call after another; the branches of a fork, one slot after another.
-use Rattle.std.proofs.Common.{◌≡◌, ◌≤◌, ◌<◌, ℕ, zero, suc, ◌+◌, ◌-◌, Bool, true, false, if◌then◌else◌, List, [], ◌∷◌, ◌++◌, length, take, drop, Option, Some, None}
-use Rattle.std.proofs.Common.{refl, ap, sym, ◌∙◌, subst, arith, slice_set, append_assoc, append-nil}
+use Rattle.std.proofs.Common.{◌≡◌, ◌≤◌, ◌<◌, ℕ, zero, suc, ◌+◌, ◌-◌, Bool, true, false, if◌then◌else◌, List, [], ◌∷◌, ◌++◌, length, take, drop, Some, None}
+use Rattle.std.proofs.Common.{refl, ap, sym, ◌∙◌, arith, slice_set, append_assoc, append-nil}
 use Rattle.std.specs.Prelude.{slice_get}
 use Rattle.edi_target.specs.Memory.{word}
 use Rattle.edi_target.specs.Op.{address_of_words}

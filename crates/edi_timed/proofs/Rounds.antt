@@ -1,9 +1,9 @@
 -- A round of a timed run: the stint that the timeline gets is the one that has ended on the machine.
-use Rattle.std.proofs.Common.{◌≡◌, ◌≤◌, ◌<◌, ℕ, zero, suc, ◌+◌, ◌-◌, Bool, true, false, nat_le, if◌then◌else◌, List, [], ◌∷◌, ◌++◌, length, map, take, drop}
-use Rattle.std.proofs.Common.{Option, Some, None, inl, inr, refl, ap, sym, ◌∙◌, subst, arith, append-nil}
-use Rattle.std.specs.Prelude.{nat_lt, ◌&&◌, not, ◌==◌}
+use Rattle.std.proofs.Common.{◌≡◌, ◌≤◌, ◌<◌, ℕ, suc, ◌-◌, Bool, true, false, nat_le, if◌then◌else◌, List, [], ◌∷◌, ◌++◌, length, take, drop}
+use Rattle.std.proofs.Common.{Some, None, inl, inr, refl, ap, sym, ◌∙◌, subst, arith, append-nil}
+use Rattle.std.specs.Prelude.{nat_lt, ◌&&◌, not}
 use Rattle.std.specs.Option.{option_map}
-use Rattle.std.proofs.lemmas.Bool.{cases_eq, leb-true, leb-false, ne_eqb, eqb-true}
+use Rattle.std.proofs.lemmas.Bool.{cases_eq, leb-true, leb-false, ne_eqb}
 use Rattle.std.proofs.lemmas.List.{length-map}
 use Rattle.edi_calls.specs.Names.{Name, find}
 use Rattle.edi_calls.specs.Outcome as outcome
@@ -23,36 +23,32 @@ use Rattle.edi_kernel.specs.declared.state.KernelState.{KernelState}
 use Rattle.edi_kernel.specs.declared.table.Process.{Process}
 use Rattle.edi_kernel.specs.declared.table.Standing.{Standing}
 use Rattle.edi_kernel.specs.declared.table.Standing.TheVariants as standing
-use Rattle.edi_kernel.specs.declared.table.Table.{Table}
-use Rattle.edi_kernel.specs.Table.{Withdraws, is_free_home, is_live, process_at, ready_slots}
-use Rattle.edi_kernel.specs.TableIsMachine.{IsTable, IsTaken, Naming, TableIsMachine, entry_of, standing_of}
-use Rattle.edi_kernel.specs.Kernel.{IsKernel, IsTakenIn, Holds, EndsAs, EndsRun, BreaksOff, Switches, GoesTo, ended_by, used_in}
-use Rattle.edi_kernel.specs.Named.{ChoosesBy, EndsBy, GoesBy, HoldsBy, SlotsStay}
+use Rattle.edi_kernel.specs.Table.{is_free_home, is_live, process_at, ready_slots}
+use Rattle.edi_kernel.specs.TableIsMachine.{IsTaken, Naming, TableIsMachine, entry_of, standing_of}
+use Rattle.edi_kernel.specs.Kernel.{IsKernel, IsTakenIn, EndsAs, EndsRun, BreaksOff, Switches, GoesTo}
+use Rattle.edi_kernel.specs.Named.{ChoosesBy, EndsBy, SlotsStay}
 use Rattle.edi_kernel.specs.Moments.{moment_at}
 use Rattle.edi_kernel.specs.Runs.{Chooses, IsAtBy, RunsAs, TakesNext}
 use Rattle.edi_kernel.proofs.Lists.{live_of_home}
-use Rattle.edi_kernel.proofs.Named.{goes_to}
 use Rattle.edi_kernel.proofs.Slots.{listed, listed_below}
-use Rattle.edi_timeline.specs.Stints.{Start, Stint, End, over}
+use Rattle.edi_timeline.specs.Stints.{Stint, End, over}
 use Rattle.edi_timeline.specs.Text.{kept}
 use Rattle.edi_timeline.specs.Told.{meant}
 use Rattle.edi_timeline.specs.Timelines.{Told, told_of}
 use Rattle.edi_timeline.specs.declared.entry.Said.{Said}
-use Rattle.edi_timeline.specs.Adding.{added, counted, end_of, is_at, nth_stint, process_after, said_in, start_after, stint_after, used_by}
+use Rattle.edi_timeline.specs.Adding.{added, counted, end_of, is_at, said_in, start_after, stint_after, used_by}
 use Rattle.edi_timeline.proofs.Telling.{told_adds, told_counts}
 use Rattle.edi_timed.specs.declared.seats.Seated.{Seated}
 use Rattle.edi_timed.specs.declared.leaving.Begun.{Begun}
 use Rattle.edi_timed.specs.Hearing.{HasShown}
-use Rattle.edi_timed.specs.Ran.{Open, closed, end_in, newest_of, opened, spot_as, spot_of, start_in, with_closed}
-use Rattle.edi_timed.specs.Seats.{Fits, Fitting, seat_at}
-use Rattle.edi_timed.specs.Leaving.{AddsBy, AddsStint, Begins, ended_as, left_at, spot_at, spot_by, spot_in}
+use Rattle.edi_timed.specs.Ran.{closed, end_in, opened, spot_as, spot_of, start_in, with_closed}
+use Rattle.edi_timed.specs.Seats.{Fits, seat_at}
+use Rattle.edi_timed.specs.Leaving.{AddsBy, AddsStint, Begins, left_at, spot_by, spot_in}
 use Rattle.edi_timed.specs.Timed.{HasStints, Timed}
-use Rattle.edi_timed.specs.Underway.{AreSeated, AreUnborn, Going, HasBegun, Sits, Underway}
+use Rattle.edi_timed.specs.Underway.{AreSeated, AreUnborn, Going, Sits}
 use Rattle.edi_timed.proofs.Along.{goes_on, ends_unready, ends_here, breaks_here}
 use Rattle.edi_timed.proofs.Hearing.{of_the_first}
-use Rattle.edi_timed.proofs.Left.{arrived_is, failed_marks, forked_is, marks_are, ready_more}
 use Rattle.edi_timed.proofs.Newest.{told_last, used_more, one_longer}
-use Rattle.edi_timed.proofs.Seated.{a_fork, seated_forked, seated_on, unborn_forked, unborn_on}
 
 -- ---- endings
 

@@ -14,7 +14,7 @@ use Rattle.edi_kernel.specs.Named.{IsBorn, NamesGrow, SlotsStay}
 use Rattle.edi_kernel.proofs.Changes.{live_below}
 use Rattle.edi_timeline.specs.declared.entry.Came.{Came}
 use Rattle.edi_timeline.specs.declared.entry.Came.TheVariants as came
-use Rattle.edi_timeline.specs.Stints.{Stint, End, forks}
+use Rattle.edi_timeline.specs.Stints.{Stint, forks}
 use Rattle.edi_timeline.specs.Adding.{end_of, has_failed, is_fork, is_at, nth_stint, process_after, start_after, start_by}
 use Rattle.edi_timed.specs.declared.seats.Seated.{Seated}
 use Rattle.edi_timed.specs.Ran.{newest_of, start_in}

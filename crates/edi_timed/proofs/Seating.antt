@@ -1,6 +1,6 @@
 -- What is kept of processes by their slots, after a stint.
-use Rattle.std.proofs.Common.{◌≡◌, ◌≤◌, ◌<◌, ◌⊎◌, inl, inr, ℕ, zero, suc, ◌+◌, Bool, true, false, if◌then◌else◌, nat_le, nat_lt, List, [], ◌∷◌, ◌++◌, length}
-use Rattle.std.proofs.Common.{Option, Some, None, refl, ap, sym, ◌∙◌, subst, arith, slice_index_or, slice_set, get_or-set_same, get_or-set_other, length-set}
+use Rattle.std.proofs.Common.{◌≡◌, ◌≤◌, ◌<◌, inl, inr, ℕ, zero, suc, ◌+◌, Bool, true, false, if◌then◌else◌, nat_le, nat_lt, List, [], ◌∷◌, ◌++◌, length}
+use Rattle.std.proofs.Common.{Some, None, refl, ap, sym, ◌∙◌, subst, arith, slice_index_or, slice_set, get_or-set_same, get_or-set_other, length-set}
 use Rattle.std.specs.Prelude.{slice_get, not, ◌&&◌}
 use Rattle.std.proofs.lemmas.Bool.{cases_eq}
 use Rattle.std.proofs.lemmas.Bool.Decides.{nat_tests}
@@ -9,7 +9,7 @@ use Rattle.edi_timeline.specs.declared.entry.Came.TheVariants as came
 use Rattle.edi_timeline.specs.declared.entry.Said.{Said}
 use Rattle.edi_timeline.specs.Stints.{Stint}
 use Rattle.edi_timeline.specs.Timelines.{Told}
-use Rattle.edi_timeline.specs.Adding.{SeatFits, added, bears, counted, end_of, ends_run, has_failed, is_at, is_going, nth_stint, said_in, start_after, stint_after}
+use Rattle.edi_timeline.specs.Adding.{SeatFits, added, bears, counted, end_of, ends_run, has_failed, is_at, nth_stint, said_in, start_after, stint_after}
 use Rattle.edi_timeline.proofs.Telling.{goes_more}
 use Rattle.edi_timed.specs.declared.seats.Seated.{Seated}
 use Rattle.edi_timed.specs.Seats.{seat_at, seated_at, first_seated, put_at, with_born, forks_after, stands_after, moved_on, seats_after, FitsSeat, Fitting}

@@ -22,11 +22,11 @@ use Rattle.edi_kernel.specs.declared.ends.StintEnd.{StintEnd}
 use Rattle.edi_kernel.specs.declared.ends.StintEnd.TheVariants as stint_end
 use Rattle.edi_kernel.specs.declared.state.KernelState.{KernelState}
 use Rattle.edi_kernel.specs.Stretch.{Blamed}
-use Rattle.edi_kernel.specs.Table.{is_live, process_at, ready_slots}
+use Rattle.edi_kernel.specs.Table.{process_at, ready_slots}
 use Rattle.edi_kernel.specs.TableIsMachine.{Naming, entry_of}
 use Rattle.edi_kernel.specs.Kernel.{IsKernel, ended_by, faulted, is_over, used_in}
 use Rattle.edi_kernel.specs.Named.{ChoosesBy, GoesBy, HoldsBy, SlotsStay}
-use Rattle.edi_kernel.specs.Runs.{IsAt, IsAtBy, RunsAs, Started}
+use Rattle.edi_kernel.specs.Runs.{IsAt, IsAtBy, Started}
 use Rattle.edi_kernel.proofs.Starting.{Enters, NeverEnters, enters, never_enters}
 use Rattle.edi_timeline.specs.Stints.{Stint, begin, over}
 use Rattle.edi_timeline.specs.Text.{kept}
@@ -34,15 +34,15 @@ use Rattle.edi_timeline.specs.Timelines.{Told, told_of}
 use Rattle.edi_timeline.specs.declared.entry.Came.TheVariants as came
 use Rattle.edi_timeline.specs.declared.entry.Said.{Said}
 use Rattle.edi_timeline.specs.declared.entry.Seat.{Seat}
-use Rattle.edi_timeline.specs.Adding.{added, end_of, said_in, stint_after}
+use Rattle.edi_timeline.specs.Adding.{added, said_in, stint_after}
 use Rattle.edi_timeline.proofs.Telling.{told_adds}
 use Rattle.edi_timed.specs.declared.seats.Seated.{Seated}
 use Rattle.edi_timed.specs.declared.leaving.Begun.{Begun}
 use Rattle.edi_timed.specs.Hearing.{HasShown}
 use Rattle.edi_timed.specs.Ran.{Open, closed, timed, timed_after}
-use Rattle.edi_timed.specs.Seats.{Fits, FitsSeat, Fitting, first_seated, seat_at}
+use Rattle.edi_timed.specs.Seats.{Fits, FitsSeat, Fitting, first_seated}
 use Rattle.edi_timed.specs.Leaving.{AddsBy, Begins, ended_as}
-use Rattle.edi_timed.specs.Timed.{HasStints, Timed}
+use Rattle.edi_timed.specs.Timed.{Timed}
 use Rattle.edi_timed.specs.Underway.{Going, RoundsTo, Sits}
 use Rattle.edi_timed.proofs.Along.{begins}
 use Rattle.edi_timed.proofs.Arms.{round_on, round_over}

@@ -1,7 +1,6 @@
 -- Computed rows. The code of the small programs of `edi_timeline`, run by the machine: it has the stints that their meaning has.
-use Rattle.std.specs.Prelude.{◌≡◌, ℕ, List, [], ◌∷◌, ◌++◌, codes, refl}
+use Rattle.std.specs.Prelude.{◌≡◌, ℕ, List, [], ◌∷◌, refl}
 use Rattle.edi_calls.specs.Choice.{listed}
-use Rattle.edi_calls.specs.Outcome as outcome
 use Rattle.edi_store.specs.Memory.{zero_words}
 use Rattle.edi_unit.specs.Types.{size}
 use Rattle.edi_unit.specs.Values.{zero_value}
@@ -10,8 +9,8 @@ use Rattle.edi_meaning.specs.Rows.{empty_system}
 use Rattle.edi_target.specs.Decode.{decode}
 use Rattle.edi_scheme.specs.Laws.{parts_of}
 use Rattle.edi_scheme.specs.Sides.{with_needs}
-use Rattle.edi_timeline.specs.Stints.{begin, at, arrives, waits, tries, forks, ends, over, Stint}
-use Rattle.edi_timeline.specs.Rows.{program_that_loses, lost_update, program_where_two_wait, two_wait, program_that_halts, halted, program_that_tries, tried, branch, row}
+use Rattle.edi_timeline.specs.Stints.{Stint}
+use Rattle.edi_timeline.specs.Rows.{program_that_loses, lost_update, program_where_two_wait, two_wait, program_that_halts, halted, program_that_tries, tried}
 use Rattle.edi_timed.specs.Ran.{stints_of_code}
 
 -- of at most forty turns, and a thousand instructions

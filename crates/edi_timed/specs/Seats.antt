@@ -1,7 +1,6 @@
 -- Helper. What is kept of the process at each slot of the kernel: its seat in the timeline, how often it has forked, and whether its last stint has left
 -- it at a `when`.
-use Rattle.std.specs.Prelude.{◌≡◌, ◌≤◌, ◌<◌, ℕ, zero, suc, Bool, true, false, nat_lt, if◌then◌else◌, List, [], ◌∷◌, length, slice_index_or, slice_set}
-use Rattle.edi_timeline.specs.declared.entry.Seat.{Seat}
+use Rattle.std.specs.Prelude.{◌≡◌, ◌≤◌, ◌<◌, ℕ, suc, Bool, true, false, nat_lt, if◌then◌else◌, List, [], ◌∷◌, length, slice_index_or, slice_set}
 use Rattle.edi_timeline.specs.declared.entry.Came.{Came}
 use Rattle.edi_timeline.specs.declared.entry.Came.TheVariants as came
 use Rattle.edi_timeline.specs.Timelines.{Told}

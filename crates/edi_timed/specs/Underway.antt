@@ -18,7 +18,7 @@ use Rattle.edi_kernel.specs.Named.{HoldsBy}
 use Rattle.edi_kernel.specs.Runs.{IsAt}
 use Rattle.edi_timeline.specs.Stints.{Stint}
 use Rattle.edi_timeline.specs.Timelines.{Told, told_of}
-use Rattle.edi_timeline.specs.Adding.{is_at, nth_stint, process_after, start_after, used_by}
+use Rattle.edi_timeline.specs.Adding.{is_at, nth_stint, process_after, used_by}
 use Rattle.edi_timed.specs.declared.seats.Seated.{Seated}
 use Rattle.edi_timed.specs.Ran.{Open, newest_of, spot_of, start_in, stints_of_code, timed}
 use Rattle.edi_timed.specs.Seats.{seat_at}

@@ -21,12 +21,12 @@ pub returns-clause-exact : goal.returns-clause-exact
 returns-clause-exact g c =
     λ drawn.
     told_on c.args.stops.now.mapped.now (watched_in c.args.stops.now.points.now) c.args.bound c.code.result.now c.code.ensures.exact c.stint-end.result c.args.kernel.now
-    c.stint-end.new.self c.args.choices.now c.args.log.now c.log_stop.new.log (c.args.bound - c.turns_used.result) _ _ _ _ _
+    c.stint-end.new.self c.args.choices.now c.args.log.now c.log_stop-2.new.log (c.args.bound - c.turns_used.result) _ _ _ _ _
     (ap (λ n. c.args.bound - n) c.turns_used.ensures)
     (omega (arith, c.stint-end.ensures.turns, c.stint-end.ensures.used, c.requires.used, c.turns_used.ensures, c.ranges.bound.fits))
     (omega (arith, c.stint-end.ensures.turns, c.stint-end.ensures.used, c.requires.used, c.turns_used.ensures, c.ranges.bound.fits))
     (λ unit m fits.
-    c.log_stop.ensures.exact unit c.args.bound m fits
+    c.log_stop-2.ensures.exact unit c.args.bound m fits
     (omega (arith, c.stint-end.ensures.turns, c.stint-end.ensures.used, c.requires.used, c.turns_used.ensures, c.ranges.bound.fits)))
     c.stint-end.ensures.standing c.proceed.result c.proceed.new.kernel c.proceed.new.choices (sym c.ended_by.ensures.exact ∙ c.in_default.is)
     c.proceed.ensures.turns

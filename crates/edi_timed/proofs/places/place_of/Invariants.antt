@@ -1,4 +1,4 @@
-use Rattle.std.proofs.Common.{◌≡◌, ◌≤◌, ◌<◌, ◌+◌, ◌-◌, ◌^◌, ◌++◌, take, length}
+use Rattle.std.proofs.Common.{◌≡◌, ◌≤◌, ◌+◌, ◌-◌, ◌^◌, ◌++◌, take, length}
 use Rattle.edi_timed.specs.Ran.{call_lines, place}
 use Rattle.edi_timed.proofs.places.place_of.Given as goal
 

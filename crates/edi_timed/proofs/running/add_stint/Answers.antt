@@ -1,5 +1,5 @@
 -- A stint that is added, or only counted.
-use Rattle.std.proofs.Common.{◌≡◌, ◌+◌, suc, arith, sym, ap, ◌∙◌}
+use Rattle.std.proofs.Common.{◌≡◌, suc, arith, sym, ap, ◌∙◌}
 use Rattle.std.proofs.lemmas.Bool.{leb-true, leb-false}
 use Rattle.edi_timeline.specs.Timelines.{Told}
 use Rattle.edi_timed.specs.Seats.{Fitting}

@@ -1,5 +1,5 @@
 -- A timed run.
-use Rattle.std.proofs.Common.{◌≡◌, refl, arith, ap}
+use Rattle.std.proofs.Common.{refl, arith, ap}
 use Rattle.std.specs.Prelude.{replicate}
 use Rattle.edi_timeline.specs.Timelines.{Told}
 use Rattle.edi_timed.proofs.Whole.{first_fits, timed_first, timed_never}

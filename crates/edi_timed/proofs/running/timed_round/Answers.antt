@@ -1,5 +1,5 @@
 -- A round of a timed run.
-use Rattle.std.proofs.Common.{◌≡◌, ◌≤◌, ◌-◌, ◌<◌, ◌^◌, Some, None, length, arith, sym, ap, ◌∙◌, subst, nat_le, false}
+use Rattle.std.proofs.Common.{◌≡◌, ◌-◌, Some, None, length, arith, sym, ap, ◌∙◌, subst, nat_le, false}
 use Rattle.edi_kernel.specs.declared.ends.Ending.TheVariants as ending
 use Rattle.edi_kernel.specs.declared.ends.StintEnd.{StintEnd}
 use Rattle.edi_kernel.specs.Kernel.{ended_by, is_over}

@@ -1,4 +1,4 @@
-//! The examples, a file for each subject.
+//! The examples of instructions, codes and runs, a file for each subject.
 
 mod code_files;
 mod codes;

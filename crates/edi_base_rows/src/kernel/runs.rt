@@ -1,6 +1,6 @@
 //! Codes that no compiler made, run by the kernel.
 
-use edi_kernel::{Ending, Kernel, Standing, StintEnd};
+use edi_kernel::{Below, Ending, Kernel, Standing, StintEnd};
 use edi_machine::Cause;
 use edi_memory::MemoryCalls;
 use edi_target::Code;
@@ -275,5 +275,92 @@ fn stints_follow_one_another(rt: HostRuntime) -> Result<(), Fail> {
     let mut choices = Choices::list(rt.alloc(), &[])?;
     let found = two_stints(rt.alloc(), &code, &mut choices)?;
     assert!(rt; found);
+    Ok(())
+}
+
+/// main calls p at 14, on line 2, and goes on at 11. p stands at a `when` whose condition is false.
+const CALLED: [u16; 37] = [
+    33, 5, 0, 0, 0, 0, 34, 0, 0, 14, 2, 37, 0, 0, 33, 6, 0, 0, 0, 0, 39, 1, 1, 0, 29, 0, 31, 41,
+    28, 0, 34, 44, 0, 22, 37, 0, 0,
+];
+
+// Whether this is the frame that begins at 0, in use up to 5, which goes on at 11.
+fn is_main(frame: Option<Below>) -> bool {
+    match frame {
+        Some(frame) => frame.base == 0 && frame.top == 5 && frame.back == 11,
+        None => false,
+    }
+}
+
+// Whether the first process is taken, and comes to a `when` in a frame above that of main, below which there is none.
+fn stands_above_main(kernel: &mut Kernel, code: &Code, calls: &mut MemoryCalls) -> bool {
+    kernel.start(code);
+    if kernel.taken() != Some(0) || calls.failed().is_some() {
+        return false;
+    }
+    let _arrived = kernel.stint(code, calls, 100);
+    let Some(standing) = kernel.standing() else {
+        return false;
+    };
+    let places = (standing.segment.first, standing.base, standing.pc);
+    if places != (0, 5, 22) || kernel.taken().is_some() {
+        return false;
+    }
+    is_main(kernel.below(0, 5)) && kernel.below(0, 0).is_none()
+}
+
+#[test]
+fn frames_lead_down(rt: HostRuntime) -> Result<(), Fail> {
+    let code = code_of(&rt, rt.alloc(), &CALLED, &[])?;
+    let mut calls = MemoryCalls::new(rt.alloc(), b"", 0)?;
+    let mut kernel = Kernel::new(rt.alloc())?;
+    assert!(rt; stands_above_main(&mut kernel, &code, &mut calls));
+    Ok(())
+}
+
+// Whether the process at this slot stands at its `when` at this address, and the last stint left it there.
+fn stands_at(kernel: &Kernel, slot: usize, at: u32) -> bool {
+    if slot >= 32 {
+        return false;
+    }
+    let (standing, activity) = kernel.process(slot);
+    let told = kernel.standing_at() == Some(at);
+    standing == Standing::AtWhen && activity.pc == at && told
+}
+
+// Whether the one process comes to its `when`, which is no failed attempt, and in its next stint to a standstill, which is one.
+fn waits_for_ever(
+    kernel: &mut Kernel,
+    code: &Code,
+    calls: &mut MemoryCalls,
+    choices: &mut Choices,
+) -> bool {
+    kernel.start(code);
+    if kernel.taken() != Some(0) || kernel.failed() || calls.failed().is_some() {
+        return false;
+    }
+    let _arrived = kernel.stint(code, calls, 100);
+    if kernel.taken().is_some() || kernel.failed() || kernel.ready() != 1 {
+        return false;
+    }
+    kernel.choose(choices);
+    if calls.failed().is_some() {
+        return false;
+    }
+    let end = kernel.stint(code, calls, 50);
+    let ended = match end {
+        StintEnd::Over { ending, .. } => ending == Ending::Standstill,
+        _ => false,
+    };
+    ended && kernel.failed() && stands_at(kernel, 0, 22)
+}
+
+#[test]
+fn a_standstill_is_a_failed_attempt(rt: HostRuntime) -> Result<(), Fail> {
+    let code = code_of(&rt, rt.alloc(), &CALLED, &[])?;
+    let mut calls = MemoryCalls::new(rt.alloc(), b"", 0)?;
+    let mut choices = Choices::list(rt.alloc(), &[])?;
+    let mut kernel = Kernel::new(rt.alloc())?;
+    assert!(rt; waits_for_ever(&mut kernel, &code, &mut calls, &mut choices));
     Ok(())
 }
