@@ -64,8 +64,7 @@ pub(crate) fn choices_to(
 /// Bytes are choices.
 fn are_choices(choices: &[u8])
     ensures { AreChoices choices.now }
-{
-}
+{}
 
 /// The run with these choices and at most so many turns. What is found is how it ended.
 pub(crate) fn run(

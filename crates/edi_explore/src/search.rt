@@ -14,8 +14,8 @@ ghost use Rattle.edi_explore.specs.Verdicts.{HasCause, HasFirst, IsAnswer, IsCon
 use crate::ends::{Limits, Report, Verdict};
 use crate::expand::Expanded;
 use crate::finding::{MOST_CHOICES, Search};
-use crate::states::Origin;
 use crate::record::run;
+use crate::states::Origin;
 use crate::step::{Followed, GivenUp, settle};
 use edi_kernel::{Ending, Kernel};
 use edi_target::Code;
