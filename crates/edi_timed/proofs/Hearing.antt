@@ -10,7 +10,7 @@ use Rattle.edi_calls.specs.declared.ends.Outside.{Outside}
 use Rattle.edi_calls.specs.State.{Found, State, title_of, most_bytes}
 use Rattle.edi_calls.specs.Calls as calls
 use Rattle.edi_calls.specs.Calls.{CallResult, answered, no_file, file_limit, call}
-use Rattle.edi_calls.specs.Ends.{Meets, Blames}
+use Rattle.edi_calls.specs.Ends.{CallsLast, Meets, Blames}
 use Rattle.edi_calls.proofs.Lasting.{IfAnswered, by_test, by_option}
 use Rattle.edi_timeline.specs.declared.entry.Said.{Said}
 use Rattle.edi_timeline.specs.Adding.{said_in}
@@ -174,3 +174,37 @@ module _ {C : Type 0} (state : C → Option State) (failed : C → Option Outsid
         (said (h.few short)))
         (h.heard short working) exact;
   }
+
+  -- NO CALL
+  pub hears_none : (start : Heard C) → Hears state failed leads start start
+  hears_none start = record {
+    led = λ first f. f;
+    few = λ few. few;
+    heard = λ few fine. nothing_told (state start.calls) few;
+  }
+    where
+      nothing_told : (o : Option State) → start.said.many ≤ 7 → WhereTold o o (HasShown start.said start.said)
+      nothing_told None few = tt
+      nothing_told (Some s) few = ([], sym (append-nil s.shown), kept_few start.said.characters [] start.said.many few refl)
+
+  -- calls that go on from where nothing was heard
+  module _ (before start now : Heard C) (calls : start.calls ≡ before.calls) (few : start.said.many ≤ 7)
+      (on : (first : Heard C) → Hears state failed leads first start → Hears state failed leads first now) where
+    pub few_said : now.said.many ≤ 7
+    few_said = (on start (hears_none start)).few few
+
+    pub heard_since : failed now.calls None → (said : Said) → said ≡ now.said → WhereTold (state before.calls) (state now.calls) (HasShown start.said said)
+    heard_since fine said is =
+        subst (λ z. WhereTold (state before.calls) (state now.calls) (HasShown start.said z)) (sym is)
+        (subst (λ z. WhereTold (state z) (state now.calls) (HasShown start.said now.said)) calls ((on start (hears_none start)).heard few fine))
+
+    pub lasts_since : {R : Type 0} (faults : C → Outside → ℕ) (references : C → R) → ((outside : Outside) → faults start.calls outside ≤ faults now.calls outside) →
+        references now.calls ≡ references start.calls → CallsLast faults references leads before.calls now.calls
+    lasts_since faults references later same = (
+      λ outside. subst (λ z. faults z outside ≤ faults now.calls outside) calls (later outside),
+      same ∙ ap references calls,
+      λ first led. (on start (hears_none start)).led first (subst (leads first) (sym calls) led),
+    )
+
+    pub told_since : (P : State → State → Type 0) → WhereTold (state start.calls) (state now.calls) P → WhereTold (state before.calls) (state now.calls) P
+    told_since P h = subst (λ z. WhereTold (state z) (state now.calls) P) calls h

@@ -1,3 +1,13 @@
 pub mod Hearing
 pub mod Newest
+pub mod Families
+pub mod Along
+pub mod Placing
+pub mod Seating
+pub mod Adding
+pub mod Seated
+pub mod Left
+pub mod Rounds
+pub mod Arms
+pub mod Whole
 pub mod meant

@@ -3,5 +3,10 @@
 
 mod heard;
 pub mod laws;
+mod leaving;
+mod places;
+mod running;
+mod seats;
 
 pub use heard::Heard;
+pub use running::timed;

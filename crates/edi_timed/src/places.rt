@@ -1,0 +1,41 @@
+//! Where a process stands in the code.
+
+ghost use Rattle.std.specs.Prelude.{◌≡◌, ◌+◌, ◌≤◌, ◌^◌};
+ghost use Rattle.edi_timeline.specs.Adding.{lines_in};
+ghost use Rattle.edi_timed.specs.Ran as spec;
+
+use edi_kernel::Kernel;
+use edi_machine::Activity;
+use edi_target::Code;
+use edi_timeline::Place;
+
+// The line before an address of the code.
+fn line_before(code: &Code, at: u32) -> u16
+    ensures exact { result ≡ spec.line_before code.now.words at }
+{
+    match code.words().get(at.saturating_sub(1) as usize) {
+        Some(line) => *line,
+        None => 0,
+    }
+}
+
+/// The place where a process with this activity stands.
+pub(crate) fn place_of(kernel: &Kernel, code: &Code, activity: &Activity) -> Place
+    requires within { activity.now.base + 5 ≤ 2 ^ 16 }
+    ensures exact { lines_in result ≡ spec.place code.now.words kernel.now.store activity.now.segment.first activity.now.base activity.now.pc }
+    ensures few { result.many ≤ 5 }
+{
+    let mut lines = [0_u16; 5];
+    lines[0] = line_before(code, activity.pc);
+    let mut many: u8 = 1;
+    let mut base = activity.base;
+    while many < 5 {
+        let Some(below) = kernel.below(activity.segment.first, base) else {
+            return Place { lines, many };
+        };
+        lines[many as usize] = line_before(code, below.back);
+        many += 1;
+        base = below.base;
+    }
+    Place { lines, many }
+}
