@@ -40,7 +40,7 @@ use Rattle.edi_timed.specs.declared.seats.Seated.{Seated}
 use Rattle.edi_timed.specs.declared.leaving.Begun.{Begun}
 use Rattle.edi_timed.specs.Hearing.{HasShown}
 use Rattle.edi_timed.specs.Ran.{Open, closed, timed, timed_after}
-use Rattle.edi_timed.specs.Seats.{Fits, first_seated, seat_at}
+use Rattle.edi_timed.specs.Seats.{Fits, FitsSeat, Fitting, first_seated, seat_at}
 use Rattle.edi_timed.specs.Leaving.{AddsBy, Begins, ended_as}
 use Rattle.edi_timed.specs.Timed.{HasStints, Timed}
 use Rattle.edi_timed.specs.Underway.{Going, RoundsTo, Sits}
@@ -312,3 +312,21 @@ module _ (code : CodeParts) (bound : ℕ) (first : Drawn) (seats : List Seated) 
     pub timed_ends : (e : Ending) → WhereTold a b (GoingOn old now ss t) → WhereTold b c (Round (Some e)) → WhereTold a c (EndedSo e new next later)
     timed_ends e h g =
         WhereTold-then (GoingOn old now ss t) (Round (Some e)) (EndedSo e new next later) a b c (λ s x y w round. round s first (sym source) w) h g
+
+-- at the start the seats fit a timeline that tells nothing
+abbrev Nothing : Told
+Nothing = record { stints = []; count = 0 }
+
+first_fit : FitsSeat Nothing first_seated
+first_fit = record { born = omega arith; forked = refl; before = omega arith; stood = refl; forks = omega arith }
+
+begins_so : Fitting (replicate 32 first_seated) Nothing
+begins_so = record {
+  wide = refl;
+  whole = refl;
+  going = refl;
+  each = λ slot. subst (FitsSeat Nothing) (sym (same_everywhere 32 slot first_seated)) first_fit;
+}
+
+pub first_fits : (seats : List Seated) (told : Told) → seats ≡ replicate 32 first_seated → told ≡ record { stints = []; count = 0 } → Fits seats told
+first_fits seats told all none = subst (Fits seats) (sym none) (subst (λ ss. Fits ss Nothing) (sym all) (λ few. begins_so))

@@ -1,0 +1,28 @@
+-- A timed run.
+use Rattle.std.proofs.Common.{◌≡◌, refl, arith, ap}
+use Rattle.std.specs.Prelude.{replicate}
+use Rattle.edi_timeline.specs.Timelines.{Told}
+use Rattle.edi_timed.proofs.Whole.{first_fits, timed_first, timed_never}
+use Rattle.edi_timed.proofs.running.timed.Goals as goal
+
+pub returns-then-bound-eq0-clause-exact : goal.returns-then-bound-eq0-clause-exact
+returns-then-bound-eq0-clause-exact g c = λ small.
+    timed_never c.args.code.now c.args.bound c.args.choices.now c.new-seats.result.items c.args.timeline.now c.start.new.self c.start.ensures.exact
+    (g.C.Calls.state c.args.calls.now.calls) c.requires.empty c.if-bound-eq0.true (record { characters = replicate 7 0; many = 0 }) refl (omega arith)
+    c.add.new.self c.add.ensures.exact
+
+pub rounds-init : goal.rounds-init
+rounds-init g c = record {
+  taken = c.start.ensures.taken;
+  kernel = c.start.ensures.exact.kernel;
+  working = c.requires.working;
+  lasts = (λ outside. omega arith, refl, λ start led. led);
+  used = omega (arith, c.start.ensures.exact.used);
+  fits = first_fits c.new-seats.result.items c.args.timeline.now c.new-seats.ensures c.requires.empty;
+  count = omega (arith, ap (λ (t : Told). t.count) c.requires.empty);
+  source = refl;
+  drawn = omega arith;
+  exact = λ small.
+      timed_first c.args.code.now c.args.bound c.args.choices.now c.new-seats.result.items c.args.timeline.now c.start.new.self c.start.ensures.exact
+      (g.C.Calls.state c.args.calls.now.calls) c.requires.empty (omega (arith, c.if-bound-eq0.false)) c.new-seats.ensures;
+}
