@@ -1,2 +1,1 @@
-pub mod Blamed
 pub mod Ended

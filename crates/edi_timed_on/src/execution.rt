@@ -20,7 +20,7 @@ use edi_trace::Choices;
 
 /// Runs the code from its start on a system, as `edi_execute::execute` does, and fills a timeline that has no stint. The answer is the
 /// ending, and the system again.
-pub(crate) fn time_execution<'d, 'c, 'i, 't, 'p, 'b, D: Drive, S: Source, T: Sink, P: Sink>(
+pub fn time_execution<'d, 'c, 'i, 't, 'p, 'b, D: Drive, S: Source, T: Sink, P: Sink>(
     kernel: &mut Kernel,
     code: &Code,
     mut system: System<'d, 'c, 'i, 't, 'p, 'b, D, S, T, P>,

@@ -1,7 +1,6 @@
-//! A run with its timeline, on a drive, an input, a terminal and a printer.
+//! A run with its timeline, on a system. Which timeline is that of a text, and of a code, is `IsTimelineOf` (`specs/Timelines`).
 #![tactic(auto)]
 
 mod execution;
-mod run;
 
-pub use run::time_on;
+pub use execution::time_execution;
