@@ -27,34 +27,38 @@ module _ (system : State) (bound : ℕ) (choices : Drawn) (none : choices.drawn 
 
   of_code : (parts : CodeParts) → HasStints parts (fresh system) bound choices told → IsTimelineOf (code parts) system bound choices.source told
   of_code parts has =
-      let ran : Ran parts has 0 = first parts has in
-      (stints_of_code parts (fresh system) bound choices.source 0 ran.0.0,
-      record {
-        steps = ran.0.0;
-        ending = has.end;
-        machine = has.machine;
-        drawn = has.drawn;
-        ends = ran.0.1;
-        are = refl;
-      }, ran.1)
+      let ran : Ran parts has 0 = first parts has in (
+        stints_of_code parts (fresh system) bound choices.source 0 ran.0.0,
+        record {
+          steps = ran.0.0;
+          ending = has.end;
+          machine = has.machine;
+          drawn = has.drawn;
+          ends = ran.0.1;
+          are = refl;
+        },
+        ran.1,
+      )
 
   of_text : (bytes : List ℕ) (unit : ProgramUnit) → IsUnit bytes unit → CanBeCoded unit → HasStints (parts_of unit) (fresh system) bound choices told
       → IsTimelineOf (text bytes) system bound choices.source told
   of_text bytes unit is can has =
       let ran : Ran (parts_of unit) has 0 = first (parts_of unit) has in
-      let meant = runs_have_stints unit can (fresh system) bound choices.source ran.0.0 has.end has.machine has.drawn ran.0.1 in
-      (stints_of unit (fresh system) bound meant.2,
-      record {
-        unit = unit;
-        unit_is = is;
-        ending = has.end;
-        end = meant.0;
-        turns = meant.1;
-        drawn = has.drawn;
-        order = meant.2;
-        selected = meant.3;
-        are = refl;
-      }, ran.1 ∙ ap told_of meant.6)
+      let meant = runs_have_stints unit can (fresh system) bound choices.source ran.0.0 has.end has.machine has.drawn ran.0.1 in (
+        stints_of unit (fresh system) bound meant.2,
+        record {
+          unit = unit;
+          unit_is = is;
+          ending = has.end;
+          end = meant.0;
+          turns = meant.1;
+          drawn = has.drawn;
+          order = meant.2;
+          selected = meant.3;
+          are = refl;
+        },
+        ran.1 ∙ ap told_of meant.6,
+      )
 
   pub is_timeline : (program : Timable) (parts : CodeParts) → IsOf program parts → HasStints parts (fresh system) bound choices told
       → IsTimelineOf program system bound choices.source told

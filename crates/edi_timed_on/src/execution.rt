@@ -9,6 +9,7 @@ ghost use Rattle.edi_system.specs.Parts.{KeepsTold};
 ghost use Rattle.edi_system.specs.State.{drive_in, failed_in, state_of, IsReady};
 ghost use Rattle.edi_execute.specs.Execution.{is_fault_ending, IsAtMoment};
 ghost use Rattle.edi_timed.specs.Timed.{Timed};
+ghost use Rattle.edi_timed_on.specs.Timelines.{IsOf, IsTimelineOf, Timable};
 
 use edi_host::{Drive, Sink, Source};
 use edi_kernel::{Ending, Kernel};
@@ -34,6 +35,10 @@ pub fn time_execution<'d, 'c, 'i, 't, 'p, 'b, D: Drive, S: Source, T: Sink, P: S
     ensures exact { choices.old.drawn + bound < 2 ^ 64 → WhereTold (state_of D.contents S.left T.taken P.taken system.entry)
         (state_of D.contents S.left T.taken P.taken result.1)
         (λ before after. Timed code.now (fresh before) bound choices.old result.0 kernel.new after choices.new timeline.new) }
+    // Where no choice was drawn before and no object has failed, the timeline is that of the code, and of each text whose code this is.
+    ensures stints { (result.0 ≡ Ending.Fault → ⊥) → choices.old.drawn ≡ 0 → (program : Timable) → IsOf program code.now
+        → WhereTold (state_of D.contents S.left T.taken P.taken system.entry) (state_of D.contents S.left T.taken P.taken result.1)
+        (λ before after. IsTimelineOf program before bound choices.old.source timeline.new) }
     ensures moment { result.0 ≡ Ending.Fault → choices.old.drawn + bound < 2 ^ 64
         → WhereTold (state_of D.contents S.left T.taken P.taken system.entry) (state_of D.contents S.left T.taken P.taken result.1)
         (λ before after. IsAtMoment code.now (fresh before) bound choices.old after) }

@@ -1,4 +1,4 @@
-use Rattle.std.proofs.Common.{sym, subst, ◌∙◌}
+use Rattle.std.proofs.Common.{arith, sym, subst}
 use Rattle.edi_told.specs.Told.{WhereTold}
 use Rattle.edi_calls.specs.State.{State, fresh}
 use Rattle.edi_system.specs.AsCalls.{IsBehind}
@@ -10,6 +10,8 @@ use Rattle.edi_system.proofs.Told.{told_map}
 use Rattle.edi_execute.specs.Execution.{IsAtMoment}
 use Rattle.edi_execute.proofs.Executing.{at_moment}
 use Rattle.edi_timed.specs.Timed.{Timed}
+use Rattle.edi_timed_on.specs.Timelines.{IsTimelineOf}
+use Rattle.edi_timed_on.proofs.Ended.{is_timeline}
 use Rattle.edi_timed_on.proofs.execution.time_execution.Goals as goal
 
 pub returns-clause-exact : goal.returns-clause-exact
@@ -22,6 +24,16 @@ returns-clause-exact g c = λ few.
     subst (λ s. WhereTold (state c.args.system) (state s) FromFresh) (sym c.into_calls.ensures)
     (told_then _ Ends FromFresh _ _ _ (λ x y z same ran. subst (λ s. Ends s z) same ran) c.begin_program.ensures.exact
     (subst (λ s. WhereTold (state s) (state c.timed-ending.new.calls.calls) Ends) c.new-heard.ensures.calls (c.timed-ending.ensures.exact few)))
+
+pub returns-clause-stints : goal.returns-clause-stints
+returns-clause-stints g c = λ unfailed none program is.
+    let FromFresh : State → State → Type 0 = λ s t.
+    Timed c.args.code.now (fresh s) c.args.bound c.args.choices.now c.timed-ending.result c.timed-ending.new.kernel t c.timed-ending.new.choices
+    c.timed-ending.new.timeline in
+    let Is : State → State → Type 0 = λ s t. IsTimelineOf program s c.args.bound c.args.choices.now.source c.timed-ending.new.timeline in
+    told_map FromFresh Is _ _
+    (λ x z has. is_timeline x c.args.bound c.args.choices.now none c.timed-ending.new.timeline program c.args.code.now is (has.all unfailed))
+    (returns-clause-exact g c (omega (arith, none, c.ranges.bound.fits)))
 
 pub returns-clause-moment : goal.returns-clause-moment
 returns-clause-moment g c = λ fault few.
