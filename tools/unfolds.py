@@ -24,6 +24,8 @@ HEAD = re.compile(r"^(\s*)(?:(?:abbrev|unfoldable|pub|record|data)\s+)*([^\s(:]+
 ROW = re.compile(r"^\| \[`(crates/[^`]+)`\]\([^)]*\) \| (\d+) \|", re.M)
 # Definitions of laws and of commands to come.
 APART = re.compile(r"\(no clause of `edison` speaks of it yet\):\n\n(?:\|.*\n)+")
+# What a single line of a single command reaches. These files are words of contracts for all else, and their first lines say so.
+NARROW = re.compile(r"\(reached by who waits where alone\):\n\n(?:\|.*\n)+")
 MOST_LINES = 8000
 TYPES = re.compile(r"^\| \[`(crates/[^`]+\.rt)`\]\([^)]*\) \| ([^|]*) \|", re.M)
 
@@ -198,6 +200,7 @@ def wrong(closure):
     """What CLAIMS.md and the first lines of the files say otherwise than what is reached."""
     claims = open(CLAIMS, encoding="utf-8").read()
     apart = {path for part in APART.findall(claims) for path, lines in ROW.findall(part)}
+    narrow = {path for part in NARROW.findall(claims) for path, lines in ROW.findall(part)}
     listed = {path for path, lines in ROW.findall(claims) if path.endswith(".antt")} - apart
     reached = {path for path, lines, used in closure.files()}
     tracked = subprocess.run(["git", "ls-files", "crates/*/specs/*.antt"], capture_output=True, text=True, check=True).stdout.split()
@@ -206,7 +209,7 @@ def wrong(closure):
         yield f"{path} is reached, and {CLAIMS} does not list it"
     for path in sorted(listed - reached):
         yield f"{CLAIMS} lists {path}, which is not reached"
-    for path in sorted((reached | apart) - marked):
+    for path in sorted((reached | apart) - marked - narrow):
         yield f"the first line of {path} does not say that it is a definition, and {CLAIMS} lists it"
     for path in sorted(marked - reached - apart):
         yield f"{path} says that it is a definition, and {CLAIMS} does not list it"

@@ -146,7 +146,8 @@ begin
   also 2 do when true do x := 2 end end
 end
 """
-STANDS, DONE = b"standstill after 6 turns: choices 0 0 1\n", b"done after 7 turns: no choices\n"
+STANDS = b"standstill after 6 turns: choices 0 0 1 in r.1\n  1.1 waits at line 5\n"
+DONE = b"done after 7 turns: no choices in r.2\n"
 LACKING = rb"perhaps not all: memory ran out(; every execution of fewer than [0-9]+ moves? was followed)?; [0-9]+ states?\n"
 SEARCHED = [
     (20, LACKING + b"not all\n", ()),

@@ -22,7 +22,7 @@ use Rattle.edi_explored.specs.machine.Kernels.{IsUnitCode, ending_of}
 use Rattle.edi_explored.proofs.machine.Coding as coding
 use Rattle.edi_explore.specs.declared.ends.Found.{Found}
 use Rattle.edi_explore.specs.Offline.{offline}
-use Rattle.edi_explore.specs.Found.{AreDistinct, AreRecorded, HasEnding, IsRecorded, IsTold, RunsWith, endings_of, most_choices, most_turns, with_ending}
+use Rattle.edi_explore.specs.Found.{AllTellWaits, AreChoices, AreDistinct, AreRecorded, HasEnding, IsRecorded, IsTold, RunsWith, TellsWaits, endings_of, most_choices, most_turns, with_ending}
 use Rattle.edi_explore.specs.Finding.{Finds}
 use Rattle.edi_explore.specs.States.{Follows}
 use Rattle.edi_explore.proofs.Growing.{follows_on, follows_same}
@@ -80,6 +80,12 @@ module _ (fs gs : List Found) (one : Found) (push : gs ≡ fs ++ one ∷ []) whe
     | inr e ↦ subst (IsRecorded unit input) e r
   ]
 
+  pub one_waits : (code : CodeParts) (input : List ℕ) → TellsWaits code input one → AllTellWaits code input fs → AllTellWaits code input gs
+  one_waits code input r all x c = elim (contains_split fs one x (subst (λ xs. Contains xs x) push c)) [
+    | inl c ↦ all x c
+    | inr e ↦ subst (TellsWaits code input) e r
+  ]
+
   pub one_distinct : (HasEnding fs one.ending → ⊥) → AreDistinct fs → AreDistinct gs
   one_distinct none d i j a b p q e =
       sides (split_at fs one a i (ap (λ xs. slice_get xs i) (sym push) ∙ p)) (split_at fs one b j (ap (λ xs. slice_get xs j) (sym push) ∙ q))
@@ -100,21 +106,40 @@ told_end ending.Standstill t = (outcome.standstill, refl, λ e. absurd (cc))
 told_end (ending.Bad at) t = (outcome.bad at, refl, λ e. absurd (cc))
 told_end ending.Fault t = absurd t
 
-pub recorded_of : (unit : ProgramUnit) (input choices : List ℕ) (f : Found) (e : Ending) → RunsWith unit input choices f → f.ending ≡ e → IsTold e →
+pub recorded_of : (unit : ProgramUnit) (input choices : List ℕ) (f : Found) (e : Ending) → RunsWith most_turns unit input choices f → f.ending ≡ e → IsTold e →
     length choices ≤ most_choices → IsRecorded unit input f
 recorded_of unit input choices f e r same told few =
     let t = told_end e told in
     let is : ending_of f.ending ≡ Some t.0 = ap ending_of same ∙ t.1 in
-    record { end = t.0; is = is; uncut = t.2; selects = r.came t.0 is; few = omega (arith, few, ap length r.choices_are) }
+    record {
+      end = t.0;
+      is = is;
+      uncut = t.2;
+      selects = r.came t.0 is;
+      few = omega (arith, few, ap length r.choices_are);
+      small = subst AreChoices (sym r.choices_are) r.small;
+    }
+
+-- whoever waits, it is recorded
+pub recorded_waiting : (unit : ProgramUnit) (input : List ℕ) (f g : Found) → g ≡ record f { waits = g.waits } → IsRecorded unit input f → IsRecorded unit input g
+recorded_waiting unit input f g e r = subst (IsRecorded unit input) (sym e) (record {
+  end = r.end;
+  is = r.is;
+  uncut = r.uncut;
+  selects = record { outcome = r.selects.outcome; selects = r.selects.selects; ends = r.selects.ends; turns = r.selects.turns };
+  few = r.few;
+  small = r.small;
+})
 
 -- ---- what a search finds
 
 pub finds_none : (code : CodeParts) (input : List ℕ) (fs : List Found) → Finds code input fs fs
-finds_none code input fs = record { recorded = λ unit c is all. all; distinct = λ d. d; more = follows_same fs }
+finds_none code input fs = record { recorded = λ unit c is all. all; waits = λ all. all; distinct = λ d. d; more = follows_same fs }
 
 pub finds_on : (code : CodeParts) (input : List ℕ) (a b c : List Found) → Finds code input a b → Finds code input b c → Finds code input a c
 finds_on code input a b c f g = record {
   recorded = λ unit coded is all. g.recorded unit coded is (f.recorded unit coded is all);
+  waits = λ all. g.waits (f.waits all);
   distinct = λ d. g.distinct (f.distinct d);
   more = follows_on a b c f.more g.more;
 }

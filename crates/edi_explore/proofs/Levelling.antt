@@ -20,7 +20,7 @@ use Rattle.edi_explore.specs.Found.{endings_of}
 use Rattle.edi_explore.specs.Offline.{offline}
 use Rattle.edi_explore.specs.States.{AreStates, Follows}
 use Rattle.edi_explore.specs.Tables.{Grows, table_of}
-use Rattle.edi_explore.specs.Verdicts.{AreAllOf, AreAllTo, HasFirst, IsAnswer, IsUpTo, or_else, verdict_of, verdict_of_given_up}
+use Rattle.edi_explore.specs.Verdicts.{AreAllOf, AreAllTo, HasFirst, IsAnswer, IsConfirmed, IsUpTo, or_else, verdict_of, verdict_of_given_up}
 use Rattle.edi_explore.proofs.Findings.{tells_more}
 use Rattle.edi_explore.proofs.Iteration.{expanded_below, expanded_still, is_later}
 use Rattle.edi_explore.proofs.Table.{longer}
@@ -284,6 +284,16 @@ module _ (code : CodeParts) (input : List ℕ) (most count : ℕ) (fs : List Fou
   answer_to (verdict.Cut n) moves h up = subst (λ k. AreAllTo code input k fs) (sym up) h
   answer_to (verdict.Unrecorded n) moves h up = subst (λ k. AreAllTo code input k fs) (sym up) h
   answer_to (verdict.NoMemory n) moves h up = subst (λ k. AreAllTo code input k fs) (sym up) h
+
+  -- a cut that is not confirmed is told otherwise, and says the same of endings
+  pub answer_confirmed : (x y : Verdict) → IsConfirmed x y → IsAnswer code input most count fs x → IsAnswer code input most count fs y
+  answer_confirmed verdict.All y e h = subst (IsAnswer code input most count fs) (sym e) h
+  answer_confirmed (verdict.Full n) y e h = subst (IsAnswer code input most count fs) (sym e) h
+  answer_confirmed (verdict.Cut n) y (inl e) h = subst (IsAnswer code input most count fs) (sym e) h
+  answer_confirmed (verdict.Cut n) y (inr (inl e)) h = subst (IsAnswer code input most count fs) (sym e) h
+  answer_confirmed (verdict.Cut n) y (inr (inr e)) h = subst (IsAnswer code input most count fs) (sym e) h
+  answer_confirmed (verdict.Unrecorded n) y e h = subst (IsAnswer code input most count fs) (sym e) h
+  answer_confirmed (verdict.NoMemory n) y e h = subst (IsAnswer code input most count fs) (sym e) h
 
   pub answer_full : (x : Verdict) (moves : ℕ) → IsAnswer code input most count fs x → x ≡ verdict.Full moves → most ≤ count
   answer_full x moves h e = (subst (IsAnswer code input most count fs) e h).1

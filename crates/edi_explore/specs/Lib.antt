@@ -1,3 +1,4 @@
+pub mod Choices
 pub mod Offline
 pub mod Systems
 pub mod Found

@@ -1,6 +1,9 @@
 -- Words of contracts. What a search answers.
-use Rattle.std.specs.Prelude.{◌≡◌, ◌<◌, ◌≤◌, ℕ, List}
+use Rattle.std.specs.Prelude.{◌≡◌, ◌⊎◌, ◌<◌, ◌≤◌, ℕ, List, length, ⊤}
+use Rattle.edi_calls.specs.Choice.{listed}
+use Rattle.edi_calls.specs.Outcome.{Outcome}
 use Rattle.edi_unit.specs.Tree.{ProgramUnit}
+use Rattle.edi_meaning.specs.Select.{Select}
 use Rattle.edi_target.specs.Check.{CodeParts}
 use Rattle.edi_follows.specs.Theorem.{CanBeCoded}
 use Rattle.edi_explored.specs.Reached.{AreAll, AreAllBelow}
@@ -14,6 +17,7 @@ use Rattle.edi_explore.specs.declared.finding.Search.{Search}
 use Rattle.edi_explore.specs.declared.step.GivenUp.{GivenUp}
 use Rattle.edi_explore.specs.declared.step.GivenUp.TheVariants as given_up
 use Rattle.edi_explore.specs.Expand.{HasBegun}
+use Rattle.edi_explore.specs.Choices.{AreChoices, most_choices, turn_limit}
 use Rattle.edi_explore.specs.Found.{endings_of}
 use Rattle.edi_explore.specs.Offline.{offline}
 
@@ -40,6 +44,26 @@ IsUpTo (verdict.Full moves) n = n ≡ moves
 IsUpTo (verdict.Cut moves) n = n ≡ moves
 IsUpTo (verdict.Unrecorded moves) n = n ≡ moves
 IsUpTo (verdict.NoMemory moves) n = n ≡ moves
+
+-- ---- a cut
+
+-- the execution that these choices select has more than so many turns; a record may have the choices
+pub record IsCutBy (turns : ℕ) (unit : ProgramUnit) (input choices : List ℕ) : Type 0 where
+  pub outcome : Outcome
+  pub selects : Select unit (offline input) turns (listed choices) outcome
+  pub cut : outcome.ending ≡ turn_limit
+  pub few : length choices ≤ most_choices
+  pub small : AreChoices choices
+
+-- where the verdict is that a stint was cut, these choices bring that about
+abbrev pub HasCause : (turns : ℕ) → ProgramUnit → (input : List ℕ) → Verdict → (choices : List ℕ) → Type 0
+HasCause turns unit input (verdict.Cut moves) choices = IsCutBy turns unit input choices
+HasCause turns unit input _ choices = ⊤
+
+-- the verdict again; of a cut that is not confirmed another one that says the same of endings
+abbrev pub IsConfirmed : (first now : Verdict) → Type 0
+IsConfirmed (verdict.Cut moves) now = (now ≡ verdict.Cut moves) ⊎ ((now ≡ verdict.Unrecorded moves) ⊎ (now ≡ verdict.NoMemory moves))
+IsConfirmed first now = now ≡ first
 
 module _ (code : CodeParts) (input : List ℕ) where
   -- these are all endings of each program with this code, or all below so many moves

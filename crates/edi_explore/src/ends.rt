@@ -1,6 +1,7 @@
 //! What a search is told, and what it reports.
 
 use edi_kernel::Ending;
+use edi_waits::Wait;
 
 /// How far a search goes.
 #[derive(Clone, Copy, Debug)]
@@ -20,6 +21,8 @@ pub struct Found {
     pub choices: Vec<u8>,
     /// The turns of the run with these choices, at most 1,000,000,000.
     pub turns: u64,
+    /// Who waits where at the end of that run, if it is a standstill; else nobody.
+    pub waits: Vec<Wait>,
 }
 
 /// Whether the reported endings are all. A number says: all of the executions of fewer moves than that.
@@ -29,7 +32,7 @@ pub enum Verdict {
     All,
     /// As many states were kept as may be.
     Full(usize),
-    /// A stint has more turns than it may.
+    /// A process goes on for more turns than it may: the choices of the report lead to it.
     Cut(usize),
     /// An ending has no record: the run with its choices has more of them, or more turns, than a record may have, or ends otherwise.
     Unrecorded(usize),
@@ -43,4 +46,6 @@ pub struct Report {
     pub found: Vec<Found>,
     pub verdict: Verdict,
     pub states: usize,
+    /// Where the verdict is `Cut`: choices with which the run has more turns than a process may take, at most 65,536. Else they say nothing.
+    pub cut: Vec<u8>,
 }

@@ -80,11 +80,13 @@ impl Search {
         requires search { IsSearch code.now input.now limits.turns self.old }
         requires state { origin.state < length self.old.states.keys.keys }
         requires index { origin.index < length (slots_of self.old.states origin.state) }
+        requires few { length self.old.states.keys.keys ≤ limits.states }
         ensures finds { Finds code.now input.now self.old.found.items self.new.found.items }
         ensures follows { IfOk result (λ came. ComesTo code.now input.now limits.turns self.old self.new came.expanded
             (Apart code.now input.now limits.turns self.new origin.state →
             HasStintThat code.now input.now limits.turns self.new came.fails origin.state origin.index)) }
         ensures full { IfErr result (λ given_up. given_up ≡ GivenUp.Full → limits.states ≤ length self.new.states.keys.keys) }
+        ensures few { length self.new.states.keys.keys ≤ limits.states }
     {
         let followed = follow(
             alloc,
@@ -104,10 +106,13 @@ impl Search {
                 expanded: Expanded::Whole,
                 fails: true,
             }),
-            Followed::Cut => Ok(Came {
-                expanded: Expanded::Cut,
-                fails: false,
-            }),
+            Followed::Cut => {
+                self.note_cut(alloc, origin)?;
+                Ok(Came {
+                    expanded: Expanded::Cut,
+                    fails: false,
+                })
+            }
             Followed::Ended(ending) => {
                 let told = self.find(alloc, kernel, code, input, ending, origin)?;
                 Ok(Came {
@@ -130,10 +135,12 @@ impl Search {
     ) -> Result<Expanded, GivenUp>
         requires search { IsSearch code.now input.now limits.turns self.old }
         requires state { state < length self.old.states.keys.keys }
+        requires few { length self.old.states.keys.keys ≤ limits.states }
         ensures finds { Finds code.now input.now self.old.found.items self.new.found.items }
         ensures expands { IfOk result (λ expanded.
             ComesTo code.now input.now limits.turns self.old self.new expanded (HasExpanded code.now input.now limits.turns self.new state)) }
         ensures full { IfErr result (λ given_up. given_up ≡ GivenUp.Full → limits.states ≤ length self.new.states.keys.keys) }
+        ensures few { length self.new.states.keys.keys ≤ limits.states }
     {
         let Ok(number) = u32::try_from(state) else {
             return Err(GivenUp::Full);

@@ -7,21 +7,22 @@ ghost use Rattle.edi_explore.specs.Finding.{Finds, IsBegun};
 
 use crate::ends::Found;
 use crate::offline::Offline;
-use crate::record::{choices_to, run};
+use crate::record::{MOST_TURNS, choices_to, run, with_waits};
 use crate::states::{Origin, States};
 use edi_kernel::{Ending, Kernel};
 use edi_target::Code;
 use std::alloc::{AllocError, Global};
 
 /// The number of choices of a record.
-const MOST_CHOICES: usize = 65_536;
+pub(crate) const MOST_CHOICES: usize = 65_536;
 
-/// The states that are kept, the system of the stints, and the endings that were found.
+/// The states that are kept, the system of the stints, the endings that were found, and choices that lead to a stint that was cut, if one was.
 #[derive(Drop)]
 pub(crate) struct Search {
     pub(crate) states: States,
     pub(crate) calls: Offline,
     pub(crate) found: Vec<Found>,
+    pub(crate) cut: Vec<u8>,
 }
 
 /// Whether an ending has been found.
@@ -46,7 +47,21 @@ impl Search {
             states: States::new(alloc),
             calls: Offline::new(alloc, input)?,
             found: Vec::new(alloc),
+            cut: Vec::new(alloc),
         })
+    }
+
+    /// Notes the choices that lead to the process at an index of a state, whose stint was cut, unless some are noted already. The only error is
+    /// want of memory.
+    pub(crate) fn note_cut(&mut self, alloc: Global, origin: Origin) -> Result<(), AllocError>
+        requires states { AreStates self.old.states }
+        requires state { origin.state < length self.old.states.keys.keys }
+        ensures rest { self.new ≡ record self.old { cut = self.new.cut } }
+    {
+        if self.cut.is_empty() {
+            self.cut = choices_to(alloc, &self.states, origin)?;
+        }
+        Ok(())
     }
 
     /// Runs the choices, and keeps them as those of an ending that has not been found, if the run ends so. The answer is whether it does,
@@ -69,10 +84,16 @@ impl Search {
         if choices.len() > MOST_CHOICES {
             return Ok(false);
         }
-        let found = run(alloc, kernel, code, input, choices)?;
-        if found.ending != ending {
+        let came = run(alloc, kernel, code, input, choices, MOST_TURNS)?;
+        if came.ending == Ending::Fault {
+            return Err(AllocError);
+        }
+        if came.ending != ending {
             return Ok(false);
         }
+        let Some(found) = with_waits(alloc, kernel, code, input, came)? else {
+            return Ok(false);
+        };
         self.found.push(found)?;
         Ok(true)
     }

@@ -1,22 +1,23 @@
 //! The search.
 
-ghost use Rattle.std.specs.Prelude.{◌≡◌, ◌+◌, ◌<◌, ◌≤◌, ℕ, length, IfErr, IfOk};
+ghost use Rattle.std.specs.Prelude.{◌≡◌, ◌+◌, ◌<◌, ◌≤◌, ℕ, true, length, IfErr, IfOk};
 ghost use Rattle.edi_unit.specs.Tree.{ProgramUnit};
 ghost use Rattle.edi_follows.specs.Theorem.{CanBeCoded};
 ghost use Rattle.edi_explored.specs.Reached.{AreAll, AreAllBelow};
 ghost use Rattle.edi_explored.specs.machine.Kernels.{IsUnitCode};
 ghost use Rattle.edi_explore.specs.Expand.{ComesTo, HasExpanded, IsSearch};
 ghost use Rattle.edi_explore.specs.Finding.{Finds, IsBegun};
-ghost use Rattle.edi_explore.specs.Found.{AreDistinct, AreNeverBad, AreRecorded, endings_of};
+ghost use Rattle.edi_explore.specs.Found.{AllTellWaits, AreDistinct, AreNeverBad, AreRecorded, endings_of};
 ghost use Rattle.edi_explore.specs.Offline.{offline};
-ghost use Rattle.edi_explore.specs.Verdicts.{HasFirst, IsAnswer, IsUpTo, or_else, verdict_of, verdict_of_given_up};
+ghost use Rattle.edi_explore.specs.Verdicts.{HasCause, HasFirst, IsAnswer, IsConfirmed, IsCutBy, IsUpTo, or_else, verdict_of, verdict_of_given_up};
 
 use crate::ends::{Limits, Report, Verdict};
 use crate::expand::Expanded;
-use crate::finding::Search;
+use crate::finding::{MOST_CHOICES, Search};
+use crate::record::run;
 use crate::states::Origin;
 use crate::step::{Followed, GivenUp, settle};
-use edi_kernel::Kernel;
+use edi_kernel::{Ending, Kernel};
 use edi_target::Code;
 use std::alloc::{AllocError, Global};
 
@@ -75,6 +76,7 @@ impl Search {
         ensures begins { IfOk result (λ expanded.
             ComesTo code.now input.now limits.turns self.old self.new expanded (HasFirst code.now input.now limits.turns self.new)) }
         ensures full { IfErr result (λ given_up. given_up ≡ GivenUp.Full → limits.states ≤ length self.new.states.keys.keys) }
+        ensures few { length self.new.states.keys.keys ≤ limits.states }
     {
         kernel.start(code);
         let end = kernel.stint(code, &mut self.calls, limits.turns);
@@ -111,10 +113,12 @@ impl Search {
         limits: Limits,
     ) -> Result<Expanded, GivenUp>
         requires search { IsSearch code.now input.now limits.turns self.old }
+        requires few { length self.old.states.keys.keys ≤ limits.states }
         ensures finds { Finds code.now input.now self.old.found.items self.new.found.items }
         ensures expands { IfOk result (λ expanded. ComesTo code.now input.now limits.turns self.old self.new expanded
             ((v : ℕ) → from ≤ v → v < length self.old.states.keys.keys → HasExpanded code.now input.now limits.turns self.new v)) }
         ensures full { IfErr result (λ given_up. given_up ≡ GivenUp.Full → limits.states ≤ length self.new.states.keys.keys) }
+        ensures few { length self.new.states.keys.keys ≤ limits.states }
     {
         let mut expanded = Expanded::Whole;
         for state in from..self.states.len() {
@@ -133,9 +137,11 @@ impl Search {
         limits: Limits,
     ) -> Verdict
         requires search { IsSearch code.now input.now limits.turns self.old }
+        requires few { length self.old.states.keys.keys ≤ limits.states }
         requires begun { HasFirst code.now input.now limits.turns self.old }
         ensures finds { Finds code.now input.now self.old.found.items self.new.found.items }
         ensures answer { IsAnswer code.now input.now limits.states (length self.new.states.keys.keys) self.new.found.items result }
+        ensures few { length self.new.states.keys.keys ≤ limits.states }
     {
         let mut verdict = Verdict::All;
         let mut from = 0;
@@ -167,6 +173,7 @@ impl Search {
         requires new { IsBegun input.now self.old }
         ensures finds { Finds code.now input.now self.old.found.items self.new.found.items }
         ensures answer { IsAnswer code.now input.now limits.states (length self.new.states.keys.keys) self.new.found.items result }
+        ensures few { length self.new.states.keys.keys ≤ limits.states }
     {
         match self.begin(alloc, kernel, code, input, limits) {
             Ok(Expanded::Whole) => self.levels(alloc, kernel, code, input, limits),
@@ -180,6 +187,7 @@ impl Search {
     fn report(self, verdict: Verdict) -> Report
         ensures found { result.found ≡ self.found }
         ensures verdict { result.verdict ≡ verdict }
+        ensures cut { result.cut ≡ self.cut }
         ensures states { result.states ≡ length self.states.keys.keys + 1 }
     {
         let states = self.states.total();
@@ -187,7 +195,74 @@ impl Search {
             found: self.found,
             verdict,
             states,
+            cut: self.cut,
         }
+    }
+}
+
+/// Whether the run with these choices has more than so many turns, and no more choices than a record has. The only error is want of memory.
+fn is_cut(
+    alloc: Global,
+    kernel: &mut Kernel,
+    code: &Code,
+    input: &[u8],
+    choices: &[u8],
+    turns: u64,
+) -> Result<bool, AllocError>
+    ensures { (unit : ProgramUnit) → CanBeCoded unit → IsUnitCode unit code.now →
+        IfOk result (λ cut. cut ≡ true → IsCutBy turns unit input.now choices.now) }
+{
+    if choices.len() > MOST_CHOICES {
+        return Ok(false);
+    }
+    let again = Vec::from_slice(alloc, choices)?;
+    let found = run(alloc, kernel, code, input, again, turns)?;
+    // No object outside is there to fail: memory ran out in a call.
+    if found.ending == Ending::Fault {
+        return Err(AllocError);
+    }
+    Ok(found.ending == Ending::Turns)
+}
+
+/// The verdict that a stint was cut, after so many moves, if the run with these choices is cut; else one that says the same of endings.
+fn confirmed_cut(
+    alloc: Global,
+    kernel: &mut Kernel,
+    code: &Code,
+    input: &[u8],
+    choices: &[u8],
+    turns: u64,
+    moves: usize,
+) -> Verdict
+    ensures same { IsConfirmed (Verdict.Cut moves) result }
+    ensures cause { (unit : ProgramUnit) → CanBeCoded unit → IsUnitCode unit code.now → HasCause turns unit input.now result choices.now }
+{
+    match is_cut(alloc, kernel, code, input, choices, turns) {
+        Ok(true) => Verdict::Cut(moves),
+        Ok(false) => Verdict::Unrecorded(moves),
+        Err(_) => Verdict::NoMemory(moves),
+    }
+}
+
+/// The verdict again, where a cut is told only if the run with these choices is cut.
+fn confirmed(
+    alloc: Global,
+    kernel: &mut Kernel,
+    code: &Code,
+    input: &[u8],
+    choices: &[u8],
+    turns: u64,
+    verdict: Verdict,
+) -> Verdict
+    ensures same { IsConfirmed verdict result }
+    ensures cause { (unit : ProgramUnit) → CanBeCoded unit → IsUnitCode unit code.now → HasCause turns unit input.now result choices.now }
+{
+    match verdict {
+        Verdict::Cut(moves) => confirmed_cut(alloc, kernel, code, input, choices, turns, moves),
+        Verdict::All => Verdict::All,
+        Verdict::Full(moves) => Verdict::Full(moves),
+        Verdict::Unrecorded(moves) => Verdict::Unrecorded(moves),
+        Verdict::NoMemory(moves) => Verdict::NoMemory(moves),
     }
 }
 
@@ -196,6 +271,9 @@ impl Search {
 /// Each ending that is found has choices, which bring it about: `Kernel::run` ended so with them. The verdict says whether these are all
 /// endings, or all of the executions of fewer moves than its number. A move is what a process does from when it is taken until the next one
 /// is taken; an attempt that fails is none. An execution that goes on for ever has no ending, and is cut by each bound on its turns.
+///
+/// Where the verdict is that a stint was cut, the choices of the report bring that about: the run with them has more turns than a stint may have.
+/// As many states and one more were met where the verdict is that there may be no more; there are never more than these.
 ///
 /// The only error is that memory ran out before the search: memory that runs out later is a verdict.
 pub fn explore(
@@ -208,14 +286,19 @@ pub fn explore(
     ensures recorded { (unit : ProgramUnit) → CanBeCoded unit → IsUnitCode unit code.now →
         IfOk result (λ report. AreRecorded unit input.now report.found.items) }
     ensures good { (unit : ProgramUnit) → CanBeCoded unit → IsUnitCode unit code.now → IfOk result (λ report. AreNeverBad report.found.items) }
+    ensures waits { IfOk result (λ report. AllTellWaits code.now input.now report.found.items) }
     ensures distinct { IfOk result (λ report. AreDistinct report.found.items) }
     ensures all { (unit : ProgramUnit) → CanBeCoded unit → IsUnitCode unit code.now →
         IfOk result (λ report. report.verdict ≡ Verdict.All → AreAll unit (offline input.now) (endings_of report.found.items)) }
     ensures below { (unit : ProgramUnit) → CanBeCoded unit → IsUnitCode unit code.now → (moves : ℕ) →
         IfOk result (λ report. IsUpTo report.verdict moves → AreAllBelow moves unit (offline input.now) (endings_of report.found.items)) }
-    ensures full { (moves : ℕ) → IfOk result (λ report. report.verdict ≡ Verdict.Full moves → limits.states ≤ report.states) }
+    ensures full { (moves : ℕ) → IfOk result (λ report. report.verdict ≡ Verdict.Full moves → limits.states < report.states) }
+    ensures few { IfOk result (λ report. report.states ≤ limits.states + 1) }
+    ensures cause { (unit : ProgramUnit) → CanBeCoded unit → IsUnitCode unit code.now →
+        IfOk result (λ report. HasCause limits.turns unit input.now report.verdict report.cut.items) }
 {
     let mut search = Search::new(alloc, input)?;
-    let verdict = search.follow_all(alloc, kernel, code, input, limits);
+    let first = search.follow_all(alloc, kernel, code, input, limits);
+    let verdict = confirmed(alloc, kernel, code, input, &search.cut, limits.turns, first);
     Ok(search.report(verdict))
 }

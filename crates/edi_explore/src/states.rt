@@ -157,6 +157,7 @@ impl States {
     fn number_of(&mut self, kept: Kept) -> Result<u32, AllocError>
         ensures adds { OnOk result (AddsParts self.old self.new) }
         ensures there { IfOk result (λ number. (part : Kept) × (slice_get self.new.processes.keys number ≡ Some part) × IsSameKept kept part) }
+        ensures keys { self.new.keys ≡ self.old.keys }
     {
         let (number, _) = self.processes.insert_full(kept)?;
         as_number(number)
@@ -166,6 +167,7 @@ impl States {
     fn place_of(&mut self, place: Place) -> Result<u32, AllocError>
         ensures adds { OnOk result (AddsParts self.old self.new) }
         ensures there { IfOk result (λ number. (other : Place) × (slice_get self.new.places.keys number ≡ Some other) × IsSamePlace place other) }
+        ensures keys { self.new.keys ≡ self.old.keys }
     {
         let (number, _) = self.places.insert_full(place)?;
         as_number(number)
@@ -176,6 +178,7 @@ impl States {
         requires kernel { IsKernel kernel.now }
         ensures key { IfOk result (λ key. IsKeyOf self.new key kernel.now calls.now) }
         ensures adds { OnOk result (AddsParts self.old self.new) }
+        ensures keys { self.new.keys ≡ self.old.keys }
     {
         let place = self.place_of(calls.keep()?)?;
         let mut parts = Vec::with_capacity(alloc, 4)?;
@@ -216,8 +219,10 @@ impl States {
         requires free { kernel.now.taken ≡ None }
         requires states { AreStates self.old }
         requires origin { MayComeFrom self.old origin }
+        requires few { length self.old.keys.keys ≤ most }
         ensures added { IfOk result (λ kept. kept ≡ true → IsAdded self.old self.new kernel.now calls.now) }
         ensures full { IfOk result (λ kept. kept ≡ false → most ≤ length self.new.keys.keys) }
+        ensures few { length self.new.keys.keys ≤ most }
     {
         let key = self.key_of(alloc, kernel, calls)?;
         if self.keys.len() >= most && !self.keys.contains(&key) {

@@ -74,8 +74,10 @@ pub(crate) fn settle(
     requires origin { MayComeFrom states.old origin }
     requires kernel { IsKernel kernel.now }
     requires free { is_over end ≡ false → kernel.now.taken ≡ None }
+    requires few { length states.old.keys.keys ≤ limits.states }
     ensures follows { IfOk result (λ followed. FollowedAs followed end states.old states.new kernel.now calls.now) }
     ensures full { IfErr result (λ given_up. given_up ≡ GivenUp.Full → limits.states ≤ length states.new.keys.keys) }
+    ensures few { length states.new.keys.keys ≤ limits.states }
 {
     if let StintEnd::Over { ending, .. } = end {
         return Ok(ended(ending)?);
@@ -125,9 +127,11 @@ pub(crate) fn follow(
     requires states { AreStates states.old }
     requires state { origin.state < length states.old.keys.keys }
     requires index { origin.index < length (slots_of states.old origin.state) }
+    requires few { length states.old.keys.keys ≤ limits.states }
     ensures follows { IfOk result (λ followed.
         FollowsStint code.now limits.turns origin.state origin.index followed states.old states.new kernel.new calls.new) }
     ensures full { IfErr result (λ given_up. given_up ≡ GivenUp.Full → limits.states ≤ length states.new.keys.keys) }
+    ensures few { length states.new.keys.keys ≤ limits.states }
     ensures input { OnOk result (calls.new.input ≡ calls.old.input) }
 {
     let state = origin.state as usize;

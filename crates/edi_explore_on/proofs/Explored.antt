@@ -1,5 +1,5 @@
 -- What a search reports of the code of a text, in the words of the text.
-use Rattle.std.proofs.Common.{◌≡◌, ℕ, zero, suc, ◌≤◌, List, [], ◌∷◌, map, Contains, Some, refl, sym, ap, subst, ◌∙◌, arith}
+use Rattle.std.proofs.Common.{◌≡◌, ℕ, zero, suc, ◌<◌, ◌≤◌, List, [], ◌∷◌, map, Contains, Some, refl, sym, ap, subst, ◌∙◌, arith}
 use Rattle.std.specs.Prelude.{slice_get}
 use Rattle.edi_calls.specs.Outcome as outcome
 use Rattle.edi_kernel.specs.declared.ends.Ending.{Ending}
@@ -15,12 +15,14 @@ use Rattle.edi_explore.specs.declared.ends.Found.{Found}
 use Rattle.edi_explore.specs.declared.ends.Verdict.{Verdict}
 use Rattle.edi_explore.specs.declared.ends.Verdict.TheVariants as verdict
 use Rattle.edi_explore.specs.Found as code
-use Rattle.edi_explore.specs.Found.{AreNeverBad, AreRecorded, IsRecorded, endings_of, with_ending}
+use Rattle.edi_explore.specs.Found.{AllTellWaits, AreNeverBad, AreRecorded, IsRecorded, TellsWaits, WaitsBy, endings_of, is_standstill, with_ending}
 use Rattle.edi_explore.specs.Offline.{offline}
-use Rattle.edi_explore.specs.Verdicts.{IsUpTo}
+use Rattle.edi_explore.specs.Verdicts.{HasCause, IsUpTo}
 use Rattle.edi_explore.proofs.Findings.{contains_at}
 use Rattle.edi_explore.proofs.Keying.{some_is}
-use Rattle.edi_explore_on.specs.Explorations.{AreDistinct, IsExplorationOf, IsFound, IsFullOnlyAt, IsReachedBy, Reached, Says, endings_in}
+use Rattle.edi_waits.specs.Told.{all_of}
+use Rattle.edi_waits.specs.Waits.{Waiting}
+use Rattle.edi_explore_on.specs.Explorations.{AreDistinct, AreTold, IsCutOnlyBy, IsExplorationOf, IsFound, IsFullOnlyAt, IsReachedBy, Reached, Says, endings_in}
 use Rattle.edi_explore_on.specs.Told.{reached_of}
 
 -- ---- endings
@@ -105,8 +107,20 @@ distinct fs told d i j a b p q e =
 -- ---- a report
 
 module _ (text : List ℕ) (unit : ProgramUnit) (is : IsUnit text unit) (input : List ℕ) where
-  reached : (f : Found) → IsRecorded unit input f → ((at : ℕ) → f.ending ≡ ending.Bad at → ⊥) → IsReachedBy text input (reached_of f)
-  reached f r good =
+  -- who waits where is told of the code of the text
+  told_as : (e : Ending) (choices : List ℕ) (waits : List Waiting) → WaitsBy (is_standstill e) (parts_of unit) input choices waits →
+      AreTold (meant e) text input choices waits
+  told_as ending.Done choices waits h = h
+  told_as (ending.Halted line) choices waits h = h
+  told_as (ending.Failed cause line) choices waits h = h
+  told_as ending.Turns choices waits h = h
+  told_as ending.Standstill choices waits h = record { unit = unit; unit_is = is; stands = h }
+  told_as (ending.Bad at) choices waits h = h
+  told_as ending.Fault choices waits h = h
+
+  reached : (f : Found) → IsRecorded unit input f → ((at : ℕ) → f.ending ≡ ending.Bad at → ⊥) → TellsWaits (parts_of unit) input f →
+      IsReachedBy text input (reached_of f)
+  reached f r good waits =
       let s = r.selects in
       record {
         outcome = s.outcome;
@@ -115,6 +129,8 @@ module _ (text : List ℕ) (unit : ProgramUnit) (is : IsUnit text unit) (input :
         turns_is = s.turns;
         found = is_found f.ending r.end r.is r.uncut good;
         few = r.few;
+        small = r.small;
+        told = told_as f.ending f.choices.items (all_of f.waits) waits;
       }
 
   says : (v : Verdict) (fs : List Found) → AreEndings fs → (v ≡ verdict.All → AreAll unit (offline input) (endings_of fs)) →
@@ -132,21 +148,37 @@ module _ (text : List ℕ) (unit : ProgramUnit) (is : IsUnit text unit) (input :
       of (verdict.Unrecorded moves) all below = up_to moves (below moves refl)
       of (verdict.NoMemory moves) all below = up_to moves (below moves refl)
 
-  pub exploration : (most : ℕ) (v : Verdict) (states : ℕ) (fs : List Found) → AreRecorded unit input fs → AreNeverBad fs → code.AreDistinct fs →
-      (v ≡ verdict.All → AreAll unit (offline input) (endings_of fs)) →
+  -- why a stint was cut
+  cause : (turns : ℕ) (v : Verdict) (choices : List ℕ) → HasCause turns unit input v choices → IsCutOnlyBy turns v text input choices
+  cause turns verdict.All choices h = tt
+  cause turns (verdict.Full moves) choices h = tt
+  cause turns (verdict.Cut moves) choices h = record {
+    outcome = h.outcome;
+    run = record { unit = unit; unit_is = is; run = h.selects };
+    cut = h.cut;
+    few = h.few;
+    small = h.small;
+  }
+  cause turns (verdict.Unrecorded moves) choices h = tt
+  cause turns (verdict.NoMemory moves) choices h = tt
+
+  pub exploration : (most turns : ℕ) (v : Verdict) (states : ℕ) (fs : List Found) (cut : List ℕ) → AreRecorded unit input fs → AreNeverBad fs →
+      AllTellWaits (parts_of unit) input fs → code.AreDistinct fs → (v ≡ verdict.All → AreAll unit (offline input) (endings_of fs)) →
       ((moves : ℕ) → IsUpTo v moves → AreAllBelow moves unit (offline input) (endings_of fs)) →
-      ((moves : ℕ) → v ≡ verdict.Full moves → most ≤ states) →
-      IsExplorationOf text input most (record { endings = map reached_of fs; verdict = v; states = states })
-  exploration most v states fs recorded good once all below full =
+      ((moves : ℕ) → v ≡ verdict.Full moves → most < states) → states ≤ suc most → HasCause turns unit input v cut →
+      IsExplorationOf text input most turns (record { endings = map reached_of fs; verdict = v; states = states; cut = cut })
+  exploration most turns v states fs cut recorded good waits once all below full bounded why =
       let told : AreEndings fs = λ f c. let r = recorded f c in (r.end, r.is) in
       record {
-        reached = each_reached (IsReachedBy text input) fs (λ f c. reached f (recorded f c) (λ at e. good f at c e));
+        reached = each_reached (IsReachedBy text input) fs (λ f c. reached f (recorded f c) (λ at e. good f at c e) (waits f c));
         distinct = distinct fs told once;
         says = says v fs told all below;
         full = only v full;
+        bounded = bounded;
+        cut = cause turns v cut why;
       }
     where
-      only : (v : Verdict) → ((moves : ℕ) → v ≡ verdict.Full moves → most ≤ states) → IsFullOnlyAt most v states
+      only : (v : Verdict) → ((moves : ℕ) → v ≡ verdict.Full moves → most < states) → IsFullOnlyAt most v states
       only (verdict.Full moves) h = h moves refl
       only verdict.All h = tt
       only (verdict.Cut moves) h = tt

@@ -1,4 +1,5 @@
 mod Explored
 mod Keeping
+mod Processes
 mod Reading
 mod Runs

@@ -15,7 +15,7 @@ use Rattle.edi_explore_on.specs.Told.{HasTaken, HasTakenSome, Reads}
 taken_one : (bytes more : List ℕ) (b : ℕ) (x y z : List ℕ) → more ≡ bytes ++ b ∷ [] → x ≡ bytes ++ y → y ≡ b ∷ z → x ≡ more ++ z
 taken_one bytes more b x y z g p q = p ∙ ap (λ t. bytes ++ t) q ∙ sym (append_assoc bytes (b ∷ []) z) ∙ ap (λ t. t ++ z) (sym g)
 
-module _ (start now after : Option (List ℕ)) (bytes : List ℕ) (told : WhereTold start now (HasTaken bytes)) where
+module _ (start now after : Option (List ℕ)) (bytes : List ℕ) (few : length bytes ≤ most_input) (told : WhereTold start now (HasTaken bytes)) where
   pub one_more : (more : List ℕ) (b : ℕ) → more ≡ bytes ++ b ∷ [] → WhereTold now after (Takes (next.Byte b)) → WhereTold start after (HasTaken more)
   one_more more b g s =
       WhereTold-then (HasTaken bytes) (Takes (next.Byte b)) (HasTaken more) start now after (λ x y z p q. taken_one bytes more b x y z g p q) told s
@@ -23,11 +23,11 @@ module _ (start now after : Option (List ℕ)) (bytes : List ℕ) (told : WhereT
   pub one_lost : (b : ℕ) → WhereTold now after (Takes (next.Byte b)) → WhereTold start after HasTakenSome
   one_lost b s =
       WhereTold-then (HasTaken bytes) (Takes (next.Byte b)) HasTakenSome start now after
-      (λ x y z p q. (bytes ++ b ∷ [], taken_one bytes (bytes ++ b ∷ []) b x y z refl p q)) told s
+      (λ x y z p q. (bytes ++ b ∷ [], taken_one bytes (bytes ++ b ∷ []) b x y z refl p q, omega (arith, few, length-append bytes (b ∷ [])))) told s
 
   pub none_more : WhereTold now after (Takes next.Failed) → WhereTold start after HasTakenSome
   none_more s =
-      WhereTold-then (HasTaken bytes) (Takes next.Failed) HasTakenSome start now after (λ x y z p q. (bytes, p ∙ ap (λ t. bytes ++ t) (sym q.1))) told s
+      WhereTold-then (HasTaken bytes) (Takes next.Failed) HasTakenSome start now after (λ x y z p q. (bytes, p ∙ ap (λ t. bytes ++ t) (sym q.1), omega (arith, few))) told s
 
 pub read_whole : (start now after : Option (List ℕ)) (bytes : Vec ℕ) → length bytes.items ≤ most_input → WhereTold start now (HasTaken bytes.items)
     → WhereTold now after (Takes next.End) → WhereTold start after (Reads (Ok bytes))

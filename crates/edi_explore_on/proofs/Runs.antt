@@ -38,13 +38,13 @@ says_all : (v : Verdict) (text input : List ℕ) (es : List Ending) → v ≡ ve
 says_all v text input es e s = subst (λ x. Says x text input es) e s
 
 pub runs_end_as_told : RunsEndAsTold
-runs_end_as_told text input most f x all bound choices o r =
+runs_end_as_told text input most turns f x all bound choices o r =
     told text input (endings_in f.endings) (says_all f.verdict text input (endings_in f.endings) all x.says) bound choices o r
 
 pub found_are_among_all : FoundAreAmongAll
-found_are_among_all text input most more one all x y is found c =
+found_are_among_all text input most turns more later one all x y is found c =
     let r = x.reached found c in
-    among (subst (IsCutOr (endings_in all.endings)) r.ending_is (runs_end_as_told text input more all y is most_turns (listed found.choices) r.outcome r.run))
+    among (subst (IsCutOr (endings_in all.endings)) r.ending_is (runs_end_as_told text input more later all y is most_turns (listed found.choices) r.outcome r.run))
     r.found
   where
     among : IsCutOr (endings_in all.endings) found.ending → IsFound found.ending → Contains (endings_in all.endings) found.ending

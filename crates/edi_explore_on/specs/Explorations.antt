@@ -1,41 +1,40 @@
 -- Definition. THE EXPLORATION OF A TEXT: the endings that choices bring about, and whether these are all. Said of the executions of the text
 -- on a system with an input, without disk and files.
-use Rattle.std.specs.Prelude.{◌≡◌, ℕ, ◌≤◌, List, [], ◌∷◌, length, slice_get, Contains, Some, ⊤}
+use Rattle.std.specs.Prelude.{◌≡◌, ℕ, suc, ◌<◌, ◌≤◌, List, [], ◌∷◌, length, slice_get, Contains, Some, ⊤}
 use Rattle.edi_calls.specs.Choice.{listed}
 use Rattle.edi_calls.specs.Outcome as outcome
 use Rattle.edi_calls.specs.Outcome.{Ending, Outcome}
 use Rattle.edi_unit.specs.Tree.{ProgramUnit}
 use Rattle.edi_texts.specs.Run.{IsRunOf}
 use Rattle.edi_texts.specs.Texts.{IsUnit}
+use Rattle.edi_scheme.specs.Laws.{parts_of}
 use Rattle.edi_explored.specs.Reached.{AreAll, AreAllBelow}
+use Rattle.edi_waits.specs.Waits.{StandsSo, Waiting}
 use Rattle.edi_explore.specs.declared.ends.Verdict.{Verdict}
 use Rattle.edi_explore.specs.declared.ends.Verdict.TheVariants as verdict
 use Rattle.edi_explore.specs.Offline.{offline}
+pub use Rattle.edi_explore.specs.Choices.{AreChoices, most_choices, most_turns, turn_limit}
 
 -- ---- what is found
 
--- an ending, with choices that bring it about and the turns that this takes
+-- an ending, with choices that bring it about and the turns that this takes; and who waits where, if it is a standstill
 pub record Reached : Type 0 where
   pub ending : Ending
   pub choices : List ℕ
   pub turns : ℕ
+  pub waits : List Waiting
 
--- the endings in the order in which they were found, whether these are all, and how many states were met
+-- the endings in the order in which they were found, whether these are all, how many states were met, and choices that say why a stint was cut, if
+-- the verdict is that one was
 pub record Findings : Type 0 where
   pub endings : List Reached
   pub verdict : Verdict
   pub states : ℕ
+  pub cut : List ℕ
 
 abbrev pub endings_in : List Reached → List Ending
 endings_in [] = []
 endings_in (one ∷ found) = one.ending ∷ endings_in found
-
--- the turns that an execution may have which is recorded, and its choices
-abbrev pub most_turns : ℕ
-most_turns = 1000000000
-
-abbrev pub most_choices : ℕ
-most_choices = 65536
 
 -- An ending that is found: no bound has cut the execution, and no instruction was without a meaning.
 abbrev pub IsFound : Ending → Type 0
@@ -46,6 +45,17 @@ IsFound outcome.turns = ⊥
 IsFound outcome.standstill = ⊤
 IsFound (outcome.bad address) = ⊥
 
+-- WHO WAITS WHERE: with these choices the code of the text stands still in a machine in which these processes stand at a `when`, at these lines,
+-- and no others do. After another ending nobody is told.
+pub record StandsStill (text input choices : List ℕ) (waits : List Waiting) : Type 0 where
+  pub unit : ProgramUnit
+  pub unit_is : IsUnit text unit
+  pub stands : StandsSo (parts_of unit) (offline input) most_turns (record { source = listed choices; drawn = 0 }) waits
+
+abbrev pub AreTold : Ending → (text input choices : List ℕ) → List Waiting → Type 0
+AreTold outcome.standstill text input choices waits = StandsStill text input choices waits
+AreTold ending text input choices waits = waits ≡ []
+
 -- THESE CHOICES BRING IT ABOUT: the execution of the text that they select ends so, after so many turns. After the end of the list each choice
 -- is 0.
 pub record IsReachedBy (text input : List ℕ) (one : Reached) : Type 0 where
@@ -55,6 +65,8 @@ pub record IsReachedBy (text input : List ℕ) (one : Reached) : Type 0 where
   pub turns_is : outcome.turns ≡ one.turns
   pub found : IsFound one.ending
   pub few : length one.choices ≤ most_choices
+  pub small : AreChoices one.choices
+  pub told : AreTold one.ending text input one.choices one.waits
 
 -- no ending is found twice
 abbrev pub AreDistinct : List Reached → Type 0
@@ -83,14 +95,29 @@ Says (verdict.Cut moves) text input endings = AreAllOfBelow moves text input end
 Says (verdict.Unrecorded moves) text input endings = AreAllOfBelow moves text input endings
 Says (verdict.NoMemory moves) text input endings = AreAllOfBelow moves text input endings
 
--- `Full` is answered only where at least so many states were met.
+-- `Full` is answered only where one state more was met than may be kept beside the first.
 abbrev pub IsFullOnlyAt : (most : ℕ) → Verdict → (states : ℕ) → Type 0
-IsFullOnlyAt most (verdict.Full moves) states = most ≤ states
+IsFullOnlyAt most (verdict.Full moves) states = most < states
 IsFullOnlyAt most _ states = ⊤
 
--- THE EXPLORATION: what was found of a text with an input, where so many states may be kept
-pub record IsExplorationOf (text input : List ℕ) (most_states : ℕ) (findings : Findings) : Type 0 where
+-- THE EXECUTION IS CUT: that of the text which these choices select has more than so many turns.
+pub record IsCutBy (turns : ℕ) (text input choices : List ℕ) : Type 0 where
+  pub outcome : Outcome
+  pub run : IsRunOf text (offline input) turns (listed choices) outcome
+  pub cut : outcome.ending ≡ turn_limit
+  pub few : length choices ≤ most_choices
+  pub small : AreChoices choices
+
+-- `Cut` is answered only with such choices.
+abbrev pub IsCutOnlyBy : (turns : ℕ) → Verdict → (text input choices : List ℕ) → Type 0
+IsCutOnlyBy turns (verdict.Cut moves) text input choices = IsCutBy turns text input choices
+IsCutOnlyBy turns _ text input choices = ⊤
+
+-- THE EXPLORATION: what was found of a text with an input, where so many states may be kept, and a process may take so many turns at once
+pub record IsExplorationOf (text input : List ℕ) (most_states most_stint : ℕ) (findings : Findings) : Type 0 where
   pub reached : (one : Reached) → Contains findings.endings one → IsReachedBy text input one
   pub distinct : AreDistinct findings.endings
   pub says : Says findings.verdict text input (endings_in findings.endings)
   pub full : IsFullOnlyAt most_states findings.verdict findings.states
+  pub bounded : findings.states ≤ suc most_states
+  pub cut : IsCutOnlyBy most_stint findings.verdict text input findings.cut

@@ -19,12 +19,13 @@ FoundIsReached =
 -- Where it says that it has found all, each run of the text, with whatever bound and choices, is cut by its bound or ends in one of these ways.
 abbrev pub RunsEndAsTold : Type 0
 RunsEndAsTold =
-    (text input : List ℕ) (most : ℕ) (findings : Findings) → IsExplorationOf text input most findings → findings.verdict ≡ verdict.All →
+    (text input : List ℕ) (most turns : ℕ) (findings : Findings) → IsExplorationOf text input most turns findings → findings.verdict ≡ verdict.All →
     (bound : ℕ) (choices : Choices) (outcome : Outcome) → IsRunOf text (offline input) bound choices outcome →
     IsCutOr (endings_in findings.endings) outcome.ending
 
 -- And what any other exploration of the text finds is among these: two that have found all have found the same endings.
 abbrev pub FoundAreAmongAll : Type 0
 FoundAreAmongAll =
-    (text input : List ℕ) (most more : ℕ) (one all : Findings) → IsExplorationOf text input most one → IsExplorationOf text input more all →
+    (text input : List ℕ) (most turns more later : ℕ) (one all : Findings) → IsExplorationOf text input most turns one →
+    IsExplorationOf text input more later all →
     all.verdict ≡ verdict.All → (found : Reached) → Contains one.endings found → Contains (endings_in all.endings) found.ending

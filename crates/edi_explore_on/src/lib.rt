@@ -8,6 +8,7 @@ mod lines;
 mod records;
 mod summary;
 mod text;
+mod waiting;
 mod words;
 
 pub use input::{InputFault, MOST_INPUT, names_accept, read_input};

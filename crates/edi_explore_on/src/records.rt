@@ -18,7 +18,7 @@ use itoa::Buffer;
 use std::alloc::{AllocError, Global};
 
 // So many endings are kept at most.
-const MOST_RECORDS: usize = 1000;
+pub(crate) const MOST_RECORDS: usize = 1000;
 
 /// The name of the file that keeps the choices of the ending with this number, counted from 1: `NAME.3`. The only error is want of memory.
 pub fn record_name(alloc: Global, name: &str, number: usize) -> Result<String, AllocError>

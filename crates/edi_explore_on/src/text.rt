@@ -27,7 +27,7 @@ pub fn explore_text(
     limits: Limits,
 ) -> Result<Report, AllocError>
     ensures explored { (text : List ℕ) (unit : ProgramUnit) → IsFrontOf text unit → code.now ≡ parts_of unit →
-        IfOk result (λ report. IsExplorationOf text input.now limits.states (findings_of report)) }
+        IfOk result (λ report. IsExplorationOf text input.now limits.states limits.turns (findings_of report)) }
 {
     let report = explore(alloc, kernel, code, input, limits)?;
     Ok(report)

@@ -27,7 +27,7 @@ fn shows(
     let report = explore_text(alloc, &mut kernel, &code, input.as_bytes(), WIDE).expect(
         rt, "memory",
     );
-    let shown = report_text(alloc, &report).expect(rt, "memory");
+    let shown = report_text(alloc, &report, None).expect(rt, "memory");
     shown.as_slice() == lines.as_bytes() && sum_up(&report) == summary
 }
 
@@ -54,7 +54,7 @@ fn the_lines_are_shown(rt: HostRuntime) {
         (
             STANDS,
             "",
-            "standstill after 6 turns: no choices\nno execution ends otherwise; 5 states\n",
+            "standstill after 6 turns: no choices\n  1.1 waits at line 5\n  1.2 waits at line 6\nno execution ends otherwise; 5 states\n",
             Summary::Found(1),
         ),
         (
@@ -72,7 +72,7 @@ fn the_lines_are_shown(rt: HostRuntime) {
         (
             FOREVER,
             "",
-            "perhaps not all: a process goes on for more turns than --turns allows; 1 state\n",
+            "perhaps not all: a process goes on for more turns than --turns allows, with no choices; 1 state\n",
             Summary::NotAll,
         ),
     ];

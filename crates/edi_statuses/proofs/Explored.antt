@@ -2,7 +2,6 @@
 use Rattle.std.proofs.Common.{ℕ, Bool, true, false, List, Option, inl, inr}
 use Rattle.std.specs.Prelude.{◌⊎◌}
 use Rattle.edi_unit.specs.Tree.{ProgramUnit}
-use Rattle.edi_system.specs.Growing.{Shrinks}
 use Rattle.edi_explore_on.specs.Explorations.{Findings}
 use Rattle.edi_explore_on.specs.Input.{names_accept}
 use Rattle.edi_explore_on.specs.Records.{records_of}
@@ -13,7 +12,7 @@ use Rattle.edi_statuses.specs.Steps.{goes}
 use Rattle.edi_statuses.specs.Commands.{IsNothing, TextSteps}
 use Rattle.edi_statuses.specs.Broken.{HasBegun}
 use Rattle.edi_statuses.specs.Explored.{Explored, ExploredFront, ExploredInPart, ExploredThen, ExploresText}
-use Rattle.edi_statuses.specs.Explored.{IsTooLong, KeepsFirst, LosesInput, LosesNext, OnlyTakes, TakesAll}
+use Rattle.edi_statuses.specs.Explored.{IsTooLong, KeepsFirst, LosesInput, LosesNext, LosesSome, OnlyTakes, TakesAll}
 use Rattle.edi_statuses.specs.Decided.{with_shown}
 use Rattle.edi_statuses.proofs.Terminal.{StillTold, nothing_later, text_later}
 
@@ -42,9 +41,9 @@ module _ (b m : Outside) (y : Option (List ℕ)) (still : StillTold m.shown y) w
     kernel_same = h.kernel_same;
   }
 
-  explored_later : (bytes : List ℕ) (unit : ProgramUnit) (states : ℕ) (findings : Findings) → Explored bytes unit states findings before_ m
-      → Explored bytes unit states findings seen_later later_
-  explored_later bytes unit states findings h = record {
+  explored_later : (bytes : List ℕ) (unit : ProgramUnit) (o : ExploreOptions) (findings : Findings) → Explored bytes unit o findings before_ m
+      → Explored bytes unit o findings seen_later later_
+  explored_later bytes unit o findings h = record {
     input = h.input;
     takes = takes_later (names_accept unit) h.input h.takes;
     is = h.is;
@@ -56,7 +55,7 @@ module _ (b m : Outside) (y : Option (List ℕ)) (still : StillTold m.shown y) w
       → ExploresText bytes unit o s before_ m shown kernel → ExploresText bytes unit o s seen_later later_ shown kernel
   explores_later bytes unit o s shown kernel (inl h) = inl (record {
     findings = h.findings;
-    explored = explored_later bytes unit o.states h.findings h.explored;
+    explored = explored_later bytes unit o h.findings h.explored;
     status_is = h.status_is;
     shown_ = h.shown_;
     keeps = h.keeps;
@@ -65,14 +64,14 @@ module _ (b m : Outside) (y : Option (List ℕ)) (still : StillTold m.shown y) w
 
   loses_later : (unit : ProgramUnit) (shown : List ℕ) (kernel : Lent) → LosesInput unit before_ m shown kernel
       → LosesInput unit seen_later later_ shown kernel
-  loses_later unit shown kernel h = (h.0, only_later Shrinks shown kernel h.1)
+  loses_later unit shown kernel h = (h.0, only_later LosesSome shown kernel h.1)
 
   then_later : (Leaves : List Kept → Outside → Outside → Type 0) (bytes : List ℕ) (unit : ProgramUnit) (o : ExploreOptions) (shown : List ℕ)
       → ((kept : List Kept) → Leaves kept before_ m → Leaves kept seen_later later_) → ExploredThen Leaves bytes unit o before_ m shown
       → ExploredThen Leaves bytes unit o seen_later later_ shown
   then_later Leaves bytes unit o shown leaves h = record {
     findings = h.findings;
-    explored = explored_later bytes unit o.states h.findings h.explored;
+    explored = explored_later bytes unit o h.findings h.explored;
     shown_ = h.shown_;
     files = leaves (records_of o.record_file h.findings.endings) h.files;
   }
@@ -120,7 +119,7 @@ module _ (b m : Outside) (y : Option (List ℕ)) (still : StillTold m.shown y) w
       → ExploredFront bytes unit o seen_later later_ shown
   front_later bytes unit o shown h = record {
     findings = h.findings;
-    explored = explored_later bytes unit o.states h.findings h.explored;
+    explored = explored_later bytes unit o h.findings h.explored;
     front = h.front;
   }
 

@@ -3,7 +3,6 @@
 use Rattle.std.specs.Prelude.{◌≡◌, ◌<◌, ◌≤◌, ◌⊎◌, ℕ, suc, Bool, true, false, List, [], ◌∷◌, ◌++◌, length, drop, Option, Some, None}
 use Rattle.edi_told.specs.Told.{WhereTold}
 use Rattle.edi_unit.specs.Tree.{ProgramUnit}
-use Rattle.edi_system.specs.Growing.{Shrinks}
 use Rattle.edi_explore_on.specs.declared.summary.Summary.{Summary}
 use Rattle.edi_explore_on.specs.declared.summary.Summary.TheVariants as summary
 use Rattle.edi_explore_on.specs.Explorations.{Findings, IsExplorationOf}
@@ -50,26 +49,30 @@ IsTooLong old new = (most_input < length old) × (new ≡ drop (suc most_input) 
 abbrev pub ExceedsInput : ProgramUnit → Outside → Outside → (shown : List ℕ) → Lent → Type 0
 ExceedsInput unit before after shown kernel = (names_accept unit ≡ true) × OnlyTakes IsTooLong before after shown kernel
 
+-- Some first bytes of an input were taken, at most one more than it may have.
+abbrev pub LosesSome : List ℕ → List ℕ → Type 0
+LosesSome old new = (taken : ℕ) × (taken ≤ suc most_input) × (new ≡ drop taken old)
+
 -- some first bytes of the input were taken, and nothing else was done; the program names `accept`
 abbrev pub LosesInput : ProgramUnit → Outside → Outside → (shown : List ℕ) → Lent → Type 0
-LosesInput unit before after shown kernel = (names_accept unit ≡ true) × OnlyTakes Shrinks before after shown kernel
+LosesInput unit before after shown kernel = (names_accept unit ≡ true) × OnlyTakes LosesSome before after shown kernel
 
 -- ---- the exploration
 
 -- The text was explored, and this was found. The drive and the printer are as before; of the lent kernel nothing is said.
-pub record Explored (bytes : List ℕ) (unit : ProgramUnit) (states : ℕ) (findings : Findings) (before after : Outside) : Type 0 where
+pub record Explored (bytes : List ℕ) (unit : ProgramUnit) (o : ExploreOptions) (findings : Findings) (before after : Outside) : Type 0 where
   pub input : List ℕ
   pub takes : TakesAll (names_accept unit) input before after
-  pub is : IsExplorationOf bytes input states findings
+  pub is : IsExplorationOf bytes input o.states o.turns findings
   pub blocks : SameBlocks before after
   pub printed : SamePrinted before after
 
 -- THE TEXT IS EXPLORED: the lines of what was found are shown, and then the choices of its endings are kept. The status tells what was found.
 pub record Explores (bytes : List ℕ) (unit : ProgramUnit) (o : ExploreOptions) (s : Status) (before after : Outside) (shown : List ℕ) : Type 0 where
   pub findings : Findings
-  pub explored : Explored bytes unit o.states findings before after
+  pub explored : Explored bytes unit o findings before after
   pub status_is : s ≡ status_of_summary (summary_of findings)
-  pub shown_ : shown ≡ report_text findings
+  pub shown_ : shown ≡ report_text o.record_file findings
   pub keeps : Keeps before after (records_of o.record_file findings.endings)
 
 -- so, or the input is too long
@@ -105,15 +108,15 @@ pub record LosesNext (all : List Kept) (before after : Outside) : Type 0 where
 pub record ExploredThen (Leaves : List Kept → Outside → Outside → Type 0) (bytes : List ℕ) (unit : ProgramUnit) (o : ExploreOptions)
     (before after : Outside) (shown : List ℕ) : Type 0 where
   pub findings : Findings
-  pub explored : Explored bytes unit o.states findings before after
-  pub shown_ : shown ≡ report_text findings
+  pub explored : Explored bytes unit o findings before after
+  pub shown_ : shown ≡ report_text o.record_file findings
   pub files : Leaves (records_of o.record_file findings.endings) before after
 
 -- a first part of the lines was shown
 pub record ExploredFront (bytes : List ℕ) (unit : ProgramUnit) (o : ExploreOptions) (before after : Outside) (shown : List ℕ) : Type 0 where
   pub findings : Findings
-  pub explored : Explored bytes unit o.states findings before after
-  pub front : IsFront shown (report_text findings)
+  pub explored : Explored bytes unit o findings before after
+  pub front : IsFront shown (report_text o.record_file findings)
 
 -- the input was taken as for an exploration, and nothing was shown or kept; of the lent kernel nothing is said
 pub record ExploredUnshown (unit : ProgramUnit) (before after : Outside) (shown : List ℕ) : Type 0 where

@@ -25,7 +25,7 @@ use Rattle.edi_statuses.specs.declared.status.Status.{Status}
 use Rattle.edi_statuses.specs.declared.status.Status.TheVariants as status
 use Rattle.edi_statuses.specs.Broken.{HasNotBegun}
 use Rattle.edi_statuses.specs.Commands.{IsNothing, TextSteps}
-use Rattle.edi_statuses.specs.Explored.{Explored, ExploredThen, Explores, IsTooLong, KeepsFirst, LosesNext, OnlyTakes, TakesAll, names_of_records, status_of_summary}
+use Rattle.edi_statuses.specs.Explored.{Explored, ExploredThen, Explores, IsTooLong, KeepsFirst, LosesNext, LosesSome, OnlyTakes, TakesAll, names_of_records, status_of_summary}
 use Rattle.edi_statuses.specs.Fronts.{IsFront}
 use Rattle.edi_statuses.specs.Means.{Means}
 use Rattle.edi_statuses.specs.Outside.{IsAsBefore, Kept, Lent, Outside, SameBlocks, SamePrinted, outside_with, seen, still_told, with_kept, without_names}
@@ -109,9 +109,9 @@ module _ (file : List ℕ) (o : ExploreOptions) (old new : Option Contents) (lef
       unfed_means status.InputLimit h = inr ((text, unit), begun, inr (refl, (sym asks_is ∙ h.0, only_takes IsTooLong h.1)))
       unfed_means status.InputFault h = record {
         uses = tt;
-        far = (still (λ a b. b ≡ a) old new same, ((text, unit), begun, (sym asks_is ∙ h.0, only_takes Shrinks h.1)));
+        far = (still (λ a b. b ≡ a) old new same, ((text, unit), begun, (sym asks_is ∙ h.0, only_takes LosesSome h.1)));
       }
-      unfed_means status.NoMemory h = inr ((text, unit), begun, inl (sym asks_is ∙ h.0, only_takes Shrinks h.1))
+      unfed_means status.NoMemory h = inr ((text, unit), begun, inl (sym asks_is ∙ h.0, only_takes LosesSome h.1))
       unfed_means s h = absurd h
 
     -- ---- the input was read
@@ -141,11 +141,11 @@ module _ (file : List ℕ) (o : ExploreOptions) (old new : Option Contents) (lef
 
       -- ---- the lines were shown
 
-      module _ (f : Findings) (explored_is : IsExplorationOf text bytes o.states f) where
-        explored : Explored text unit o.states f then_ after
+      module _ (f : Findings) (explored_is : IsExplorationOf text bytes o.states o.turns f) where
+        explored : Explored text unit o f then_ after
         explored = record { input = bytes; takes = takes_all; is = explored_is; blocks = same_blocks; printed = same_printed }
 
-        cut_means : (front : List ℕ) → IsFront front (report_text f) → WhereTold old new (λ a b. b ≡ a) → MeansHere status.OutputFault front
+        cut_means : (front : List ℕ) → IsFront front (report_text o.record_file f) → WhereTold old new (λ a b. b ≡ a) → MeansHere status.OutputFault front
         cut_means front h same = record {
           uses = tt;
           far = (still (λ a b. b ≡ a) old new same, ((text, unit), begun, record { findings = f; explored = explored; front = h }));
@@ -153,12 +153,12 @@ module _ (file : List ℕ) (o : ExploreOptions) (old new : Option Contents) (lef
 
         explores : (s : Status) → s ≡ status_of_summary (summary_of f)
             → WhereTold then_.files new (λ a b. b ≡ with_kept (records_of o.record_file f.endings) a)
-            → Explores text unit o s then_ after (report_text f)
+            → Explores text unit o s then_ after (report_text o.record_file f)
         explores s is keeps = record { findings = f; explored = explored; status_is = is; shown_ = refl; keeps = keeps }
 
         done_means : (m : Summary) → summary_of f ≡ m
             → WhereTold then_.files new (λ a b. b ≡ with_kept (records_of o.record_file f.endings) a)
-            → MeansHere (status_of_summary m) (report_text f)
+            → MeansHere (status_of_summary m) (report_text o.record_file f)
         done_means summary.Fine e keeps =
             inr ((text, unit), begun, inl (explores status.Ok (ap status_of_summary (sym e)) keeps))
         done_means summary.Endless e keeps =
@@ -169,11 +169,11 @@ module _ (file : List ℕ) (o : ExploreOptions) (old new : Option Contents) (lef
             inr ((text, unit), begun, inl (explores (status.Found n) (ap status_of_summary (sym e)) keeps))
 
         then_kept : (Leaves : List Kept → Outside → Outside → Type 0) → Leaves (records_of o.record_file f.endings) then_ after
-            → ExploredThen Leaves text unit o then_ after (report_text f)
+            → ExploredThen Leaves text unit o then_ after (report_text o.record_file f)
         then_kept Leaves h = record { findings = f; explored = explored; shown_ = refl; files = h }
 
         kept_means : (end : KeepEnd) → WhereTold then_.files new (KeepsInTurn end (records_of o.record_file f.endings))
-            → (is_kept end ≡ false → 0 < length (records_of o.record_file f.endings)) → MeansHere (kept_status f end) (report_text f)
+            → (is_kept end ≡ false → 0 < length (records_of o.record_file f.endings)) → MeansHere (kept_status f end) (report_text o.record_file f)
         kept_means keep.Ok h some =
             done_means (summary_of f) refl (told_so _ _ then_.files new (λ a b k. all_kept (records_of o.record_file f.endings) a b k) h)
         kept_means keep.Failed h some = record {
@@ -190,7 +190,7 @@ module _ (file : List ℕ) (o : ExploreOptions) (old new : Option Contents) (lef
           inr (inr (then_kept KeepsFirst (keeps_first (records_of o.record_file f.endings) (some refl) then_ after h))),
         )
 
-        pub ended_means : WhereTold old mid (λ a b. b ≡ a) → (s : Status) (front : List ℕ) → EndsAs o.record_file f s front (report_text f) mid new
+        pub ended_means : WhereTold old mid (λ a b. b ≡ a) → (s : Status) (front : List ℕ) → EndsAs o.record_file f s front (report_text o.record_file f) mid new
             → MeansHere s front
         ended_means unchanged s front (inl h) =
             subst (λ t. MeansHere t front) (sym h.0) (cut_means front h.1 (in_turn old mid new unchanged h.2))
@@ -213,8 +213,8 @@ fed_shrinks true bytes left rest h = told_so _ _ left rest (λ a b e. (length a,
 pub input_shrinks : (asks : Bool) (r : Result (Vec ℕ) Status) (left rest : Option (List ℕ)) → TakesInput asks r left rest → WhereTold left rest Shrinks
 input_shrinks asks (Ok bytes) left rest h = fed_shrinks asks bytes.items left rest h
 input_shrinks asks (Err status.InputLimit) left rest h = told_so _ _ left rest (λ a b e. (65537, e.1)) h.1
-input_shrinks asks (Err status.InputFault) left rest h = h.1
-input_shrinks asks (Err status.NoMemory) left rest h = h.1
+input_shrinks asks (Err status.InputFault) left rest h = told_so _ _ left rest (λ a b e. (e.0, e.2)) h.1
+input_shrinks asks (Err status.NoMemory) left rest h = told_so _ _ left rest (λ a b e. (e.0, e.2)) h.1
 input_shrinks asks (Err s) left rest h = absurd h
 
 -- ---- the end

@@ -13,14 +13,13 @@ use Rattle.edi_compile.specs.Compiled.{IsFrontOf, IsShort}
 use Rattle.edi_texts.specs.Fetched.{Tells}
 use Rattle.edi_texts.specs.Texts.{IsRefused}
 use Rattle.edi_texts.proofs.Same.{fetched_bytes_decide}
-use Rattle.edi_system.specs.Growing.{Shrinks}
 use Rattle.edi_explore_on.specs.declared.input.InputFault.{InputFault}
 use Rattle.edi_explore_on.specs.declared.input.InputFault.TheVariants as fault
 use Rattle.edi_explore_on.specs.Input.{most_input}
 use Rattle.edi_explore_on.specs.Told.{HasTakenSome, Reads}
 use Rattle.edi_statuses.specs.declared.status.Status.{Status}
 use Rattle.edi_statuses.specs.declared.status.Status.TheVariants as status
-use Rattle.edi_statuses.specs.Explored.{IsTooLong}
+use Rattle.edi_statuses.specs.Explored.{IsTooLong, LosesSome}
 use Rattle.edi_statuses.specs.Outside.{Outside}
 use Rattle.edi_statuses.specs.Steps.{Fetches, goes}
 use Rattle.edi_statuses.proofs.Told.{told_so}
@@ -67,15 +66,15 @@ program_not_fetched items o name limit s h = elim (fetch_stopped items o name li
 
 -- ---- the input
 
-shrinks_so : (old new : List ℕ) → HasTakenSome old new → Shrinks old new
-shrinks_so old new h = (length h.0, sym (drop-append_seam h.0 new) ∙ ap (drop (length h.0)) (sym h.1))
+loses_so : (old new : List ℕ) → HasTakenSome old new → LosesSome old new
+loses_so old new h = (length h.0, h.2, sym (drop-append_seam h.0 new) ∙ ap (drop (length h.0)) (sym h.1))
 
 -- it was not read
 pub input_stopped : (asks : Bool) (f : InputFault) (old new : Option (List ℕ)) → asks ≡ true → WhereTold old new (Reads (Err f))
     → TakesInput asks (Err (input_status f)) old new
 input_stopped asks fault.TooLong old new is h = (is, told_so _ _ old new (λ a b r. r) h)
-input_stopped asks fault.Failed old new is h = (is, told_so _ _ old new shrinks_so h)
-input_stopped asks fault.NoMemory old new is h = (is, told_so _ _ old new shrinks_so h)
+input_stopped asks fault.Failed old new is h = (is, told_so _ _ old new loses_so h)
+input_stopped asks fault.NoMemory old new is h = (is, told_so _ _ old new loses_so h)
 
 -- it was read, where the program asks for it
 pub input_taken : (asks : Bool) (bytes : Vec ℕ) (old new : Option (List ℕ)) → asks ≡ true → length bytes.items ≤ most_input

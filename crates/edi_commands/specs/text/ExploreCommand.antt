@@ -10,7 +10,6 @@ use Rattle.edi_scheme.specs.Laws.{parts_of}
 use Rattle.edi_compile.specs.Compiled.{IsFrontOf}
 use Rattle.edi_texts.specs.declared.kind.RefusalKind.{RefusalKind}
 use Rattle.edi_texts.specs.Texts.{IsRefused}
-use Rattle.edi_system.specs.Growing.{Shrinks}
 use Rattle.edi_explore_on.specs.declared.input.InputFault.{InputFault}
 use Rattle.edi_explore_on.specs.declared.input.InputFault.TheVariants as fault
 use Rattle.edi_explore_on.specs.Explorations.{Findings, IsExplorationOf}
@@ -22,7 +21,7 @@ use Rattle.edi_explore_on.specs.Told.{findings_of}
 use Rattle.edi_statuses.specs.declared.ended.Ended.{Ended}
 use Rattle.edi_statuses.specs.declared.status.Status.{Status}
 use Rattle.edi_statuses.specs.declared.status.Status.TheVariants as status
-use Rattle.edi_statuses.specs.Explored.{IsTooLong, TakesAll, status_of_summary}
+use Rattle.edi_statuses.specs.Explored.{IsTooLong, LosesSome, TakesAll, status_of_summary}
 use Rattle.edi_statuses.specs.Fronts.{IsFront}
 use Rattle.edi_statuses.specs.Outside.{IsSomeFile, Outside, outside_with}
 use Rattle.edi_statuses.specs.Showing.{due_behind}
@@ -66,16 +65,16 @@ input_only input = outside_with None None input None None
 abbrev pub TakesInput : (asks : Bool) → Result (Vec ℕ) Status → (old new : Option (List ℕ)) → Type 0
 TakesInput asks (Ok bytes) old new = TakesAll asks bytes.items (input_only old) (input_only new)
 TakesInput asks (Err status.InputLimit) old new = (asks ≡ true) × WhereTold old new IsTooLong
-TakesInput asks (Err status.InputFault) old new = (asks ≡ true) × WhereTold old new Shrinks
-TakesInput asks (Err status.NoMemory) old new = (asks ≡ true) × WhereTold old new Shrinks
+TakesInput asks (Err status.InputFault) old new = (asks ≡ true) × WhereTold old new LosesSome
+TakesInput asks (Err status.NoMemory) old new = (asks ≡ true) × WhereTold old new LosesSome
 TakesInput asks (Err s) old new = ⊥
 
 -- ---- what is found
 
--- it is found of the text with this input, and the lines tell it
-pub record IsExplored (text input : List ℕ) (states : ℕ) (e : Explored) : Type 0 where
-  pub is : IsExplorationOf text input states (findings_of e.report)
-  pub lines_are : e.lines.items ≡ report_text (findings_of e.report)
+-- it is found of the text with this input, and the lines tell it, where choices are kept under this name or not
+pub record IsExplored (text input : List ℕ) (states turns : ℕ) (name : Option (List ℕ)) (e : Explored) : Type 0 where
+  pub is : IsExplorationOf text input states turns (findings_of e.report)
+  pub lines_are : e.lines.items ≡ report_text name (findings_of e.report)
 
 -- ---- the end
 

@@ -13,7 +13,7 @@ input 0 left
 | also 2 do when true do x := 2 end end end
 file either
 call 19 explore either --record r
-shows standstill after 6 turns: choices 0 0 1/done after 7 turns: no choices/no execution ends otherwise; 10 states/found 1/
+shows standstill after 6 turns: choices 0 0 1 in r.1/  1.1 waits at line 4/done after 7 turns: no choices in r.2/no execution ends otherwise; 10 states/found 1/
 unchanged
 leaves left
 holds r.1 0/0/1/
@@ -64,7 +64,7 @@ files 3
 | also 2 do when true do x := 2 end end end
 file either
 call 6 explore either --record r
-shows standstill after 6 turns: choices 0 0 1/done after 7 turns: no choices/no execution ends otherwise; 10 states/file fault/
+shows standstill after 6 turns: choices 0 0 1 in r.1/  1.1 waits at line 4/done after 7 turns: no choices in r.2/no execution ends otherwise; 10 states/file fault/
 holds r.1 0/0/1/
 none r.2
 ";

@@ -62,10 +62,10 @@ new_image_is n old least most =
 -- ---- an exploration that has found nothing
 
 abbrev nothing_found : Findings
-nothing_found = record { endings = []; verdict = verdict.Unrecorded 0; states = 0 }
+nothing_found = record { endings = []; verdict = verdict.NoMemory 0; states = 0; cut = [] }
 
-finds_nothing : (bytes input : List ℕ) (unit : ProgramUnit) (states : ℕ) → IsUnit bytes unit → IsExplorationOf bytes input states nothing_found
-finds_nothing bytes input unit states is = record {
+finds_nothing : (bytes input : List ℕ) (unit : ProgramUnit) (states turns : ℕ) → IsUnit bytes unit → IsExplorationOf bytes input states turns nothing_found
+finds_nothing bytes input unit states turns is = record {
   reached = λ one h. absurd (omega (arith, h.1));
   distinct = λ i j a b h k e. absurd (none_there i a h);
   says = record {
@@ -74,6 +74,8 @@ finds_nothing bytes input unit states is = record {
     below = λ bound choices ending end turns drawn order e few. absurd (omega (arith, few));
   };
   full = tt;
+  bounded = omega arith;
+  cut = tt;
 } where
   none_there : {A : Type 0} (i : ℕ) (a : A) → slice_get [] i ≡ Some a → ⊥
   none_there i a h = absurd (let no : None ≡ Some a = h in cc)
@@ -146,11 +148,11 @@ module _ (files : Contents) (d : Devices) (kernel : KernelLeft) where
   abbrev explored_files : ExploreOptions → Contents
   explored_files o = with_kept (records_of o.record_file []) files
 
-  abbrev explored_shown : Bool → Devices
-  explored_shown accepts = record (left_of accepts) { shown = d.shown ++ report_text nothing_found }
+  abbrev explored_shown : ExploreOptions → Bool → Devices
+  explored_shown o accepts = record (left_of accepts) { shown = d.shown ++ report_text o.record_file nothing_found }
 
   takes_some : (accepts : Bool) (o : ExploreOptions) → (accepts ≡ true → length d.input ≤ most_input)
-      → TakesAll accepts (taken_of accepts) (told_outside files d) (told_outside (explored_files o) (explored_shown accepts))
+      → TakesAll accepts (taken_of accepts) (told_outside files d) (told_outside (explored_files o) (explored_shown o accepts))
   takes_some true o few = (few refl, (refl, refl))
   takes_some false o few = (refl, refl)
 
@@ -160,16 +162,16 @@ module _ (files : Contents) (d : Devices) (kernel : KernelLeft) where
     answer = status.NotAll;
     decisive = tt;
     files_after = explored_files o;
-    devices_after = explored_shown accepts;
-    shown = report_text nothing_found;
+    devices_after = explored_shown o accepts;
+    shown = report_text o.record_file nothing_found;
     left = kernel;
     comes = inl (record {
       findings = nothing_found;
       explored = record {
         input = taken_of accepts;
-        takes = subst (λ b. TakesAll b (taken_of accepts) (told_outside files d) (told_outside (explored_files o) (explored_shown accepts))) (sym named)
+        takes = subst (λ b. TakesAll b (taken_of accepts) (told_outside files d) (told_outside (explored_files o) (explored_shown o accepts))) (sym named)
             (takes_some accepts o few);
-        is = finds_nothing bytes (taken_of accepts) unit o.states is;
+        is = finds_nothing bytes (taken_of accepts) unit o.states o.turns is;
         blocks = same_blocks accepts;
         printed = same_printed accepts;
       };

@@ -60,8 +60,9 @@ pub fn explore_file<F: Files, S: Source, T: Sink>(
         states: options.states,
         turns: u64::from(options.turns),
     };
-    match explore_program(alloc, kernel, &program, &given, limits) {
-        Ok(explored) => end_exploration(alloc, files, terminal, options.record_file, &explored),
+    let record_file = options.record_file;
+    match explore_program(alloc, kernel, &program, &given, limits, record_file) {
+        Ok(explored) => end_exploration(alloc, files, terminal, record_file, &explored),
         Err(_) => stopped(Status::NoMemory),
     }
 }

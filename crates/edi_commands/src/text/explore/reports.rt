@@ -1,6 +1,6 @@
 //! What is found of a program, and the lines that tell it.
 
-ghost use Rattle.std.specs.Prelude.{List, ℕ, IfOk};
+ghost use Rattle.std.specs.Prelude.{List, ℕ, IfOk, option_map};
 ghost use Rattle.edi_unit.specs.Tree.{ProgramUnit};
 ghost use Rattle.edi_commands.specs.text.ExploreCommand.{IsExplorable, IsExplored};
 
@@ -17,18 +17,19 @@ pub(crate) struct Explored {
     pub(crate) lines: Vec<u8>,
 }
 
-/// What is found of a program with this input. The only error is want of memory.
+/// What is found of a program with this input, and its lines, where choices are kept under this name or not. The only error is want of memory.
 pub(crate) fn explore_program(
     alloc: Global,
     kernel: &mut Kernel,
     program: &Explorable,
     input: &[u8],
     limits: Limits,
+    record_file: Option<&str>,
 ) -> Result<Explored, AllocError>
     ensures finds { (text : List ℕ) (unit : ProgramUnit) → IsExplorable text unit program.now →
-        IfOk result (λ e. IsExplored text input.now limits.states e) }
+        IfOk result (λ e. IsExplored text input.now limits.states limits.turns (option_map (λ name. name.now) record_file.entry) e) }
 {
     let report = explore_text(alloc, kernel, &program.code, input, limits)?;
-    let lines = report_text(alloc, &report)?;
+    let lines = report_text(alloc, &report, record_file)?;
     Ok(Explored { report, lines })
 }

@@ -3,21 +3,20 @@ use Rattle.std.proofs.Common.{◌≡◌, ap, refl, sym, ◌∙◌, subst, arith}
 use Rattle.edi_calls.specs.Choice.{listed}
 use Rattle.edi_calls.specs.State.{State}
 use Rattle.edi_trace.specs.Drawn.{Drawn}
-use Rattle.edi_explore.specs.Found.{most_turns}
+use Rattle.edi_explore.specs.Found.{AreChoices}
 use Rattle.edi_explore.specs.Systems.{system_of}
 use Rattle.edi_explore.proofs.Findings.{SelectedBy, ran}
 use Rattle.edi_explore.proofs.record.run.Goals as goal
 
-pub returns : goal.returns
-returns c = record {
-  exact = λ unit coded is. record {
-    choices_are = refl;
-    came = λ end same.
-        let none : c.in_ok-source.source.drawn ≡ 0 = ap (λ (d : Drawn). d.drawn) c.in_ok-source.ensures in
-        let list : c.in_ok-source.source.source ≡ listed c.args.choices.items = ap (λ (d : Drawn). d.source) c.in_ok-source.ensures ∙ ap listed c.deref.ensures.value in
-        let s = subst (λ (s : State). SelectedBy unit s most_turns c.args.choices.items end c.run-ending.new.self.used) c.in_ok-calls.ensures.system
-        (ran unit coded c.args.code.now is (system_of c.in_ok-calls.calls) most_turns c.args.choices.items c.in_ok-source.source c.run-ending.new.choices
-        none list c.run-ending.result _ _ (system_of c.run-ending.new.calls) (c.run-ending.ensures.exact (omega (arith, none))) end same) in
-        record { outcome = s.0; selects = s.1; ends = s.2; turns = s.3 ∙ sym c.turns_used.ensures };
-  };
+pub returns-clause-exact : goal.returns-clause-exact
+returns-clause-exact c = λ unit coded is. record {
+  choices_are = refl;
+  small = subst AreChoices c.deref.ensures.value c.are_choices.ensures;
+  came = λ end same.
+      let none : c.in_ok-source.source.drawn ≡ 0 = ap (λ (d : Drawn). d.drawn) c.in_ok-source.ensures in
+      let list : c.in_ok-source.source.source ≡ listed c.args.choices.items = ap (λ (d : Drawn). d.source) c.in_ok-source.ensures ∙ ap listed c.deref-2.ensures.value in
+      let s = subst (λ (s : State). SelectedBy unit s c.args.turns c.args.choices.items end c.run-ending.new.self.used) c.in_ok-calls.ensures.system
+      (ran unit coded c.args.code.now is (system_of c.in_ok-calls.calls) c.args.turns c.args.choices.items c.in_ok-source.source c.run-ending.new.choices
+      none list c.run-ending.result _ _ (system_of c.run-ending.new.calls) (c.run-ending.ensures.exact (omega (arith, none))) end same) in
+      record { outcome = s.0; selects = s.1; ends = s.2; turns = s.3 ∙ sym c.turns_used.ensures };
 }

@@ -3,7 +3,7 @@ use Rattle.edi_explore_on.proofs.Reading.{none_more, one_lost, one_more, read_to
 use Rattle.edi_explore_on.proofs.input.read_input.Goals as goal
 
 pub returns-then-is_err-clause-reads : goal.returns-then-is_err-clause-reads
-returns-then-is_err-clause-reads g c = one_lost _ _ _ c.loop-count.bytes.items c.loop-count.invariant.told c.in-Byte.byte c.in-Byte.ensures.takes
+returns-then-is_err-clause-reads g c = one_lost _ _ _ c.loop-count.bytes.items (omega (arith, c.loop-count.invariant.count, c.loop-count-test.true)) c.loop-count.invariant.told c.in-Byte.byte c.in-Byte.ensures.takes
 
 pub returns-then-is_err-clause-later : goal.returns-then-is_err-clause-later
 returns-then-is_err-clause-later g c = omega (arith, c.loop-count.invariant.later, c.next.ensures.later)
@@ -20,7 +20,8 @@ pub returns-in-End-clause-later : goal.returns-in-End-clause-later
 returns-in-End-clause-later g c = omega (arith, c.loop-count.invariant.later, c.next.ensures.later)
 
 pub returns-in-Failed-clause-reads : goal.returns-in-Failed-clause-reads
-returns-in-Failed-clause-reads g c = none_more _ _ _ c.loop-count.bytes.items c.loop-count.invariant.told c.in-Failed.ensures.takes
+returns-in-Failed-clause-reads g c = none_more _ _ _ c.loop-count.bytes.items (omega (arith, c.loop-count.invariant.count, c.loop-count-test.true))
+    c.loop-count.invariant.told c.in-Failed.ensures.takes
 
 pub returns-in-Failed-clause-later : goal.returns-in-Failed-clause-later
 returns-in-Failed-clause-later g c = omega (arith, c.loop-count.invariant.later, c.next.ensures.later)
@@ -30,7 +31,8 @@ returns-in-Failed-clause-cause g c = λ e. rose_since _ _ _ c.loop-count.invaria
 
 pub loop-count-preserved : goal.loop-count-preserved
 loop-count-preserved g c = record {
-  told = one_more _ _ _ c.loop-count.bytes.items c.loop-count.invariant.told c.push.new.self.items c.in-Byte.byte (search rules) c.in-Byte.ensures.takes;
+  told = one_more _ _ _ c.loop-count.bytes.items (omega (arith, c.loop-count.invariant.count, c.loop-count-test.true))
+      c.loop-count.invariant.told c.push.new.self.items c.in-Byte.byte (search rules) c.in-Byte.ensures.takes;
   count = search rules;
   most = omega (arith, c.loop-count-test.true);
   later = omega (arith, c.loop-count.invariant.later, c.next.ensures.later);

@@ -1,3 +1,6 @@
+use Rattle.std.proofs.Common.{suc, ◌+◌, ◌≤◌, subst, arith}
+use Rattle.edi_target.specs.Check.{CodeParts}
+use Rattle.edi_explore.specs.Found.{AllTellWaits}
 use Rattle.edi_explore_on.proofs.Explored.{exploration, unit_code}
 use Rattle.edi_explore_on.proofs.text.explore_text.Goals as goal
 
@@ -5,8 +8,11 @@ pub returns : goal.returns
 returns c = record {
   explored = λ text unit front same.
       let e = c.in_ok-report.ensures in
+      let r = c.in_ok-report.report in
       let is = unit_code unit c.args.code.now same in
-      exploration text unit front.unit_is c.args.input.now c.args.limits.states c.in_ok-report.report.verdict c.in_ok-report.report.states
-      c.in_ok-report.report.found.items (e.recorded unit front.can is) (e.good unit front.can is) e.distinct (e.all unit front.can is)
-      (e.below unit front.can is) e.full;
+      let few : r.states ≤ suc c.args.limits.states = omega (arith, e.few) in
+      exploration text unit front.unit_is c.args.input.now c.args.limits.states c.args.limits.turns r.verdict r.states r.found.items r.cut.items
+      (e.recorded unit front.can is) (e.good unit front.can is)
+      (subst (λ (code : CodeParts). AllTellWaits code c.args.input.now r.found.items) same e.waits) e.distinct (e.all unit front.can is)
+      (e.below unit front.can is) e.full few (e.cause unit front.can is);
 }

@@ -13,7 +13,7 @@ use Rattle.edi_explore.proofs.finding.Search.begin.Goals as goal
 
 pub returns-in-Led-clause-begins : goal.returns-in-Led-clause-begins
 returns-in-Led-clause-begins c =
-    let b : Search = record { states = c.settle.new.states; calls = c.stint-end.new.calls; found = c.args.self.now.found } in
+    let b : Search = record { states = c.settle.new.states; calls = c.stint-end.new.calls; found = c.args.self.now.found; cut = c.args.self.now.cut } in
     let same = ap (λ x. x.items) (sym (c.stint-end.ensures.leads c.args.self.now.calls refl)) ∙ c.requires.new.input_is in
     began_led c.args.code.now c.args.input.now c.args.limits.turns c.args.self.now b c.start.new.self c.stint-end.new.self c.stint-end.result c.stint-end.new.calls
     c.start.ensures.exact c.stint-end.ensures.exact c.stint-end.ensures.entry c.stint-end.ensures.kernel c.word-whole.ensures.whole.long
@@ -23,7 +23,7 @@ returns-in-Led-clause-begins c =
 
 pub returns-in-Failed-clause-begins : goal.returns-in-Failed-clause-begins
 returns-in-Failed-clause-begins c =
-    let b : Search = record { states = c.settle.new.states; calls = c.stint-end.new.calls; found = c.args.self.now.found } in
+    let b : Search = record { states = c.settle.new.states; calls = c.stint-end.new.calls; found = c.args.self.now.found; cut = c.args.self.now.cut } in
     let same = ap (λ x. x.items) (sym (c.stint-end.ensures.leads c.args.self.now.calls refl)) ∙ c.requires.new.input_is in
     began_failed c.args.code.now c.args.input.now c.args.limits.turns c.args.self.now b c.start.new.self c.stint-end.new.self c.stint-end.result c.stint-end.new.calls
     c.start.ensures.exact c.stint-end.ensures.exact c.stint-end.ensures.entry c.stint-end.ensures.kernel c.word-whole.ensures.whole.long
@@ -33,7 +33,7 @@ returns-in-Failed-clause-begins c =
 
 pub returns-in-Cut-clause-begins : goal.returns-in-Cut-clause-begins
 returns-in-Cut-clause-begins c =
-    let b : Search = record { states = c.settle.new.states; calls = c.stint-end.new.calls; found = c.args.self.now.found } in
+    let b : Search = record { states = c.settle.new.states; calls = c.stint-end.new.calls; found = c.args.self.now.found; cut = c.args.self.now.cut } in
     let same = ap (λ x. x.items) (sym (c.stint-end.ensures.leads c.args.self.now.calls refl)) ∙ c.requires.new.input_is in
     began_cut c.args.code.now c.args.input.now c.args.limits.turns c.args.self.now b c.start.new.self c.stint-end.new.self c.stint-end.result c.stint-end.new.calls
     c.start.ensures.exact c.stint-end.ensures.exact c.stint-end.ensures.entry c.stint-end.ensures.kernel c.word-whole.ensures.whole.long

@@ -33,6 +33,7 @@ loop-index-preserved c =
           c.loop-index.invariant.finds c.stint.ensures.finds;
       further = further_on c.args.code.now c.args.input.now c.args.limits.turns c.args.self.now c.loop-index.self c.stint.new.self
           c.loop-index.invariant.further follows.further;
+      few = c.stint.ensures.few;
       so = λ whole apart.
           subst (λ (b : Bool). HasStintsTo c.args.code.now c.args.input.now c.args.limits.turns c.stint.new.self (c.loop-index.index + 1) c.args.state b)
           (sym c.fails_after-stands.ensures)

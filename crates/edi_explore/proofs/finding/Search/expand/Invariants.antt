@@ -1,4 +1,4 @@
-use Rattle.std.proofs.Common.{◌≡◌}
+use Rattle.std.proofs.Common.{◌≡◌, ◌≤◌, length}
 use Rattle.edi_explore.specs.declared.expand.Expanded.TheVariants as expanded
 use Rattle.edi_explore.specs.Expand.{Apart, GoesFurther, HasStintsTo}
 use Rattle.edi_explore.specs.Finding.{Finds}
@@ -9,5 +9,6 @@ abbrev pub invariant-loop-index : goal.invariant-loop-index
 invariant-loop-index l = record {
   finds : Finds l.code l.input l.fn.self.found.items l.self.found.items;
   further : GoesFurther l.code l.input l.limits.turns l.fn.self l.self;
+  few : length l.self.states.keys.keys ≤ l.limits.states;
   so : l.expanded ≡ expanded.Whole → Apart l.code l.input l.limits.turns l.self l.state → HasStintsTo l.code l.input l.limits.turns l.self l.index l.state l.stands;
 }

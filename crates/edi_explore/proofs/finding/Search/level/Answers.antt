@@ -9,6 +9,7 @@ pub loop-state-init : goal.loop-state-init
 loop-state-init c = record {
   finds = finds_none c.args.code.now c.args.input.now c.args.self.now.found.items;
   further = further_same c.args.code.now c.args.input.now c.args.limits.turns c.args.self.now c.requires.search;
+  few = c.requires.few;
   so = λ e v low high. absurd (omega (arith, low, high));
 }
 
@@ -32,6 +33,7 @@ loop-state-preserved c =
     record {
       finds = finds_on code input c.args.self.now.found.items a.found.items b.found.items c.loop-state.invariant.finds c.in_ok-expand.ensures.finds;
       further = further_on code input turns c.args.self.now a b c.loop-state.invariant.further came.further;
+      few = c.expand.ensures.few;
       so = λ whole v low high.
           level_more code input turns c.args.self.now a b c.args.from c.loop-state.state c.loop-state.expanded c.in_ok-expand.field-0
           c.loop-state.invariant.further (omega (arith, c.loop-state-test.true, c.len-state-end.ensures)) c.requires.search c.loop-state.invariant.so

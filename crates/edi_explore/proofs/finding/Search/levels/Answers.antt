@@ -13,6 +13,7 @@ loop-depth-init c = record {
   finds = finds_none c.args.code.now c.args.input.now c.args.self.now.found.items;
   search = c.requires.search;
   so = no_levels c.args.code.now c.args.input.now c.args.limits.turns c.args.self.now c.requires.begun;
+  few = c.requires.few;
   deep = omega arith;
   within = omega arith;
 }
@@ -44,6 +45,7 @@ loop-depth-preserved c =
       finds = finds_on code input c.args.self.now.found.items a.found.items b.found.items c.loop-depth.invariant.finds c.in-Ok.ensures.finds;
       search = came.further.search;
       so = subst (λ x. x) (λ i. IsSoFar code input turns (told i) b (next i) (sym c.len-to.ensures i)) so;
+      few = c.level.ensures.few;
       deep = omega (arith, c.loop-depth.invariant.deep, c.loop-depth.invariant.within, c.if-from-to.false, c.len-to.ensures);
       within = omega (arith, c.len-to.ensures, longer a.states b.states input c.loop-depth.invariant.search.states came.further.grows);
     }

@@ -10,6 +10,7 @@ invariant-loop-depth l = record {
   finds : Finds l.code l.input l.fn.self.found.items l.self.found.items;
   search : IsSearch l.code l.input l.limits.turns l.self;
   so : IsSoFar l.code l.input l.limits.turns l.verdict l.self l.depth l.from;
+  few : length l.self.states.keys.keys ≤ l.limits.states;
   deep : l.depth ≤ l.from;
   within : l.from ≤ length l.self.states.keys.keys;
 }

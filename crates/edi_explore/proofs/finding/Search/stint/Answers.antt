@@ -1,5 +1,6 @@
 -- How the stint was followed, and what came of it.
 use Rattle.std.proofs.Common.{false, sym, ap, subst, ◌∙◌}
+use Rattle.edi_explore.specs.declared.expand.Expanded.TheVariants as expanded
 use Rattle.edi_explore.specs.declared.finding.Search.{Search}
 use Rattle.edi_explore.specs.declared.step.Followed.{Followed}
 use Rattle.edi_explore.specs.declared.states.States.{States}
@@ -11,7 +12,7 @@ use Rattle.edi_explore.proofs.finding.Search.stint.Goals as goal
 pub returns-in-Led-clause-follows : goal.returns-in-Led-clause-follows
 returns-in-Led-clause-follows c =
     let a : Search = c.args.self.now in
-    let b : Search = record { states = c.follow.new.states; calls = c.follow.new.calls; found = c.args.self.now.found } in
+    let b : Search = record { states = c.follow.new.states; calls = c.follow.new.calls; found = c.args.self.now.found; cut = c.args.self.now.cut } in
     let same = ap (λ x. x.items) c.in_ok-followed.ensures.input ∙ c.requires.search.input_is in
     came_led c.args.code.now c.args.input.now c.args.limits.turns a b c.args.origin.state c.args.origin.index c.follow.new.kernel c.follow.new.calls
     c.requires.search c.requires.state same same
@@ -21,24 +22,27 @@ returns-in-Led-clause-follows c =
 pub returns-in-Failed-clause-follows : goal.returns-in-Failed-clause-follows
 returns-in-Failed-clause-follows c =
     let a : Search = c.args.self.now in
-    let b : Search = record { states = c.follow.new.states; calls = c.follow.new.calls; found = c.args.self.now.found } in
+    let b : Search = record { states = c.follow.new.states; calls = c.follow.new.calls; found = c.args.self.now.found; cut = c.args.self.now.cut } in
     let same = ap (λ x. x.items) c.in_ok-followed.ensures.input ∙ c.requires.search.input_is in
     came_failed c.args.code.now c.args.input.now c.args.limits.turns a b c.args.origin.state c.args.origin.index c.follow.new.kernel c.follow.new.calls
     c.requires.search c.requires.state same same
     (subst (λ (r : Followed). FollowsStint c.args.code.now c.args.limits.turns c.args.origin.state c.args.origin.index r a.states c.follow.new.states
     c.follow.new.kernel c.follow.new.calls) c.in-Failed.is c.in_ok-followed.ensures.follows)
 
-pub returns-in-Cut-clause-follows : goal.returns-in-Cut-clause-follows
-returns-in-Cut-clause-follows c =
+pub returns-in_ok-note_cut-in-Cut-clause-follows : goal.returns-in_ok-note_cut-in-Cut-clause-follows
+returns-in_ok-note_cut-in-Cut-clause-follows c =
     let a : Search = c.args.self.now in
-    let b : Search = record { states = c.follow.new.states; calls = c.follow.new.calls; found = c.args.self.now.found } in
+    let b : Search = record { states = c.follow.new.states; calls = c.follow.new.calls; found = c.args.self.now.found; cut = c.note_cut.new.self.cut } in
     let same = ap (λ x. x.items) c.in_ok-followed.ensures.input ∙ c.requires.search.input_is in
-    came_cut c.args.code.now c.args.input.now c.args.limits.turns a b c.args.origin.state c.args.origin.index c.follow.new.kernel c.follow.new.calls
+    subst (λ (s : Search). ComesTo c.args.code.now c.args.input.now c.args.limits.turns a s expanded.Cut
+    (Apart c.args.code.now c.args.input.now c.args.limits.turns s c.args.origin.state →
+    HasStintThat c.args.code.now c.args.input.now c.args.limits.turns s false c.args.origin.state c.args.origin.index)) (sym c.note_cut.ensures.rest)
+    (came_cut c.args.code.now c.args.input.now c.args.limits.turns a b c.args.origin.state c.args.origin.index c.follow.new.kernel c.follow.new.calls
     c.requires.search c.requires.state same same
     (subst (λ (r : Followed). FollowsStint c.args.code.now c.args.limits.turns c.args.origin.state c.args.origin.index r a.states c.follow.new.states
     c.follow.new.kernel c.follow.new.calls) c.in-Cut.is c.in_ok-followed.ensures.follows)
     (Apart c.args.code.now c.args.input.now c.args.limits.turns b c.args.origin.state →
-    HasStintThat c.args.code.now c.args.input.now c.args.limits.turns b false c.args.origin.state c.args.origin.index)
+    HasStintThat c.args.code.now c.args.input.now c.args.limits.turns b false c.args.origin.state c.args.origin.index))
 
 pub returns-in_ok-told-in-Ended-clause-follows : goal.returns-in_ok-told-in-Ended-clause-follows
 returns-in_ok-told-in-Ended-clause-follows c =
