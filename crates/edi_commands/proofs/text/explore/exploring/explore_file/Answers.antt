@@ -1,8 +1,9 @@
 -- The exits of `explore`.
-use Rattle.std.proofs.Common.{refl, sym, ◌∙◌}
+use Rattle.std.proofs.Common.{ℕ, refl, sym, subst, ◌∙◌}
 use Rattle.std.proofs.lemmas.Bool.{false≢true}
 use Rattle.edi_words.specs.View.{exploring_of}
 use Rattle.edi_statuses.specs.Outside.{lent}
+use Rattle.edi_commands.specs.text.ExploreCommand.{IsExplored}
 use Rattle.edi_commands.proofs.text.ExploreCame.{came_ended, came_unfed, came_unread, came_unshown}
 use Rattle.edi_commands.proofs.text.explore.exploring.explore_file.Goals as goal
 
@@ -31,7 +32,9 @@ returns-in-Ok-explore_program-clause-came g c =
     c.in-Ok.ensures.only.unchanged c.in-Ok.program gives (g.S.Source.left c.args.input.now) (g.S.Source.left c.input_of.new.input)
     (g.T.Sink.taken c.args.terminal.now) (lent k.store k.used l.store l.used) c.in-Ok-input_of.given c.in-Ok-input_of.ensures.takes
     c.deref.result.now c.deref.ensures.value c.in-Ok-explore_program.explored
-    (c.in-Ok-explore_program.ensures.finds gives.0 gives.2.0 gives.2.1) (g.F.Files.contents c.end_exploration.new.files)
+    (subst (λ (n : ℕ). IsExplored gives.0 c.deref.result.now (exploring_of c.args.options).states n (exploring_of c.args.options).record_file
+    c.in-Ok-explore_program.explored) c.from.ensures (c.in-Ok-explore_program.ensures.finds gives.0 gives.2.0 gives.2.1))
+    (g.F.Files.contents c.end_exploration.new.files)
     (g.T.Sink.taken c.end_exploration.new.terminal) c.end_exploration.result c.end_exploration.ensures.ends
 
 pub returns-clause-came : goal.returns-clause-came
