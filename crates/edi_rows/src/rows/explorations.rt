@@ -52,7 +52,7 @@ none r.1
 
 terminal 0 35
 call 9 explore asks --record r
-shows done after 2 turns: no choices/no e
+shows done after 2 turns: no choices in r
 none r.1
 
 terminal 0 200
