@@ -5,7 +5,7 @@ ghost use Rattle.edi_told.specs.Told.{WhereTold};
 ghost use Rattle.edi_calls.specs.declared.ends.Outside.{Outside};
 ghost use Rattle.edi_calls.specs.State.{State};
 ghost use Rattle.edi_calls.specs.Calls.{argument_words, answer_words, call};
-ghost use Rattle.edi_calls.specs.Ends.{Meets, Blames, MayEnd, is_refused};
+ghost use Rattle.edi_calls.specs.Ends.{Meets, Blames, IsUsed, MayEnd, is_refused};
 
 use crate::call_number;
 use crate::ends::CallEnd;
@@ -75,6 +75,8 @@ pub trait Calls {
         ensures untouched { is_refused result ≡ true → answer.new ≡ answer.old }
         ensures later { (outside : Outside) → faults self.old outside ≤ faults self.new outside }
         ensures blame { Blames result (failed self.new) (faults self.old) (faults self.new) }
+        // Only an object fails that the call uses.
+        ensures used { IsUsed number (failed self.new) }
         ensures references { references self.new ≡ references self.old }
         ensures leads { (start : Self) → leads start self.old → leads start self.new };
 

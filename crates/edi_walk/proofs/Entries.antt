@@ -3,14 +3,16 @@ use Rattle.std.proofs.Common.{◌≡◌, ℕ, zero, suc, ◌+◌, ◌<◌, Bool,
 use Rattle.std.proofs.Common.{◌++◌, get_or, arith}
 use Rattle.std.specs.Prelude.{IfOk, Result, Ok, Err, map, slice_get, slice_set, slice_index_or, unwrap_or, ◌&&◌, nat_eq}
 use Rattle.std.specs.Cmp.Lexicographic.{pointwise}
+use Rattle.std.proofs.lemmas.List.{map-append}
 use Rattle.edi_unit.proofs.Limits.{drop_item}
 use Rattle.edi_unit.specs.Values.{Value}
 use Rattle.edi_calls.specs.Names.{Name, Table, same, find, with_at, without}
 use Rattle.edi_meaning.specs.Parts.{with_part}
-use Rattle.edi_meaning.specs.Store.{value, value_in, no_cell, cells_in, with_cell_in, Location, Instance, Store, instances, frames, no_frame, frame_at, Shape, Spot, reached}
+use Rattle.edi_meaning.specs.Store.{value, value_in, no_cell, cells_in, with_cell_in, Location, Instance, Store, instances, frames, used, grown, no_frame, frame_at, Shape, Spot, reached}
 use Rattle.edi_walk.specs.declared.data.Held as code_cell
 use Rattle.edi_walk.specs.declared.memory.Activation as code_activation
-use Rattle.edi_walk.specs.declared.memory.Entry as code_entry
+use Rattle.edi_walk.specs.declared.entry.Entry as code_entry
+use Rattle.edi_walk.specs.Counted.{words_needed}
 use Rattle.edi_walk.specs.Data.{cell_of}
 use Rattle.edi_walk.specs.Memory.{instance_of, entry_of, StandsAt, cells_put, instances_put}
 
@@ -93,11 +95,10 @@ put_new (entry ∷ t) name a e = go (same name entry.0) e (put_new t name a)
     go true f more = absurd (cc)
     go false f more = ap (λ r. entry ∷ r) (more f)
 
-pub begun_new : {T : Type 0} (result : Result (Unit {0}) T) (old new : Store) (name : Name) (is : List code_activation.Activation) (i : code_activation.Activation) →
-    is ≡ i ∷ [] → find old name ≡ None → IfOk result (λ _. new ≡ old ++ (name, map instance_of is) ∷ []) →
-    IfOk result (λ _. new ≡ with_at old name (instance_of i ∷ []))
-begun_new (Ok x) old new name is i e none h = h ∙ ap (λ l. old ++ (name, map instance_of l) ∷ []) e ∙ sym (put_new old name (instance_of i ∷ []) none)
-begun_new (Err x) old new name is i e none h = tt
+pub begun_new : {T : Type 0} (result : Result (Unit {0}) T) (old new : Store) (name : Name) (i : code_activation.Activation) → find old name ≡ None →
+    IfOk result (λ _. new ≡ old ++ (name, instance_of i ∷ []) ∷ []) → IfOk result (λ _. new ≡ with_at old name (instance_of i ∷ []))
+begun_new (Ok x) old new name i none h = h ∙ sym (put_new old name (instance_of i ∷ []) none)
+begun_new (Err x) old new name i none h = tt
 
 -- the entry with other instances
 pub stands_with : (name : Name) (i : ℕ) (es : List code_entry.Entry) (e f : code_entry.Entry) → StandsAt name i es → e ≡ get_or es i e →
@@ -111,6 +112,23 @@ stands_with name (suc i) (x ∷ es) e f s is n =
     ap (λ t. entry_of x ∷ t) (stands_with name i es e f s.1 is n)
     ∙ sym (ap (λ b. if b then (x.name.items, map instance_of f.instances.items) ∷ map entry_of es else
     entry_of x ∷ with_at (map entry_of es) name (map instance_of f.instances.items)) s.0)
+
+-- the entry with this instance alone, or with this one more
+pub begun_entry : {T : Type 0} (name : Name) (i : ℕ) (es : List code_entry.Entry) (e f : code_entry.Entry) (a : code_activation.Activation)
+    (result : Result (Unit {0}) T) → StandsAt name i es → e ≡ get_or es i e → f.name ≡ e.name → IfOk result (λ _. f.instances.items ≡ a ∷ []) →
+    IfOk result (λ _. map entry_of (slice_set es i f) ≡ with_at (map entry_of es) name (instance_of a ∷ []))
+begun_entry name i es e f a (Ok x) s is n h = stands_with name i es e f s is n ∙ ap (λ l. with_at (map entry_of es) name (map instance_of l)) h
+begun_entry name i es e f a (Err x) s is n h = tt
+
+pub grown_entry : {T : Type 0} (name : Name) (i : ℕ) (es : List code_entry.Entry) (e f : code_entry.Entry) (a : code_activation.Activation)
+    (result : Result (Unit {0}) T) → StandsAt name i es → e ≡ get_or es i e → f.name ≡ e.name →
+    IfOk result (λ _. f.instances.items ≡ e.instances.items ++ a ∷ []) →
+    IfOk result (λ _. map entry_of (slice_set es i f) ≡ grown name (instance_of a) (map entry_of es))
+grown_entry name i es e f a (Ok x) s is n h =
+    stands_with name i es e f s is n
+    ∙ ap (with_at (map entry_of es) name)
+    (ap (map instance_of) h ∙ map-append instance_of e.instances.items (a ∷ []) ∙ ap (λ l. l ++ instance_of a ∷ []) (sym (stands_found name i es e s is)))
+grown_entry name i es e f a (Err x) s is n h = tt
 
 -- ---- variables of an instance
 
@@ -181,3 +199,19 @@ instance_put is d old new l v at within there b n p c =
         ap (λ f. record { frame = f; cells = map cell_of new.cells.items } ∷ map instance_of is) frame
         ∙ ap (λ k. record { frame = (instance_of x).frame; cells = k } ∷ map instance_of is) cells
     go (x ∷ is) (suc d) within there = ap (λ t. instance_of x ∷ t) (go is d (omega (arith, within)) there)
+
+-- ---- the words that instances need
+
+pub words_seen : (is : List code_activation.Activation) → used (frames (map instance_of is)) ≡ words_needed is
+words_seen [] = refl
+words_seen (i ∷ is) = ap (λ n. i.need + n) (words_seen is)
+
+pub words_append : (is : List code_activation.Activation) (i : code_activation.Activation) → words_needed (is ++ i ∷ []) ≡ words_needed is + i.need
+words_append [] i = omega arith
+words_append (x ∷ is) i = omega (arith, words_append is i)
+
+pub words_set : (is : List code_activation.Activation) (d : ℕ) (old new : code_activation.Activation) → d < length is → old ≡ get_or is d old →
+    new.need ≡ old.need → words_needed (slice_set is d new) ≡ words_needed is
+words_set [] d old new within there same = absurd (omega (arith, within))
+words_set (x ∷ is) zero old new within there same = ap (λ n. n + words_needed is) (same ∙ ap (λ (a : code_activation.Activation). a.need) there)
+words_set (x ∷ is) (suc d) old new within there same = ap (λ n. x.need + n) (words_set is d old new (omega (arith, within)) there same)

@@ -1,4 +1,5 @@
 mod Arms
+mod AtOnce
 mod Bare
 mod Births
 mod Blocks
@@ -24,6 +25,7 @@ mod PartsOf
 pub mod Permits
 mod Pieces
 mod Reaching
+mod ReadParts
 mod SameParts
 mod Stopping
 mod Taking

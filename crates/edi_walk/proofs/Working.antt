@@ -133,7 +133,7 @@ pub fork_so : (old : code.Evaluation) (s : State) (bs : Bor (List ℕ)) (line : 
 fork_so old s bs line left position work b =
     makes_here (AsksSo left) old old (gives (forks bs.now line work)) s (asks.Forks bs line) (forks bs.now line work) (refl, refl, b) (λ system. refl)
 
-abbrev Nothing : Unit {0} → Unit {0} → Type 0
+abbrev pub Nothing : Unit {0} → Unit {0} → Type 0
 Nothing a b = ⊤
 
 module _ (old new : code.Evaluation) (s t : State) (v : Place) (e : Expression) where

@@ -2,10 +2,12 @@ pub mod Walk
 pub mod Laws
 pub mod Ends
 pub mod Frames
+pub mod Counted
 pub mod Data
 pub mod Memory
 pub mod Machine
 pub mod Runs
+pub mod Reads
 pub mod Steps
 pub mod Processes
 pub mod Walkers

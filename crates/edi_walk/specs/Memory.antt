@@ -5,7 +5,7 @@ use Rattle.edi_unit.specs.Values.{Value}
 use Rattle.edi_meaning.specs.Store.{Cell, value, no_cell, value_in, cells_in, with_cell_in, Location, Instance, Store}
 use Rattle.edi_meaning.specs.Parts.{with_part}
 use Rattle.edi_walk.specs.declared.memory.Activation as code_activation
-use Rattle.edi_walk.specs.declared.memory.Entry as code_entry
+use Rattle.edi_walk.specs.declared.entry.Entry as code_entry
 use Rattle.edi_walk.specs.declared.memory.Memory as code_memory
 use Rattle.edi_walk.specs.Data.{cell_of, spot_of}
 

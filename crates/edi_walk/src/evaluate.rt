@@ -94,7 +94,7 @@ fn slot_at(
 }
 
 /// The number of the field's type.
-fn field_type(unit: &Unit, of: u32, field: u32) -> u32
+pub fn field_type(unit: &Unit, of: u32, field: u32) -> u32
     ensures exact { result ≡ unwrap_or (types.field_type (unit_of unit.now).types of field) 0 }
 {
     if of >= unit.types.len() {
@@ -224,7 +224,7 @@ impl<'u> Evaluation<'u> {
     }
 
     /// The variable of a slot, with its type.
-    fn named(&self, levels: u32, variable: u32) -> Result<Target, Stop>
+    pub fn named(&self, levels: u32, variable: u32) -> Result<Target, Stop>
         ensures exact { IfOk result (λ t. designated_of t
             ≡ whole.named (unit_of self.now.unit.now) self.now.name.items self.now.size levels variable (store_of self.now.memory)) }
         ensures err { OnErr result (result ≡ Err stop.NoMemory) }

@@ -14,9 +14,11 @@ ghost use Rattle.edi_walk.specs.Works.{Tried, WhollyBoth};
 
 use crate::evaluation::Evaluation;
 use crate::frames::{Frame, Given};
-use crate::operators::is_true;
+use crate::hurdle::Hurdle;
+use crate::operators::{is_one, is_true};
+use crate::reading::{DEPTH, read};
 use crate::stop::Stop;
-use edi_calls::Calls;
+use edi_calls::{Calls, Cause};
 use edi_unit::{Act, Clause, Value};
 
 impl<'u> Evaluation<'u> {
@@ -51,6 +53,25 @@ impl<'u> Evaluation<'u> {
 
     /// Whether a condition is true.
     fn holds<C: Calls>(&mut self, calls: &mut C, e: &'u Value) -> Result<bool, Stop>
+        requires free { self.old.frames.items ≡ [] }
+        requires working { C.failed calls.old None }
+        ensures exact { WhereTold (C.state calls.old) (C.state calls.new) (λ s t. Condition (expression_of e.now) result self.old self.new s t) }
+        ensures free { OnOk result (self.new.frames.items ≡ []) }
+        ensures same { IsSameProcess self.old self.new }
+        ensures blame { PartBlames result (C.failed calls.new) (C.faults calls.old) (C.faults calls.new) }
+        ensures lasts { CallsLast C.faults C.references C.leads calls.old calls.new }
+    {
+        match read(e, self, DEPTH) {
+            Ok(n) => Ok(is_one(n)),
+            Err(hurdle) => match hurdle {
+                Hurdle::Range(line) => Err(Stop::Failed(Cause::Range, line)),
+                Hurdle::Frames => self.holds_by_frames(calls, e),
+            },
+        }
+    }
+
+    /// Whether a condition is true that is not read at once.
+    fn holds_by_frames<C: Calls>(&mut self, calls: &mut C, e: &'u Value) -> Result<bool, Stop>
         requires free { self.old.frames.items ≡ [] }
         requires working { C.failed calls.old None }
         ensures exact { WhereTold (C.state calls.old) (C.state calls.new) (λ s t. Condition (expression_of e.now) result self.old self.new s t) }

@@ -4,13 +4,14 @@ ghost use Rattle.std.specs.Prelude.{◌≡◌, ◌<◌, ◌++◌, ◌∷◌, [],
 ghost use Rattle.edi_calls.specs.Names.{find, same, with_at, without};
 ghost use Rattle.edi_meaning.specs.Parts.{with_part};
 ghost use Rattle.edi_meaning.specs.Store.{cell, frames, get, grown, instances, now, put, reached, room, shape, shrunk, value_in};
+ghost use Rattle.edi_walk.specs.Counted.{words_needed};
 ghost use Rattle.edi_walk.specs.Data.{cell_of, location_of, spot_of, value_of};
 ghost use Rattle.edi_walk.specs.Memory.{cells_put, instance_of, instances_put, StandsAt, store_of};
 
 use crate::data::{Datum, Held, LocationAt, SpotAt};
+use crate::entry::Entry;
 use crate::lists::exchange;
 use std::alloc::{AllocError, Global};
-use std::mem;
 
 /// An instance of a block: the words that it needs, its static parent, and what its variables hold.
 #[derive(Drop)]
@@ -19,13 +20,6 @@ pub struct Activation {
     pub need: u32,
     pub parent: SpotAt,
     pub cells: Vec<Held>,
-}
-
-/// The instances of one process, the oldest first.
-#[derive(Drop)]
-pub struct Entry {
-    pub name: Vec<u64>,
-    pub instances: Vec<Activation>,
 }
 
 /// The variables of all processes.
@@ -75,8 +69,8 @@ impl Memory {
     pub fn room(&self, name: &[u64], size: u32) -> u32
         ensures exact { result ≡ room size (shape (store_of self.now) name.now) }
     {
-        match self.instances(name) {
-            Some(instances) => room_beside(instances, size),
+        match self.place(name) {
+            Some(place) => self.entries[place].room(size),
             None => size,
         }
     }
@@ -139,7 +133,7 @@ impl Memory {
         let Some(place) = self.place(&location.spot.name) else {
             return false;
         };
-        put_in(&mut self.entries[place].instances, location, value)
+        self.entries[place].put(location, value)
     }
 
     /// A new instance, the newest of its process, which has some already.
@@ -149,8 +143,7 @@ impl Memory {
         let Some(place) = self.place(name) else {
             return Err(AllocError);
         };
-        self.entries[place].instances.push(instance)?;
-        Ok(())
+        self.entries[place].push(instance)
     }
 
     /// The end of the newest instance of a process. The answer is false where the process has none: then nothing is said.
@@ -160,8 +153,7 @@ impl Memory {
         let Some(place) = self.place(name) else {
             return false;
         };
-        let instances = &mut self.entries[place].instances;
-        instances.truncate(instances.len().saturating_sub(1));
+        self.entries[place].pop();
         true
     }
 
@@ -174,14 +166,9 @@ impl Memory {
     ) -> Result<(), AllocError>
         ensures exact { IfOk result (λ _. store_of self.new ≡ with_at (store_of self.old) name.now (instance_of instance ∷ [])) }
     {
-        let mut instances = Vec::new(alloc);
-        instances.push(instance)?;
         match self.place(name) {
-            Some(place) => {
-                let _old = mem::replace(&mut self.entries[place].instances, instances);
-                Ok(())
-            }
-            None => self.begin_new(alloc, name, instances),
+            Some(place) => self.entries[place].begin(alloc, instance),
+            None => self.begin_new(alloc, name, instance),
         }
     }
 
@@ -190,12 +177,12 @@ impl Memory {
         &mut self,
         alloc: Global,
         name: &[u64],
-        instances: Vec<Activation>,
+        instance: Activation,
     ) -> Result<(), AllocError>
-        ensures exact { IfOk result (λ _. store_of self.new ≡ store_of self.old ++ (name.now, map instance_of instances.items) ∷ []) }
+        ensures exact { IfOk result (λ _. store_of self.new ≡ store_of self.old ++ (name.now, instance_of instance ∷ []) ∷ []) }
     {
-        let name = Vec::from_slice(alloc, name)?;
-        self.entries.push(Entry { name, instances })?;
+        let entry = Entry::new(alloc, name, instance)?;
+        self.entries.push(entry)?;
         Ok(())
     }
 
@@ -209,21 +196,11 @@ impl Memory {
     }
 }
 
-/// The words that these instances leave of a segment of this size.
-fn room_beside(instances: &[Activation], size: u32) -> u32
-    ensures exact { result ≡ room size (frames (map instance_of instances.now)) }
-{
-    let mut left = size;
-    for instance in instances {
-        left = left.saturating_sub(instance.need);
-    }
-    left
-}
-
 /// Puts a value at a location of these instances.
-fn put_in(instances: &mut Vec<Activation>, location: &LocationAt, value: Datum) -> bool
+pub fn put_in(instances: &mut Vec<Activation>, location: &LocationAt, value: Datum) -> bool
     ensures exact { result ≡ true → map instance_of instances.new.items
         ≡ instances_put (map instance_of instances.old.items) (location_of location.now) (value_of value) }
+    ensures needed { words_needed instances.new.items ≡ words_needed instances.old.items }
 {
     let depth = location.spot.depth;
     if depth >= instances.len() {

@@ -193,3 +193,66 @@ pub fn negation(v: &Datum) -> Datum
 {
     truth(!is_true(v))
 }
+
+// ---- the same on ordinals
+
+/// The ordinal of a value of `bool`.
+fn truth_ordinal(holds: bool) -> i16
+    ensures exact { spec.ordinal result ≡ spec.truth holds }
+{
+    if holds { 1 } else { 0 }
+}
+
+/// What an operator gives on two ordinals, or none where it fails.
+pub fn apply_ordinals(operator: Operator, n: i16, m: i16) -> Option<i16>
+    ensures exact { option_map spec.ordinal result ≡ spec.apply operator (spec.ordinal n) (spec.ordinal m) }
+{
+    match operator {
+        Operator::Equal => Some(truth_ordinal(n == m)),
+        Operator::NotEqual => Some(truth_ordinal(n != m)),
+        Operator::Less => Some(truth_ordinal(n < m)),
+        Operator::LessOrEqual => Some(truth_ordinal(n <= m)),
+        Operator::Greater => Some(truth_ordinal(n > m)),
+        Operator::GreaterOrEqual => Some(truth_ordinal(n >= m)),
+        Operator::In => Some(0),
+        Operator::And => Some(truth_ordinal(n == 1 && m == 1)),
+        Operator::Or => Some(truth_ordinal(n == 1 || m == 1)),
+        Operator::Div => div(n, m),
+        Operator::Mod => modulo(n, m),
+        Operator::Plus => add(n, m),
+        Operator::Minus => sub(n, m),
+        Operator::Times => mul(n, m),
+    }
+}
+
+/// Whether an ordinal as the left operand alone decides.
+pub fn decides_ordinal(operator: Operator, n: i16) -> bool
+    ensures exact { result ≡ spec.decides operator (spec.ordinal n) }
+{
+    match operator {
+        Operator::And => n != 1,
+        Operator::Or => n == 1,
+        _ => false,
+    }
+}
+
+/// A leading `-` before an ordinal, or none where it fails.
+pub fn sign_ordinal(n: i16) -> Option<i16>
+    ensures exact { option_map spec.ordinal result ≡ spec.sign (spec.ordinal n) }
+{
+    sub(0, n)
+}
+
+/// `not` before an ordinal.
+pub fn negation_ordinal(n: i16) -> i16
+    ensures exact { spec.ordinal result ≡ spec.negation (spec.ordinal n) }
+{
+    truth_ordinal(n != 1)
+}
+
+/// Whether an ordinal is that of `true`.
+pub fn is_one(n: i16) -> bool
+    ensures exact { result ≡ spec.is_true (spec.ordinal n) }
+{
+    n == 1
+}

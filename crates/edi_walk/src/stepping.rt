@@ -206,6 +206,34 @@ impl<'u> Evaluation<'u> {
         ensures blame { PartBlames result (C.failed calls.new) (C.faults calls.old) (C.faults calls.new) }
         ensures lasts { CallsLast C.faults C.references C.leads calls.old calls.new }
     {
+        match self.assign_at_once(place, e) {
+            Ok(made) => {
+                if made {
+                    Ok(Asked::Goes)
+                } else {
+                    self.assigned_by_frames(calls, place, e)
+                }
+            }
+            Err(stop) => Err(stop),
+        }
+    }
+
+    /// An assignment that is not made at once.
+    fn assigned_by_frames<C: Calls>(
+        &mut self,
+        calls: &mut C,
+        place: &'u Place,
+        e: &'u Value,
+    ) -> Result<Asked<'u>, Stop>
+        requires free { self.old.frames.items ≡ [] }
+        requires working { C.failed calls.old None }
+        ensures exact { WhereTold (C.state calls.old) (C.state calls.new)
+            (λ s t. (left : List code_work.Work) → Statement (tree.assign (place_of place.now) (expression_of e.now)) (work_of left []) left result self.old self.new s t) }
+        ensures free { OnOk result (self.new.frames.items ≡ []) }
+        ensures same { IsSameProcess self.old self.new }
+        ensures blame { PartBlames result (C.failed calls.new) (C.faults calls.old) (C.faults calls.new) }
+        ensures lasts { CallsLast C.faults C.references C.leads calls.old calls.new }
+    {
         match self.both(calls, Frame::Assigns(e), Frame::Places(place)) {
             Ok(()) => Ok(Asked::Goes),
             Err(stop) => Err(stop),

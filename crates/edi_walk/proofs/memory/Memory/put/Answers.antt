@@ -1,4 +1,4 @@
-use Rattle.std.proofs.Common.{refl, subst, sym, ap, ◌∙◌}
+use Rattle.std.proofs.Common.{subst, sym, ap, ◌∙◌}
 use Rattle.edi_calls.specs.Names.{with_at}
 use Rattle.edi_walk.specs.Data.{location_of, value_of}
 use Rattle.edi_walk.specs.Memory.{instances_put, StandsAt, store_of}
@@ -13,10 +13,10 @@ returns c =
     let entry = c.index_mut.result.now in
     record {
       exact = λ h.
-          stands_with name c.in-Some.place entries entry (record { name = entry.name; instances = c.put_in.new.instances })
-          stands c.index_mut.ensures.value refl
+          stands_with name c.in-Some.place entries entry c.put.new.self
+          stands c.index_mut.ensures.value c.put.ensures.name
           ∙ ap (with_at (store_of c.args.self.now) name)
-          (c.put_in.ensures.exact h
+          (c.put.ensures.exact h
           ∙ ap (λ is. instances_put is (location_of c.args.location.now) (value_of c.args.value))
           (sym (stands_found name c.in-Some.place entries entry stands c.index_mut.ensures.value)));
     }
