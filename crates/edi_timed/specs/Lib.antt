@@ -1,3 +1,4 @@
+pub mod on
 pub mod Ran
 pub mod Hearing
 pub mod Rows

@@ -4,6 +4,7 @@
 mod heard;
 pub mod laws;
 mod leaving;
+pub mod on;
 mod places;
 mod running;
 mod seats;

@@ -10,9 +10,9 @@ use Rattle.edi_system.proofs.Told.{told_map}
 use Rattle.edi_execute.specs.Execution.{IsAtMoment}
 use Rattle.edi_execute.proofs.Executing.{at_moment}
 use Rattle.edi_timed.specs.Timed.{Timed}
-use Rattle.edi_timed_on.specs.Timelines.{IsTimelineOf}
-use Rattle.edi_timed_on.proofs.Ended.{is_timeline}
-use Rattle.edi_timed_on.proofs.execution.time_execution.Goals as goal
+use Rattle.edi_timed.specs.on.Timelines.{IsTimelineOf}
+use Rattle.edi_timed.proofs.on.Ended.{is_timeline}
+use Rattle.edi_timed.proofs.on.execution.time_execution.Goals as goal
 
 pub returns-clause-exact : goal.returns-clause-exact
 returns-clause-exact g c = λ few.

@@ -13,7 +13,7 @@ use Rattle.edi_timeline.specs.Timelines.{Told, told_of}
 use Rattle.edi_timed.specs.Ran.{stints_of_code}
 use Rattle.edi_timed.specs.Timed.{HasStints}
 use Rattle.edi_timed.proofs.meant.Selected.{runs_have_stints}
-use Rattle.edi_timed_on.specs.Timelines.{IsOf, IsTimelineOf, Timable, text, code}
+use Rattle.edi_timed.specs.on.Timelines.{IsOf, IsTimelineOf, Timable, text, code}
 
 module _ (system : State) (bound : ℕ) (choices : Drawn) (none : choices.drawn ≡ 0) (told : Told) where
   -- the stints of a run with these choices, where so many were drawn before it

@@ -9,13 +9,13 @@ ghost use Rattle.edi_system.specs.Parts.{KeepsTold};
 ghost use Rattle.edi_system.specs.State.{drive_in, failed_in, state_of, IsReady};
 ghost use Rattle.edi_execute.specs.Execution.{is_fault_ending, IsAtMoment};
 ghost use Rattle.edi_timed.specs.Timed.{Timed};
-ghost use Rattle.edi_timed_on.specs.Timelines.{IsOf, IsTimelineOf, Timable};
+ghost use Rattle.edi_timed.specs.on.Timelines.{IsOf, IsTimelineOf, Timable};
 
+use crate::{Heard, timed};
 use edi_host::{Drive, Sink, Source};
 use edi_kernel::{Ending, Kernel};
 use edi_system::System;
 use edi_target::Code;
-use edi_timed::{Heard, timed};
 use edi_timeline::Timeline;
 use edi_trace::Choices;
 

@@ -1,0 +1,2 @@
+-- Helper. The files of `on`.
+pub mod Timelines
