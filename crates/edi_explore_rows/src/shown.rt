@@ -3,12 +3,12 @@
 use crate::explored::{WIDE, code_of, explored};
 use crate::texts::{ECHO, EITHER, FOREVER, LETTER, LOST, STANDS, WAITS};
 use edi_compile::front;
-use edi_explore_on::{
+use edi_host::{KeepEnd, MemoryFiles, MemorySource};
+use edi_kernel::Kernel;
+use edi_runs::explore::{
     InputFault, Summary, explore_text, keep_records, names_accept, read_input, record_name,
     report_text, sum_up,
 };
-use edi_host::{KeepEnd, MemoryFiles, MemorySource};
-use edi_kernel::Kernel;
 use edi_trace::read_choices;
 use std::alloc::Global;
 use std::process::Abort;

@@ -2,9 +2,9 @@
 use Rattle.std.proofs.Common.{ℕ, Bool, true, false, List, Option, inl, inr}
 use Rattle.std.specs.Prelude.{◌⊎◌}
 use Rattle.edi_unit.specs.Tree.{ProgramUnit}
-use Rattle.edi_explore_on.specs.Explorations.{Findings}
-use Rattle.edi_explore_on.specs.Input.{names_accept}
-use Rattle.edi_explore_on.specs.Records.{records_of}
+use Rattle.edi_runs.specs.explore.Explorations.{Findings}
+use Rattle.edi_runs.specs.explore.Input.{names_accept}
+use Rattle.edi_runs.specs.explore.Records.{records_of}
 use Rattle.edi_words.specs.Words.{ExploreOptions}
 use Rattle.edi_statuses.specs.declared.status.Status.{Status}
 use Rattle.edi_statuses.specs.Outside.{Outside, Kept, seen, Lent}

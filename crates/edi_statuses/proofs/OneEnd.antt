@@ -14,7 +14,7 @@ use Rattle.edi_image.specs.Image.{slots_of}
 use Rattle.edi_unit.specs.Tree.{ProgramUnit}
 use Rattle.edi_utils.specs.Demo.{demo_text}
 use Rattle.edi_utils.specs.Listing.{listing_of}
-use Rattle.edi_walk_on.proofs.Texts.{texts_have_one_walk}
+use Rattle.edi_runs.proofs.walk.Texts.{texts_have_one_walk}
 use Rattle.edi_words.specs.Words as words
 use Rattle.edi_words.specs.Words.{Command}
 use Rattle.edi_statuses.specs.declared.status.Status.{Status}

@@ -22,7 +22,7 @@ use Rattle.edi_debug.specs.stops.Kept.{Kept, nothing_kept}
 use Rattle.edi_debug.specs.stops.Stops.{Watched, log_of}
 use Rattle.edi_debug.specs.stops.Watching.{LogsAll}
 use Rattle.edi_debug.proofs.Executions.{logs_are_meant}
-use Rattle.edi_watch.specs.Logs.{AreOfTree, IsLogOf}
+use Rattle.edi_runs.specs.watch.Logs.{AreOfTree, IsLogOf}
 use Rattle.edi_statuses.specs.Steps.{FindsPoints, GivesPoints, goes}
 
 -- what the code of a unit logs

@@ -18,10 +18,10 @@ use Rattle.edi_utils.specs.Demo.{demo_text}
 use Rattle.edi_utils.specs.Listing.{listing_of}
 use Rattle.edi_session.specs.declared.end.SessionEnd.{SessionEnd}
 use Rattle.edi_session.specs.declared.end.SessionEnd.TheVariants as end
-use Rattle.edi_explore_on.specs.declared.summary.Summary.{Summary}
-use Rattle.edi_explore_on.specs.declared.summary.Summary.TheVariants as summary
-use Rattle.edi_explore_on.specs.Input.{most_input, names_accept}
-use Rattle.edi_explore_on.specs.Lines.{summary_of}
+use Rattle.edi_runs.specs.declared.explore.summary.Summary.{Summary}
+use Rattle.edi_runs.specs.declared.explore.summary.Summary.TheVariants as summary
+use Rattle.edi_runs.specs.explore.Input.{most_input, names_accept}
+use Rattle.edi_runs.specs.explore.Lines.{summary_of}
 use Rattle.edi_words.specs.Words as words
 use Rattle.edi_words.specs.Words.{ChoicesFrom, Command, ExploreOptions, Options}
 use Rattle.edi_statuses.specs.declared.status.Status.{Status}

@@ -11,7 +11,7 @@ use Rattle.edi_lex.specs.declared.fault.LexFault.{LexFault}
 use Rattle.edi_lex.specs.Symbols.{symbols_of}
 use Rattle.edi_tree.specs.Tree.{Program}
 use Rattle.edi_debug.specs.Points as points
-use Rattle.edi_watch.specs.Logs.{AreOfTree}
+use Rattle.edi_runs.specs.watch.Logs.{AreOfTree}
 use Rattle.edi_unit.specs.Fits.{Fits}
 use Rattle.edi_unit.specs.Tree.{ProgramUnit}
 use Rattle.edi_texts.specs.declared.kind.RefusalKind.{RefusalKind}

@@ -5,8 +5,8 @@ use Rattle.std.specs.Prelude.{◌⊎◌}
 use Rattle.edi_calls.specs.Choice.{Choices}
 use Rattle.edi_calls.specs.Outcome.{Ending}
 use Rattle.edi_calls.specs.State.{State}
-use Rattle.edi_walk_on.specs.Walks.{IsMomentOfWalk}
-use Rattle.edi_walk_on.proofs.Texts.{texts_have_one_walk}
+use Rattle.edi_runs.specs.walk.Walks.{IsMomentOfWalk}
+use Rattle.edi_runs.proofs.walk.Texts.{texts_have_one_walk}
 use Rattle.edi_words.specs.Words as words
 use Rattle.edi_statuses.specs.declared.status.Status.{Status}
 use Rattle.edi_statuses.specs.Outside.{Outside, Devices, seen, system_on, Lent}

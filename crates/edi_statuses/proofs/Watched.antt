@@ -3,7 +3,7 @@ use Rattle.std.proofs.Common.{ℕ, List, Option, inl, inr}
 use Rattle.std.specs.Prelude.{◌⊎◌}
 use Rattle.edi_calls.specs.Choice.{Choices}
 use Rattle.edi_debug.specs.stops.Stops.{Watched}
-use Rattle.edi_watch.specs.Logs.{IsLogOf}
+use Rattle.edi_runs.specs.watch.Logs.{IsLogOf}
 use Rattle.edi_words.specs.Words.{ChoicesFrom, Options}
 use Rattle.edi_statuses.specs.declared.status.Status.{Status}
 use Rattle.edi_statuses.specs.Outside.{Outside, seen, Lent, system_on}

@@ -21,7 +21,7 @@ use Rattle.edi_target.specs.Check.{CodeParts}
 use Rattle.edi_target.specs.File.{code_bytes}
 use Rattle.edi_unit.specs.Tree.{ProgramUnit}
 use Rattle.edi_debug.specs.stops.Stops.{Watched}
-use Rattle.edi_watch.specs.Logs.{IsLogOf}
+use Rattle.edi_runs.specs.watch.Logs.{IsLogOf}
 use Rattle.edi_disjoint.specs.Report.{IsReport}
 use Rattle.edi_utils.specs.Demo.{demo_text, demo_line}
 use Rattle.edi_utils.specs.Listing.{listing_of}

@@ -3,12 +3,12 @@
 use Rattle.std.specs.Prelude.{◌≡◌, ◌<◌, ◌≤◌, ◌⊎◌, ℕ, suc, Bool, true, false, List, [], ◌∷◌, ◌++◌, length, drop, Option, Some, None}
 use Rattle.edi_told.specs.Told.{WhereTold}
 use Rattle.edi_unit.specs.Tree.{ProgramUnit}
-use Rattle.edi_explore_on.specs.declared.summary.Summary.{Summary}
-use Rattle.edi_explore_on.specs.declared.summary.Summary.TheVariants as summary
-use Rattle.edi_explore_on.specs.Explorations.{Findings, IsExplorationOf}
-use Rattle.edi_explore_on.specs.Input.{names_accept, most_input}
-use Rattle.edi_explore_on.specs.Lines.{report_text, summary_of}
-use Rattle.edi_explore_on.specs.Records.{most_records, record_names, records_of}
+use Rattle.edi_runs.specs.declared.explore.summary.Summary.{Summary}
+use Rattle.edi_runs.specs.declared.explore.summary.Summary.TheVariants as summary
+use Rattle.edi_runs.specs.explore.Explorations.{Findings, IsExplorationOf}
+use Rattle.edi_runs.specs.explore.Input.{names_accept, most_input}
+use Rattle.edi_runs.specs.explore.Lines.{report_text, summary_of}
+use Rattle.edi_runs.specs.explore.Records.{most_records, record_names, records_of}
 use Rattle.edi_words.specs.Words.{ExploreOptions}
 use Rattle.edi_statuses.specs.declared.status.Status.{Status}
 use Rattle.edi_statuses.specs.declared.status.Status.TheVariants as status

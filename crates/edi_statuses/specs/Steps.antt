@@ -15,7 +15,7 @@ use Rattle.edi_trace.specs.Lines.{Reading, values, bad_line, read_of}
 use Rattle.edi_tree.specs.Tree as tree
 use Rattle.edi_debug.specs.Points as points
 use Rattle.edi_debug.specs.stops.Stops.{Watched}
-use Rattle.edi_watch.specs.Logs.{IsTreeOf}
+use Rattle.edi_runs.specs.watch.Logs.{IsTreeOf}
 use Rattle.edi_unit.specs.Tree.{ProgramUnit}
 use Rattle.edi_statuses.specs.declared.status.Status.{Status}
 use Rattle.edi_statuses.specs.declared.status.Status.TheVariants as status

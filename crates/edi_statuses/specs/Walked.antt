@@ -4,7 +4,7 @@ use Rattle.edi_told.specs.Told.{WhereTold}
 use Rattle.edi_calls.specs.Choice.{Choices}
 use Rattle.edi_calls.specs.Outcome.{Ending}
 use Rattle.edi_calls.specs.State.{State}
-use Rattle.edi_walk_on.specs.Walks.{IsMomentOfWalk, IsWalkEnding, IsWalkOf}
+use Rattle.edi_runs.specs.walk.Walks.{IsMomentOfWalk, IsWalkEnding, IsWalkOf}
 use Rattle.edi_statuses.specs.declared.status.Status.{Status}
 use Rattle.edi_statuses.specs.Outside.{Outside, Devices, DevicesAreAt, SameFiles, devices_of, system_on, Lent}
 use Rattle.edi_statuses.specs.Executions.{StandsAt, status_of}

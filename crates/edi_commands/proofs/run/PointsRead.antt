@@ -3,8 +3,8 @@ use Rattle.std.proofs.Common.{◌≡◌, ◌∙◌, ℕ, List, take, Result, Ok,
 use Rattle.edi_tree.specs.Tree.{Program}
 use Rattle.edi_debug.specs.declared.answer.Points.{Points}
 use Rattle.edi_debug.specs.Points.{bad_line, read, read_of, watched_in}
-use Rattle.edi_watch.specs.Limit.{most_fetched}
-use Rattle.edi_watch.proofs.Limited.{first_bytes_decide}
+use Rattle.edi_runs.specs.watch.Limit.{most_fetched}
+use Rattle.edi_runs.proofs.watch.Limited.{first_bytes_decide}
 use Rattle.edi_statuses.specs.declared.status.Status.{Status}
 use Rattle.edi_statuses.specs.declared.status.Status.TheVariants as status
 use Rattle.edi_statuses.specs.Outside.{Outside}

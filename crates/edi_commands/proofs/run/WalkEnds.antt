@@ -19,10 +19,10 @@ use Rattle.edi_walk.specs.Ends.{WalkedTo, WalksTo}
 use Rattle.edi_walk.specs.Walk.{WalkEnds}
 use Rattle.edi_walk.specs.declared.walking.WalkEnd.{WalkEnd}
 use Rattle.edi_walk.specs.declared.walking.WalkEnd.TheVariants as end
-use Rattle.edi_walk_on.specs.Leaves as leaves
-use Rattle.edi_walk_on.specs.Walks.{IsMomentOfWalk, IsWalkEnding}
-use Rattle.edi_walk_on.proofs.Chained.{walk_end_blocks, walk_moment_blocks}
-use Rattle.edi_walk_on.proofs.Left.{IsBrokenOff, StandsInWalk, stands_in_walk}
+use Rattle.edi_runs.specs.walk.Leaves as leaves
+use Rattle.edi_runs.specs.walk.Walks.{IsMomentOfWalk, IsWalkEnding}
+use Rattle.edi_runs.proofs.walk.Chained.{walk_end_blocks, walk_moment_blocks}
+use Rattle.edi_runs.proofs.walk.Left.{IsBrokenOff, StandsInWalk, stands_in_walk}
 use Rattle.edi_texts.specs.Texts.{IsUnit}
 use Rattle.edi_statuses.specs.declared.status.Status.{Status}
 use Rattle.edi_statuses.specs.declared.status.Status.TheVariants as status

@@ -14,10 +14,10 @@ use Rattle.edi_trace.specs.Drawn.{Drawn}
 use Rattle.edi_scheme.specs.Laws.{parts_of}
 use Rattle.edi_compile.proofs.Meant.{texts_do_as_meant}
 use Rattle.edi_debug.specs.stops.Stops.{Watched}
-use Rattle.edi_watch.specs.declared.source.Watchable.{Watchable}
-use Rattle.edi_watch.specs.Logs.{IsLogOf}
-use Rattle.edi_watch.specs.Watchable.{IsWatchable, IsWhole, program_in}
-use Rattle.edi_watch.proofs.Meant.{unit_is}
+use Rattle.edi_runs.specs.declared.watch.source.Watchable.{Watchable}
+use Rattle.edi_runs.specs.watch.Logs.{IsLogOf}
+use Rattle.edi_runs.specs.watch.Watchable.{IsWatchable, IsWhole, program_in}
+use Rattle.edi_runs.proofs.watch.Meant.{unit_is}
 use Rattle.edi_statuses.specs.declared.status.Status.{Status}
 use Rattle.edi_statuses.specs.declared.status.Status.TheVariants as status
 use Rattle.edi_statuses.specs.Outside.{Outside, seen, system_on, with_kept, SameFiles, Lent}

@@ -15,10 +15,10 @@ use Rattle.edi_debug.specs.declared.answer.Points.{Points}
 use Rattle.edi_debug.specs.Points as points
 use Rattle.edi_debug.specs.Points.{watched_in}
 use Rattle.edi_debug.specs.stops.Stops.{Watched}
-use Rattle.edi_watch.specs.declared.source.Watchable.{Watchable}
-use Rattle.edi_watch.specs.Logs.{AreOfTree}
-use Rattle.edi_watch.specs.Watchable.{IsWatchable, program_in}
-use Rattle.edi_watch.proofs.Meant.{unit_is}
+use Rattle.edi_runs.specs.declared.watch.source.Watchable.{Watchable}
+use Rattle.edi_runs.specs.watch.Logs.{AreOfTree}
+use Rattle.edi_runs.specs.watch.Watchable.{IsWatchable, program_in}
+use Rattle.edi_runs.proofs.watch.Meant.{unit_is}
 use Rattle.edi_texts.specs.declared.refusal.Refusal.TheVariants.{At, NoMemory}
 use Rattle.edi_texts.specs.Texts.{IsFault}
 use Rattle.edi_texts.proofs.Same.{fetched_bytes_decide}

@@ -5,10 +5,10 @@ use Rattle.std.specs.Global.{Vec}
 use Rattle.edi_told.specs.Told.{WhereTold}
 use Rattle.edi_host.specs.Contents.{Contents}
 use Rattle.edi_system.specs.Growing.{Shrinks}
-use Rattle.edi_explore_on.specs.Explorations.{Findings, IsExplorationOf}
-use Rattle.edi_explore_on.specs.Keeping.{KeepsInTurn}
-use Rattle.edi_explore_on.specs.Records.{records_of}
-use Rattle.edi_explore_on.specs.Told.{findings_of}
+use Rattle.edi_runs.specs.explore.Explorations.{Findings, IsExplorationOf}
+use Rattle.edi_runs.specs.explore.Keeping.{KeepsInTurn}
+use Rattle.edi_runs.specs.explore.Records.{records_of}
+use Rattle.edi_runs.specs.explore.Told.{findings_of}
 use Rattle.edi_words.specs.Words.{ExploreOptions, explore}
 use Rattle.edi_statuses.specs.declared.ended.Ended.{Ended}
 use Rattle.edi_statuses.specs.declared.status.Status.{Status}

@@ -11,13 +11,13 @@ use Rattle.edi_host.specs.declared.files.KeepEnd.{KeepEnd}
 use Rattle.edi_host.specs.declared.files.KeepEnd.TheVariants as keep
 use Rattle.edi_unit.specs.Tree.{ProgramUnit}
 use Rattle.edi_system.specs.Growing.{Shrinks}
-use Rattle.edi_explore_on.specs.declared.summary.Summary.{Summary}
-use Rattle.edi_explore_on.specs.declared.summary.Summary.TheVariants as summary
-use Rattle.edi_explore_on.specs.Explorations.{Findings, IsExplorationOf}
-use Rattle.edi_explore_on.specs.Input.{names_accept}
-use Rattle.edi_explore_on.specs.Keeping.{KeepsInTurn, is_kept}
-use Rattle.edi_explore_on.specs.Lines.{report_text, summary_of}
-use Rattle.edi_explore_on.specs.Records.{records_of}
+use Rattle.edi_runs.specs.declared.explore.summary.Summary.{Summary}
+use Rattle.edi_runs.specs.declared.explore.summary.Summary.TheVariants as summary
+use Rattle.edi_runs.specs.explore.Explorations.{Findings, IsExplorationOf}
+use Rattle.edi_runs.specs.explore.Input.{names_accept}
+use Rattle.edi_runs.specs.explore.Keeping.{KeepsInTurn, is_kept}
+use Rattle.edi_runs.specs.explore.Lines.{report_text, summary_of}
+use Rattle.edi_runs.specs.explore.Records.{records_of}
 use Rattle.edi_texts.specs.Texts.{IsUnit}
 use Rattle.edi_words.specs.Words.{ExploreOptions, explore}
 use Rattle.edi_statuses.specs.declared.ended.Ended.{Ended}

@@ -13,10 +13,10 @@ use Rattle.edi_compile.specs.Compiled.{IsFrontOf, IsShort}
 use Rattle.edi_texts.specs.Fetched.{Tells}
 use Rattle.edi_texts.specs.Texts.{IsRefused}
 use Rattle.edi_texts.proofs.Same.{fetched_bytes_decide}
-use Rattle.edi_explore_on.specs.declared.input.InputFault.{InputFault}
-use Rattle.edi_explore_on.specs.declared.input.InputFault.TheVariants as fault
-use Rattle.edi_explore_on.specs.Input.{most_input}
-use Rattle.edi_explore_on.specs.Told.{HasTakenSome, Reads}
+use Rattle.edi_runs.specs.declared.explore.input.InputFault.{InputFault}
+use Rattle.edi_runs.specs.declared.explore.input.InputFault.TheVariants as fault
+use Rattle.edi_runs.specs.explore.Input.{most_input}
+use Rattle.edi_runs.specs.explore.Told.{HasTakenSome, Reads}
 use Rattle.edi_statuses.specs.declared.status.Status.{Status}
 use Rattle.edi_statuses.specs.declared.status.Status.TheVariants as status
 use Rattle.edi_statuses.specs.Explored.{IsTooLong, LosesSome}

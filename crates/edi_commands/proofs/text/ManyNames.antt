@@ -9,10 +9,10 @@ use Rattle.edi_host.specs.Contents.{Contents}
 use Rattle.edi_host.specs.declared.files.KeepEnd.TheVariants as keep
 use Rattle.edi_trace.specs.Lines.{written}
 use Rattle.edi_explore.specs.declared.ends.Found.{Found}
-use Rattle.edi_explore_on.specs.Explorations.{Reached}
-use Rattle.edi_explore_on.specs.Keeping.{KeepsInTurn}
-use Rattle.edi_explore_on.specs.Records.{most_records, record_name, record_names, records_from, records_of}
-use Rattle.edi_explore_on.specs.Told.{reached_of}
+use Rattle.edi_runs.specs.explore.Explorations.{Reached}
+use Rattle.edi_runs.specs.explore.Keeping.{KeepsInTurn}
+use Rattle.edi_runs.specs.explore.Records.{most_records, record_name, record_names, records_from, records_of}
+use Rattle.edi_runs.specs.explore.Told.{reached_of}
 use Rattle.edi_statuses.specs.Explored.{KeepsFirst, LosesNext, names_of_records}
 use Rattle.edi_statuses.specs.Outside.{Kept, Outside, with_kept, without_names}
 use Rattle.edi_statuses.proofs.Told.{told_so}

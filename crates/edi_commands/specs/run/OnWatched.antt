@@ -5,8 +5,8 @@ use Rattle.edi_host.specs.Contents.{Contents}
 use Rattle.edi_calls.specs.Choice.{Choices}
 use Rattle.edi_trace.specs.Drawn.{Drawn}
 use Rattle.edi_debug.specs.stops.Stops.{Watched}
-use Rattle.edi_watch.specs.declared.source.Watchable.{Watchable}
-use Rattle.edi_watch.specs.Watchable.{IsWatchable}
+use Rattle.edi_runs.specs.declared.watch.source.Watchable.{Watchable}
+use Rattle.edi_runs.specs.watch.Watchable.{IsWatchable}
 use Rattle.edi_statuses.specs.declared.status.Status.{Status}
 use Rattle.edi_statuses.specs.declared.status.Status.TheVariants as status
 use Rattle.edi_statuses.specs.EachObject.{LeavesEach}

@@ -5,8 +5,8 @@ use Rattle.edi_texts.specs.declared.refusal.Refusal.{Refusal}
 use Rattle.edi_texts.specs.Answers.{TextAnswers}
 use Rattle.edi_debug.specs.declared.answer.Points.{Points}
 use Rattle.edi_debug.specs.Points.{bad_line, read, read_of, watched_in}
-use Rattle.edi_watch.specs.declared.source.Watchable.{Watchable}
-use Rattle.edi_watch.specs.Watchable.{IsWatchable}
+use Rattle.edi_runs.specs.declared.watch.source.Watchable.{Watchable}
+use Rattle.edi_runs.specs.watch.Watchable.{IsWatchable}
 use Rattle.edi_statuses.specs.declared.status.Status.{Status}
 use Rattle.edi_statuses.specs.declared.status.Status.TheVariants as status
 use Rattle.edi_statuses.specs.Outside.{Outside, IsSomeFile}

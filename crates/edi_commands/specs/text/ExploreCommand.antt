@@ -10,14 +10,14 @@ use Rattle.edi_scheme.specs.Laws.{parts_of}
 use Rattle.edi_compile.specs.Compiled.{IsFrontOf}
 use Rattle.edi_texts.specs.declared.kind.RefusalKind.{RefusalKind}
 use Rattle.edi_texts.specs.Texts.{IsRefused}
-use Rattle.edi_explore_on.specs.declared.input.InputFault.{InputFault}
-use Rattle.edi_explore_on.specs.declared.input.InputFault.TheVariants as fault
-use Rattle.edi_explore_on.specs.Explorations.{Findings, IsExplorationOf}
-use Rattle.edi_explore_on.specs.Input.{names_accept}
-use Rattle.edi_explore_on.specs.Keeping.{KeepsInTurn, is_kept}
-use Rattle.edi_explore_on.specs.Lines.{report_text, summary_of}
-use Rattle.edi_explore_on.specs.Records.{records_of}
-use Rattle.edi_explore_on.specs.Told.{findings_of}
+use Rattle.edi_runs.specs.declared.explore.input.InputFault.{InputFault}
+use Rattle.edi_runs.specs.declared.explore.input.InputFault.TheVariants as fault
+use Rattle.edi_runs.specs.explore.Explorations.{Findings, IsExplorationOf}
+use Rattle.edi_runs.specs.explore.Input.{names_accept}
+use Rattle.edi_runs.specs.explore.Keeping.{KeepsInTurn, is_kept}
+use Rattle.edi_runs.specs.explore.Lines.{report_text, summary_of}
+use Rattle.edi_runs.specs.explore.Records.{records_of}
+use Rattle.edi_runs.specs.explore.Told.{findings_of}
 use Rattle.edi_statuses.specs.declared.ended.Ended.{Ended}
 use Rattle.edi_statuses.specs.declared.status.Status.{Status}
 use Rattle.edi_statuses.specs.declared.status.Status.TheVariants as status

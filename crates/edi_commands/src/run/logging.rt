@@ -5,7 +5,7 @@ ghost use Rattle.edi_told.specs.Faults.{CountRose};
 ghost use Rattle.edi_told.specs.Told.{WhereTold};
 ghost use Rattle.edi_static.specs.Programs.{Sound};
 ghost use Rattle.edi_debug.specs.Points.{ArePoints, watched_in};
-ghost use Rattle.edi_watch.specs.Watchable.{program_in};
+ghost use Rattle.edi_runs.specs.watch.Watchable.{program_in};
 ghost use Rattle.edi_statuses.specs.Outside.{lent, outside_of, still_told};
 ghost use Rattle.edi_statuses.specs.Counts.{counts_of, HasCause, NoneFalls};
 ghost use Rattle.edi_commands.specs.steps.OnFiles.{OnlyReadsFiles, files_only};
@@ -18,9 +18,9 @@ use crate::steps::{end_with_record, fetch, mount_status, stopped};
 use edi_debug::{Log, PointFault, Points};
 use edi_host::{Drive, Files, KeepEnd, Sink, Source};
 use edi_kernel::Kernel;
+use edi_runs::watch::{Watchable, watch_on};
 use edi_statuses::{Ended, Status};
 use edi_trace::Choices;
-use edi_watch::{Watchable, watch_on};
 use std::alloc::Global;
 
 /// As many bytes as decide what a file of points is: 64 lines of 257 bytes, and one byte.

@@ -16,11 +16,11 @@ use crate::steps::{fetch, mount_status, read_from, stopped};
 use edi_calls::Cause;
 use edi_compile::{Refusal, front};
 use edi_host::{Drive, Files, Sink, Source};
+use edi_runs::walk::walk_on;
 use edi_statuses::{Ended, Status};
 use edi_trace::Choices;
 use edi_unit::Unit;
 use edi_walk::WalkEnd;
-use edi_walk_on::walk_on;
 use edi_words::ChoicesFrom;
 use std::alloc::Global;
 

@@ -14,8 +14,8 @@ use crate::run::logging::{points_from, watch_program};
 use crate::steps::{fetch, read_from, stopped};
 use edi_host::{Drive, Files, Sink, Source};
 use edi_kernel::Kernel;
+use edi_runs::watch::{Watchable, read_watchable};
 use edi_statuses::{Ended, Status};
-use edi_watch::{Watchable, read_watchable};
 use edi_words::Options;
 use std::alloc::Global;
 

@@ -11,10 +11,10 @@ use Rattle.edi_image.specs.Formatted.{new_catalogue}
 use Rattle.edi_image.proofs.Empty.{formatted_from, length-new_catalogue, length-resized}
 use Rattle.edi_compile.proofs.Meant.{texts_do_as_meant}
 use Rattle.edi_explore.specs.declared.ends.Verdict.TheVariants as verdict
-use Rattle.edi_explore_on.specs.Explorations.{Findings, IsExplorationOf}
-use Rattle.edi_explore_on.specs.Input.{most_input, names_accept}
-use Rattle.edi_explore_on.specs.Lines.{report_text}
-use Rattle.edi_explore_on.specs.Records.{records_of}
+use Rattle.edi_runs.specs.explore.Explorations.{Findings, IsExplorationOf}
+use Rattle.edi_runs.specs.explore.Input.{most_input, names_accept}
+use Rattle.edi_runs.specs.explore.Lines.{report_text}
+use Rattle.edi_runs.specs.explore.Records.{records_of}
 use Rattle.edi_system.specs.Growing.{Grows, Shrinks}
 use Rattle.edi_target.specs.Check.{CodeParts}
 use Rattle.edi_target.specs.File.{code_bytes}

@@ -17,7 +17,7 @@ use Rattle.edi_utils.specs.Demo.{demo_text}
 use Rattle.edi_utils.proofs.demonstrated.Accepted.{demonstrations_are_accepted}
 use Rattle.edi_walk.specs.Walk.{WalkEnds}
 use Rattle.edi_walk.proofs.Ends.{every_walk_ends}
-use Rattle.edi_watch.specs.Logs.{IsLogOf}
+use Rattle.edi_runs.specs.watch.Logs.{IsLogOf}
 use Rattle.edi_words.specs.Words as words
 use Rattle.edi_words.specs.Words.{ChoicesFrom, Command, Options}
 use Rattle.edi_statuses.specs.Outside.{Outside, Devices, Kept, KernelLeft, system_on, with_kept}

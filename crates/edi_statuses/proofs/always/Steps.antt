@@ -21,7 +21,7 @@ use Rattle.edi_debug.specs.Points as points
 use Rattle.edi_texts.specs.Texts.{AreAccepted, IsUnit}
 use Rattle.edi_texts.proofs.Thing.{one_thing}
 use Rattle.edi_unit.specs.Tree.{ProgramUnit}
-use Rattle.edi_watch.specs.Logs.{AreOfTree}
+use Rattle.edi_runs.specs.watch.Logs.{AreOfTree}
 use Rattle.edi_words.specs.Words.{ChoicesFrom, nowhere, file, seed}
 use Rattle.edi_statuses.specs.declared.status.Status.{Status}
 use Rattle.edi_statuses.specs.declared.status.Status.TheVariants as status

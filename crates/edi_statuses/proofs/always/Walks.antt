@@ -18,7 +18,7 @@ use Rattle.edi_meaning.proofs.Local.{Moving, local_keeps}
 use Rattle.edi_meaning.proofs.Work.{world_of_children}
 use Rattle.edi_meaning.proofs.Worlds.{lasting}
 use Rattle.edi_walk.specs.Walk.{behind_step, joining, taken_step, walked, WalkEnds}
-use Rattle.edi_walk_on.specs.Walks.{IsWalkEnding}
+use Rattle.edi_runs.specs.walk.Walks.{IsWalkEnding}
 
 -- a program's own end is one of a walk
 over_is_walks : (e : Ending) (n : ℕ) → IsOver e n → IsWalkEnding e

@@ -3,18 +3,18 @@
 ghost use Rattle.std.specs.Prelude.{◌≡◌, ◌<◌, ◌≤◌, false, length, option_map};
 ghost use Rattle.edi_told.specs.Faults.{CountRose};
 ghost use Rattle.edi_told.specs.Told.{WhereTold};
-ghost use Rattle.edi_explore_on.specs.Keeping.{KeepsInTurn, is_kept};
-ghost use Rattle.edi_explore_on.specs.Lines.{summary_of};
-ghost use Rattle.edi_explore_on.specs.Records.{records_of};
-ghost use Rattle.edi_explore_on.specs.Told.{findings_of};
+ghost use Rattle.edi_runs.specs.explore.Keeping.{KeepsInTurn, is_kept};
+ghost use Rattle.edi_runs.specs.explore.Lines.{summary_of};
+ghost use Rattle.edi_runs.specs.explore.Records.{records_of};
+ghost use Rattle.edi_runs.specs.explore.Told.{findings_of};
 ghost use Rattle.edi_statuses.specs.EachObject.{is_before_drive};
 ghost use Rattle.edi_statuses.specs.Explored.{status_of_summary};
 ghost use Rattle.edi_commands.specs.text.ExploreCommand.{EndsExploring, kept_status};
 
 use crate::text::explore::reports::Explored;
 use edi_explore::Report;
-use edi_explore_on::{Summary, keep_records, sum_up};
 use edi_host::{Files, KeepEnd, Sink};
+use edi_runs::explore::{Summary, keep_records, sum_up};
 use edi_statuses::{Ended, Status, show_bytes};
 use std::alloc::Global;
 

@@ -4,8 +4,8 @@ ghost use Rattle.std.specs.Prelude.{◌≡◌, ◌≤◌, IfErr, false};
 ghost use Rattle.edi_told.specs.Faults.{CountRose};
 ghost use Rattle.edi_commands.specs.text.ExploreCommand.{TakesInput, input_status};
 
-use edi_explore_on::{InputFault, read_input};
 use edi_host::Source;
+use edi_runs::explore::{InputFault, read_input};
 use edi_statuses::Status;
 use std::alloc::Global;
 

@@ -7,8 +7,8 @@ ghost use Rattle.edi_commands.specs.text.ExploreCommand.{GivesProgram, ReadsProg
 use crate::steps::fetch;
 use crate::text::coding::LIMIT;
 use edi_compile::{Refusal, front, translate};
-use edi_explore_on::names_accept;
 use edi_host::Files;
+use edi_runs::explore::names_accept;
 use edi_statuses::Status;
 use edi_target::Code;
 use std::alloc::Global;

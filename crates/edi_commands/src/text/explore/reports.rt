@@ -6,8 +6,8 @@ ghost use Rattle.edi_commands.specs.text.ExploreCommand.{IsExplorable, IsExplore
 
 use crate::text::explore::programs::Explorable;
 use edi_explore::{Limits, Report};
-use edi_explore_on::{explore_text, report_text};
 use edi_kernel::Kernel;
+use edi_runs::explore::{explore_text, report_text};
 use std::alloc::{AllocError, Global};
 
 /// What was found, and the lines that tell it.

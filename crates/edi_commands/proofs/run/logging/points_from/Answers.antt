@@ -1,7 +1,7 @@
 -- The points of a file.
 use Rattle.std.proofs.Common.{◌∙◌}
 use Rattle.edi_statuses.specs.Outside.{still_told}
-use Rattle.edi_watch.specs.Watchable.{program_in}
+use Rattle.edi_runs.specs.watch.Watchable.{program_in}
 use Rattle.edi_commands.specs.steps.OnFiles.{files_only}
 use Rattle.edi_commands.proofs.run.PointsRead.{no_fault, points_step}
 use Rattle.edi_commands.proofs.run.logging.points_from.Goals as goal

@@ -1,6 +1,6 @@
 -- The exits of `watch`.
 use Rattle.std.proofs.Common.{◌∙◌, ℕ, Vec, Global, refl, sym, ap, subst, take}
-use Rattle.edi_watch.specs.Watchable.{program_in}
+use Rattle.edi_runs.specs.watch.Watchable.{program_in}
 use Rattle.edi_words.specs.Words.{Options}
 use Rattle.edi_words.specs.View.{choices_from, options_of}
 use Rattle.edi_statuses.specs.EachObject.{FitsCount}

@@ -1,6 +1,6 @@
 -- The lines were shown, and the records were kept, or were not.
 use Rattle.std.proofs.Common.{option_map}
-use Rattle.edi_explore_on.specs.Told.{findings_of}
+use Rattle.edi_runs.specs.explore.Told.{findings_of}
 use Rattle.edi_commands.proofs.text.ExploreMeans.{ends_whole, kept_failed, kept_silent}
 use Rattle.edi_commands.proofs.text.explore.ending.end_exploration.Goals as goal
 

@@ -1,7 +1,7 @@
 -- Where an ending is to be kept there is one.
 use Rattle.std.proofs.Common.{◌<◌, Bor, List, arith, length, map, option_map, sym, subst, ℕ}
-use Rattle.edi_explore_on.specs.Records.{records_of}
-use Rattle.edi_explore_on.specs.Told.{reached_of}
+use Rattle.edi_runs.specs.explore.Records.{records_of}
+use Rattle.edi_runs.specs.explore.Told.{reached_of}
 use Rattle.edi_commands.proofs.text.ManyNames.{some_kept}
 use Rattle.edi_commands.proofs.text.explore.ending.keep_endings.Goals as goal
 

@@ -1,7 +1,7 @@
 -- The input was not read.
 use Rattle.std.proofs.Common.{Err, subst, sym}
 use Rattle.edi_told.specs.Told.{WhereTold}
-use Rattle.edi_explore_on.specs.Told.{Reads}
+use Rattle.edi_runs.specs.explore.Told.{Reads}
 use Rattle.edi_commands.specs.text.ExploreCommand.{TakesInput}
 use Rattle.edi_commands.proofs.text.ExploreSteps.{input_stopped}
 use Rattle.edi_commands.proofs.text.explore.inputs.input_of.Goals as goal

@@ -1,5 +1,0 @@
-use Rattle.edi_explore_on.proofs.Runs.{found_are_among_all, runs_end_as_told}
-use Rattle.edi_explore_on.proofs.laws.runs_end_as_told.Goals as goal
-
-pub returns : goal.returns
-returns c = record { runs = runs_end_as_told; found = found_are_among_all }

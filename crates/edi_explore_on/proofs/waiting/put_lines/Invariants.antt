@@ -1,8 +1,0 @@
-use Rattle.std.proofs.Common.{◌≡◌, ◌++◌, true, drop}
-use Rattle.edi_explore_on.specs.Lines.{lines_text}
-use Rattle.edi_explore_on.proofs.waiting.put_lines.Given as goal
-
-abbrev pub invariant-loop-line : goal.invariant-loop-line
-invariant-loop-line l = record {
-  text : l.out.items ++ lines_text l.first (drop l.line-index l.lines) ≡ l.fn.out.items ++ lines_text true l.lines;
-}

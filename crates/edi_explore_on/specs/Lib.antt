@@ -1,8 +1,0 @@
-pub mod Explorations
-pub mod Input
-pub mod Keeping
-pub mod Laws
-pub mod Lines
-pub mod Records
-pub mod Rows
-pub mod Told

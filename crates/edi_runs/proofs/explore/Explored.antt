@@ -1,0 +1,195 @@
+-- What a search reports of the code of a text, in the words of the text.
+use Rattle.std.proofs.Common.{◌≡◌, ℕ, zero, suc, ◌<◌, ◌≤◌, List, [], ◌∷◌, map, Contains, Some, refl, sym, ap, subst, ◌∙◌, arith}
+use Rattle.std.specs.Prelude.{slice_get}
+use Rattle.edi_calls.specs.Outcome as outcome
+use Rattle.edi_kernel.specs.declared.ends.Ending.{Ending}
+use Rattle.edi_kernel.specs.declared.ends.Ending.TheVariants as ending
+use Rattle.edi_unit.specs.Tree.{ProgramUnit}
+use Rattle.edi_target.specs.Check.{CodeParts}
+use Rattle.edi_scheme.specs.Laws.{parts_of}
+use Rattle.edi_timeline.specs.Told.{meant}
+use Rattle.edi_texts.specs.Texts.{IsUnit}
+use Rattle.edi_explored.specs.Reached.{AreAll, AreAllBelow}
+use Rattle.edi_explored.specs.machine.Kernels.{IsUnitCode, ending_of}
+use Rattle.edi_explore.specs.declared.ends.Found.{Found}
+use Rattle.edi_explore.specs.declared.ends.Verdict.{Verdict}
+use Rattle.edi_explore.specs.declared.ends.Verdict.TheVariants as verdict
+use Rattle.edi_explore.specs.Found as code
+use Rattle.edi_explore.specs.Found.{AllTellWaits, AreNeverBad, AreRecorded, IsRecorded, TellsWaits, WaitsBy, endings_of, is_standstill, with_ending}
+use Rattle.edi_explore.specs.Offline.{offline}
+use Rattle.edi_explore.specs.Verdicts.{HasCause, IsUpTo}
+use Rattle.edi_explore.proofs.Findings.{contains_at}
+use Rattle.edi_explore.proofs.Keying.{some_is}
+use Rattle.edi_waits.specs.Told.{all_of}
+use Rattle.edi_waits.specs.Waits.{Waiting}
+use Rattle.edi_runs.specs.explore.Explorations.{AreDistinct, AreTold, IsCutOnlyBy, IsExplorationOf, IsFound, IsFullOnlyAt, IsReachedBy, Reached, Says, endings_in}
+use Rattle.edi_runs.specs.explore.Told.{reached_of}
+
+-- ---- endings
+
+-- one that is no fault is what it means
+meant_is : (e : Ending) (end : outcome.Ending) → ending_of e ≡ Some end → meant e ≡ end
+meant_is ending.Done end h = some_is h
+meant_is (ending.Halted line) end h = some_is h
+meant_is (ending.Failed cause line) end h = some_is h
+meant_is ending.Turns end h = some_is h
+meant_is ending.Standstill end h = some_is h
+meant_is (ending.Bad at) end h = some_is h
+meant_is ending.Fault end h = absurd (cc)
+
+abbrev back : outcome.Ending → Ending
+back outcome.done = ending.Done
+back (outcome.halted line) = ending.Halted line
+back (outcome.failed cause line) = ending.Failed cause line
+back outcome.turns = ending.Turns
+back outcome.standstill = ending.Standstill
+back (outcome.bad at) = ending.Bad at
+
+back_is : (e : Ending) (end : outcome.Ending) → ending_of e ≡ Some end → back (meant e) ≡ e
+back_is ending.Done end h = refl
+back_is (ending.Halted line) end h = refl
+back_is (ending.Failed cause line) end h = refl
+back_is ending.Turns end h = refl
+back_is ending.Standstill end h = refl
+back_is (ending.Bad at) end h = refl
+back_is ending.Fault end h = absurd (cc)
+
+same_meant : (e d : Ending) (one other : outcome.Ending) → ending_of e ≡ Some one → ending_of d ≡ Some other → meant e ≡ meant d → e ≡ d
+same_meant e d one other h k same = sym (back_is e one h) ∙ ap back same ∙ back_is d other k
+
+is_found : (e : Ending) (end : outcome.Ending) → ending_of e ≡ Some end → (end ≡ outcome.turns → ⊥) → ((at : ℕ) → e ≡ ending.Bad at → ⊥) → IsFound (meant e)
+is_found ending.Done end h uncut good = tt
+is_found (ending.Halted line) end h uncut good = tt
+is_found (ending.Failed cause line) end h uncut good = tt
+is_found ending.Turns end h uncut good = absurd (uncut (sym (some_is h)))
+is_found ending.Standstill end h uncut good = tt
+is_found (ending.Bad at) end h uncut good = absurd (good at refl)
+is_found ending.Fault end h uncut good = absurd (cc)
+
+-- ---- lists
+
+later : {X : Type 0} (x : X) (xs : List X) (y : X) → Contains xs y → Contains (x ∷ xs) y
+later x xs y c = (suc c.0, omega (arith, c.1), c.2)
+
+each_reached : (P : Reached → Type 0) (fs : List Found) → ((f : Found) → Contains fs f → P (reached_of f)) → (one : Reached) →
+    Contains (map reached_of fs) one → P one
+each_reached P [] h one c = absurd (omega (arith, c.1))
+each_reached P (f ∷ fs) h one (zero, l, is) = subst P is (h f (0, omega arith, refl))
+each_reached P (f ∷ fs) h one (suc k, l, is) = each_reached P fs (λ g c. h g (later f fs g c)) one (k, omega (arith, l), is)
+
+reached_at : (fs : List Found) (i : ℕ) (a : Reached) → slice_get (map reached_of fs) i ≡ Some a →
+    (f : Found) × (slice_get fs i ≡ Some f) × (reached_of f ≡ a)
+reached_at [] i a e = absurd (cc)
+reached_at (f ∷ fs) zero a e = (f, refl, some_is e)
+reached_at (f ∷ fs) (suc i) a e = reached_at fs i a e
+
+-- none of them is a fault
+abbrev AreEndings : List Found → Type 0
+AreEndings fs = (f : Found) → Contains fs f → (end : outcome.Ending) × (ending_of f.ending ≡ Some end)
+
+same_endings : (fs : List Found) → AreEndings fs → endings_of fs ≡ endings_in (map reached_of fs)
+same_endings [] told = refl
+same_endings (f ∷ fs) told =
+    let t = told f (0, omega arith, refl) in
+    ap (λ o. with_ending o (endings_of fs)) t.1
+    ∙ ap (λ es. t.0 ∷ es) (same_endings fs (λ g c. told g (later f fs g c)))
+    ∙ ap (λ e. e ∷ endings_in (map reached_of fs)) (sym (meant_is f.ending t.0 t.1))
+
+distinct : (fs : List Found) → AreEndings fs → code.AreDistinct fs → AreDistinct (map reached_of fs)
+distinct fs told d i j a b p q e =
+    let x = reached_at fs i a p in
+    let y = reached_at fs j b q in
+    let s = told x.0 (contains_at fs i x.0 x.1) in
+    let t = told y.0 (contains_at fs j y.0 y.1) in
+    let same : meant x.0.ending ≡ meant y.0.ending = ap (λ (r : Reached). r.ending) x.2 ∙ e ∙ sym (ap (λ (r : Reached). r.ending) y.2) in
+    d i j x.0 y.0 x.1 y.1 (same_meant x.0.ending y.0.ending s.0 t.0 s.1 t.1 same)
+
+-- ---- a report
+
+module _ (text : List ℕ) (unit : ProgramUnit) (is : IsUnit text unit) (input : List ℕ) where
+  -- who waits where is told of the code of the text
+  told_as : (e : Ending) (choices : List ℕ) (waits : List Waiting) → WaitsBy (is_standstill e) (parts_of unit) input choices waits →
+      AreTold (meant e) text input choices waits
+  told_as ending.Done choices waits h = h
+  told_as (ending.Halted line) choices waits h = h
+  told_as (ending.Failed cause line) choices waits h = h
+  told_as ending.Turns choices waits h = h
+  told_as ending.Standstill choices waits h = record { unit = unit; unit_is = is; stands = h }
+  told_as (ending.Bad at) choices waits h = h
+  told_as ending.Fault choices waits h = h
+
+  reached : (f : Found) → IsRecorded unit input f → ((at : ℕ) → f.ending ≡ ending.Bad at → ⊥) → TellsWaits (parts_of unit) input f →
+      IsReachedBy text input (reached_of f)
+  reached f r good waits =
+      let s = r.selects in
+      record {
+        outcome = s.outcome;
+        run = record { unit = unit; unit_is = is; run = s.selects };
+        ending_is = s.ends ∙ sym (meant_is f.ending r.end r.is);
+        turns_is = s.turns;
+        found = is_found f.ending r.end r.is r.uncut good;
+        few = r.few;
+        small = r.small;
+        told = told_as f.ending f.choices.items (all_of f.waits) waits;
+      }
+
+  says : (v : Verdict) (fs : List Found) → AreEndings fs → (v ≡ verdict.All → AreAll unit (offline input) (endings_of fs)) →
+      ((moves : ℕ) → IsUpTo v moves → AreAllBelow moves unit (offline input) (endings_of fs)) → Says v text input (endings_in (map reached_of fs))
+  says v fs told all below = subst (λ es. Says v text input es) (same_endings fs told) (of v all below)
+    where
+      up_to : (moves : ℕ) → AreAllBelow moves unit (offline input) (endings_of fs) → Says (verdict.Full moves) text input (endings_of fs)
+      up_to moves b = record { unit = unit; unit_is = is; below = b }
+
+      of : (v : Verdict) → (v ≡ verdict.All → AreAll unit (offline input) (endings_of fs)) →
+          ((moves : ℕ) → IsUpTo v moves → AreAllBelow moves unit (offline input) (endings_of fs)) → Says v text input (endings_of fs)
+      of verdict.All all below = record { unit = unit; unit_is = is; all = all refl }
+      of (verdict.Full moves) all below = up_to moves (below moves refl)
+      of (verdict.Cut moves) all below = up_to moves (below moves refl)
+      of (verdict.Unrecorded moves) all below = up_to moves (below moves refl)
+      of (verdict.NoMemory moves) all below = up_to moves (below moves refl)
+
+  -- why a stint was cut
+  cause : (turns : ℕ) (v : Verdict) (choices : List ℕ) → HasCause turns unit input v choices → IsCutOnlyBy turns v text input choices
+  cause turns verdict.All choices h = tt
+  cause turns (verdict.Full moves) choices h = tt
+  cause turns (verdict.Cut moves) choices h = record {
+    outcome = h.outcome;
+    run = record { unit = unit; unit_is = is; run = h.selects };
+    cut = h.cut;
+    few = h.few;
+    small = h.small;
+  }
+  cause turns (verdict.Unrecorded moves) choices h = tt
+  cause turns (verdict.NoMemory moves) choices h = tt
+
+  pub exploration : (most turns : ℕ) (v : Verdict) (states : ℕ) (fs : List Found) (cut : List ℕ) → AreRecorded unit input fs → AreNeverBad fs →
+      AllTellWaits (parts_of unit) input fs → code.AreDistinct fs → (v ≡ verdict.All → AreAll unit (offline input) (endings_of fs)) →
+      ((moves : ℕ) → IsUpTo v moves → AreAllBelow moves unit (offline input) (endings_of fs)) →
+      ((moves : ℕ) → v ≡ verdict.Full moves → most < states) → states ≤ suc most → HasCause turns unit input v cut →
+      IsExplorationOf text input most turns (record { endings = map reached_of fs; verdict = v; states = states; cut = cut })
+  exploration most turns v states fs cut recorded good waits once all below full bounded why =
+      let told : AreEndings fs = λ f c. let r = recorded f c in (r.end, r.is) in
+      record {
+        reached = each_reached (IsReachedBy text input) fs (λ f c. reached f (recorded f c) (λ at e. good f at c e) (waits f c));
+        distinct = distinct fs told once;
+        says = says v fs told all below;
+        full = only v full;
+        bounded = bounded;
+        cut = cause turns v cut why;
+      }
+    where
+      only : (v : Verdict) → ((moves : ℕ) → v ≡ verdict.Full moves → most < states) → IsFullOnlyAt most v states
+      only (verdict.Full moves) h = h moves refl
+      only verdict.All h = tt
+      only (verdict.Cut moves) h = tt
+      only (verdict.Unrecorded moves) h = tt
+      only (verdict.NoMemory moves) h = tt
+
+-- ---- code
+
+pub unit_code : (unit : ProgramUnit) (code : CodeParts) → code ≡ parts_of unit → IsUnitCode unit code
+unit_code unit code e = record {
+  words = ap (λ (c : CodeParts). c.words) e;
+  entry = ap (λ (c : CodeParts). c.entry) e;
+  calls = ap (λ (c : CodeParts). c.calls) e;
+}

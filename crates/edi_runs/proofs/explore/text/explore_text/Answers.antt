@@ -1,0 +1,18 @@
+use Rattle.std.proofs.Common.{suc, ◌+◌, ◌≤◌, subst, arith}
+use Rattle.edi_target.specs.Check.{CodeParts}
+use Rattle.edi_explore.specs.Found.{AllTellWaits}
+use Rattle.edi_runs.proofs.explore.Explored.{exploration, unit_code}
+use Rattle.edi_runs.proofs.explore.text.explore_text.Goals as goal
+
+pub returns : goal.returns
+returns c = record {
+  explored = λ text unit front same.
+      let e = c.in_ok-report.ensures in
+      let r = c.in_ok-report.report in
+      let is = unit_code unit c.args.code.now same in
+      let few : r.states ≤ suc c.args.limits.states = omega (arith, e.few) in
+      exploration text unit front.unit_is c.args.input.now c.args.limits.states c.args.limits.turns r.verdict r.states r.found.items r.cut.items
+      (e.recorded unit front.can is) (e.good unit front.can is)
+      (subst (λ (code : CodeParts). AllTellWaits code c.args.input.now r.found.items) same e.waits) e.distinct (e.all unit front.can is)
+      (e.below unit front.can is) e.full few (e.cause unit front.can is);
+}

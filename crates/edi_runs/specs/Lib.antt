@@ -1,0 +1,3 @@
+pub mod explore
+pub mod walk
+pub mod watch

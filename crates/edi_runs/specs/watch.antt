@@ -1,0 +1,4 @@
+-- Helper. The files of `watch`.
+pub mod Limit
+pub mod Logs
+pub mod Watchable

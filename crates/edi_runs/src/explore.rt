@@ -1,0 +1,17 @@
+//! A text that is explored: all its endings, in the words of the text; whether its program asks for input, and that input; the lines that tell
+//! the report, and the files that keep the choices.
+
+mod input;
+pub mod laws;
+mod lines;
+mod records;
+mod summary;
+mod text;
+mod waiting;
+mod words;
+
+pub use input::{InputFault, MOST_INPUT, names_accept, read_input};
+pub use lines::report_text;
+pub use records::{keep_records, record_name};
+pub use summary::{Summary, sum_up};
+pub use text::explore_text;

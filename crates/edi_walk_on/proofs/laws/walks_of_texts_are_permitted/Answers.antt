@@ -1,5 +1,0 @@
-use Rattle.edi_walk_on.proofs.Texts.{walks_of_texts_are_permitted}
-use Rattle.edi_walk_on.proofs.laws.walks_of_texts_are_permitted.Goals as goal
-
-pub returns : goal.returns
-returns c = record { law = walks_of_texts_are_permitted }

@@ -1,3 +1,0 @@
-pub mod Limit
-pub mod Logs
-pub mod Watchable
