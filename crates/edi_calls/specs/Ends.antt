@@ -1,12 +1,12 @@
 -- Words of contracts. How a call may end that was to have this result, and, on any object, how the call of a number may end.
-use Rattle.std.specs.Prelude.{◌≡◌, ℕ, ◌<◌, ◌≤◌, ◌⊎◌, Bool, true, false, ◌||◌, ◌==◌, not, if◌then◌else◌, List, Option, Some, None, ⊤}
+use Rattle.std.specs.Prelude.{◌≡◌, ℕ, ◌<◌, ◌≤◌, ◌⊎◌, Bool, true, false, ◌||◌, ◌==◌, if◌then◌else◌, List, Option, Some, None, ⊤}
 use Rattle.std.specs.List.{All}
 use Rattle.edi_told.specs.Faults.{CountRose}
 use Rattle.edi_calls.specs.declared.ends.CallEnd.{CallEnd}
 use Rattle.edi_calls.specs.declared.ends.CallEnd.TheVariants as end
 use Rattle.edi_calls.specs.declared.ends.Outside.{Outside}
-use Rattle.edi_calls.specs.declared.ends.Outside.TheVariants as outside
 use Rattle.edi_calls.specs.State.{State}
+use Rattle.edi_calls.specs.Asked.{uses}
 use Rattle.edi_calls.specs.Calls.{CallResult, answered, no_file, file_limit}
 
 -- after a call that an object outside failed, the input, the bytes shown, the bytes printed and the slots are each
@@ -54,14 +54,6 @@ is_refused end.OutsideFault = false
 abbrev pub Blames : CallEnd → (failed : Option Outside → Type 0) → (before now : Outside → ℕ) → Type 0
 Blames end.OutsideFault failed before now = (outside : Outside) × failed (Some outside) × CountRose (before outside) (now outside)
 Blames _ failed before now = failed None
-
--- The objects that the call of a number uses: `accept` the input, `display` the terminal, `print` the printer, and the seven calls of
--- files the drive.
-abbrev pub uses : (number : ℕ) → Outside → Bool
-uses number outside.Input = number == 1
-uses number outside.Terminal = number == 2
-uses number outside.Printer = number == 3
-uses number outside.Drive = not (number == 1 || number == 2 || number == 3)
 
 -- what has failed is an object that the call of this number uses
 abbrev pub IsUsed : (number : ℕ) → (failed : Option Outside → Type 0) → Type 0

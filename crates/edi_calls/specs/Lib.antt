@@ -8,3 +8,4 @@ pub mod Names
 pub mod Laws
 pub mod Ready
 pub mod Forks
+pub mod Asked
