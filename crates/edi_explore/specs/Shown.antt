@@ -14,8 +14,9 @@ abbrev pub asks_of : Limits → Bool
 asks_of limits = is_some limits.shown
 
 -- what was found ends so, with this shown where output is looked at
-abbrev pub IsMet : (asks : Bool) → Found → Ending → (shown : List ℕ) → Type 0
-IsMet asks one e shown = (one.ending ≡ e) × SameShown asks shown one.shown.items
+pub record IsMet (asks : Bool) (one : Found) (e : Ending) (text : List ℕ) : Type 0 where
+  pub ending : one.ending ≡ e
+  pub shown : SameShown asks text one.shown.items
 
 -- the ending is among those that were found
 abbrev pub HasEnding : (asks : Bool) → List Found → Ending → (shown : List ℕ) → Type 0

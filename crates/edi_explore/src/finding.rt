@@ -1,6 +1,6 @@
 //! The endings that are found.
 
-ghost use Rattle.std.specs.Prelude.{◌≡◌, ◌<◌, length, true, false, Some, IfErr, IfOk, ℕ};
+ghost use Rattle.std.specs.Prelude.{◌≡◌, ◌<◌, ◌≤◌, length, true, false, Some, IfErr, IfOk, ℕ};
 ghost use Rattle.edi_explore.specs.Found.{IsTold};
 ghost use Rattle.edi_explore.specs.Shown.{HasEnding, HasMany, IsMet, asks_of};
 ghost use Rattle.edi_explore.specs.States.{AreStates};
@@ -139,8 +139,10 @@ impl Search {
             return Ok(false);
         }
         let found = finished(alloc, kernel, code, input, came, self.moves)?;
-        self.found.push(found)?;
-        Ok(true)
+        match self.found.push(found) {
+            Ok(()) => Ok(true),
+            Err(_) => Err(GivenUp::NoMemory),
+        }
     }
 
     /// Finds an ending to which the process at an index of a state comes. The answer is whether it is found: not where the run with its

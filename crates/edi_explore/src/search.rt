@@ -131,14 +131,17 @@ impl Search {
         ensures expands { IfOk result (λ expanded. ComesTo code.now input.now limits self.old self.new expanded
             ((v : ℕ) → from ≤ v → v < length self.old.states.keys.keys → HasExpanded code.now input.now limits self.new v)) }
         ensures watches { WhereTold (W.seen watcher.old) (W.seen watcher.new)
-            (λ before now. SeesLevel result from (length self.old.states.keys.keys) (length self.new.states.keys.keys + 1) before now) }
+            (SeesLevel result from (length self.old.states.keys.keys) (limits.states + 1)) }
         ensures full { IfErr result (λ given_up. given_up ≡ GivenUp.Full → limits.states ≤ length self.new.states.keys.keys) }
         ensures many { IfErr result (λ given_up. given_up ≡ GivenUp.Many → HasMany limits self.new.found.items) }
         ensures few { length self.new.states.keys.keys ≤ limits.states }
     {
         let mut expanded = Expanded::Whole;
         for state in from..self.states.len() {
-            expanded = expanded.and(self.expand(kernel, code, input, state, limits)?);
+            match self.expand(kernel, code, input, state, limits) {
+                Ok(more) => expanded = expanded.and(more),
+                Err(given_up) => return Err(given_up),
+            }
             watcher.tell(self.states.total());
         }
         Ok(expanded)
@@ -160,7 +163,7 @@ impl Search {
         ensures finds { Finds code.now input.now limits self.old.found.items self.new.found.items }
         ensures answer { IsAnswer code.now input.now limits (length self.new.states.keys.keys) self.new.found.items result }
         ensures fewest { AreFewest code.now input.now limits result self.new.found.items }
-        ensures watches { WhereTold (W.seen watcher.old) (W.seen watcher.new) (IsWatched result (length self.new.states.keys.keys + 1)) }
+        ensures watches { WhereTold (W.seen watcher.old) (W.seen watcher.new) (IsWatched result (limits.states + 1) (length self.new.states.keys.keys + 1)) }
         ensures few { length self.new.states.keys.keys ≤ limits.states }
     {
         let mut verdict = Verdict::All;
@@ -195,7 +198,7 @@ impl Search {
         ensures finds { Finds code.now input.now limits self.old.found.items self.new.found.items }
         ensures answer { IsAnswer code.now input.now limits (length self.new.states.keys.keys) self.new.found.items result }
         ensures fewest { AreFewest code.now input.now limits result self.new.found.items }
-        ensures watches { WhereTold (W.seen watcher.old) (W.seen watcher.new) (IsWatched result (length self.new.states.keys.keys + 1)) }
+        ensures watches { WhereTold (W.seen watcher.old) (W.seen watcher.new) (IsWatched result (limits.states + 1) (length self.new.states.keys.keys + 1)) }
         ensures few { length self.new.states.keys.keys ≤ limits.states }
     {
         match self.begin(kernel, code, input, limits) {
@@ -329,7 +332,7 @@ pub fn explore<W: Watcher>(
     ensures many { (moves : ℕ) → IfOk result (λ report. report.verdict ≡ Verdict.Many moves → HasMany limits report.found.items) }
     ensures few_found { (most : ℕ) → limits.shown ≡ Some most → IfOk result (λ report. length report.found.items ≤ most) }
     ensures watches { WhereTold (W.seen watcher.old) (W.seen watcher.new)
-        (λ before now. IfOk result (λ report. IsWatched report.verdict report.states before now)) }
+        (λ before now. IfOk result (λ report. IsWatched report.verdict (limits.states + 1) report.states before now)) }
     ensures cause { (unit : ProgramUnit) → CanBeCoded unit → IsUnitCode unit code.now →
         IfOk result (λ report. HasCause limits.turns unit input.now report.verdict report.cut.items) }
 {
