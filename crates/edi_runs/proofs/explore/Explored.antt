@@ -1,5 +1,5 @@
 -- What a search reports of the code of a text, in the words of the text.
-use Rattle.std.proofs.Common.{◌≡◌, ℕ, zero, suc, ◌<◌, ◌≤◌, Bool, true, List, [], ◌∷◌, length, map, Contains, Option, Some, is_some, refl, sym, ap, subst, ◌∙◌, arith}
+use Rattle.std.proofs.Common.{◌≡◌, ℕ, zero, suc, ◌<◌, ◌≤◌, Bool, true, false, List, [], ◌∷◌, length, map, Contains, Option, Some, is_some, refl, sym, ap, subst, ◌∙◌, arith}
 use Rattle.std.specs.Prelude.{slice_get}
 use Rattle.std.proofs.lemmas.List.{length-map}
 use Rattle.edi_calls.specs.Outcome as outcome
@@ -25,7 +25,7 @@ use Rattle.edi_explore.proofs.Findings.{contains_at}
 use Rattle.edi_explore.proofs.Keying.{some_is}
 use Rattle.edi_waits.specs.Told.{all_of}
 use Rattle.edi_waits.specs.Waits.{Waiting}
-use Rattle.edi_runs.specs.explore.Explorations.{AreDistinct, AreTold, IsCutOnlyBy, IsExplorationOf, IsFound, IsFullOnlyAt, IsManyOnlyAt, IsReachedBy, Reached}
+use Rattle.edi_runs.specs.explore.Explorations.{AreDistinct, AreTold, IsCutOnlyBy, IsExplorationOf, IsFound, IsFullOnlyAt, IsManyOnlyAt, IsReachedBy, Reached, ShowSame}
 use Rattle.edi_runs.specs.explore.Explorations.{Says, SaysShown, endings_in, shown_endings_in}
 use Rattle.edi_runs.specs.explore.Told.{reached_of}
 
@@ -107,6 +107,11 @@ same_shown_endings (f ∷ fs) told =
     ∙ ap (λ es. (t.0, f.shown.items) ∷ es) (same_shown_endings fs (λ g c. told g (later f fs g c)))
     ∙ ap (λ e. (e, f.shown.items) ∷ shown_endings_in (map reached_of fs)) (sym (meant_is f.ending t.0 t.1))
 
+same_shown : (asks : Bool) (a b : Reached) (x y : Found) → reached_of x ≡ a → reached_of y ≡ b → ShowSame asks a b →
+    SameShown asks x.shown.items y.shown.items
+same_shown true a b x y p q same = ap (λ (r : Reached). r.shown) q ∙ sym same ∙ sym (ap (λ (r : Reached). r.shown) p)
+same_shown false a b x y p q same = tt
+
 distinct : (asks : Bool) (fs : List Found) → AreEndings fs → search.AreDistinct asks fs → AreDistinct asks (map reached_of fs)
 distinct asks fs told d i j a b p q e shown =
     let x = reached_at fs i a p in
@@ -114,9 +119,7 @@ distinct asks fs told d i j a b p q e shown =
     let s = told x.0 (contains_at fs i x.0 x.1) in
     let t = told y.0 (contains_at fs j y.0 y.1) in
     let same : meant x.0.ending ≡ meant y.0.ending = ap (λ (r : Reached). r.ending) x.2 ∙ e ∙ sym (ap (λ (r : Reached). r.ending) y.2) in
-    let met : SameShown asks x.0.shown.items y.0.shown.items =
-    subst (λ (r : Reached). SameShown asks r.shown y.0.shown.items) (sym x.2) (subst (λ (r : Reached). SameShown asks a.shown r.shown) (sym y.2) shown) in
-    d i j x.0 y.0 x.1 y.1 (sym (same_meant x.0.ending y.0.ending s.0 t.0 s.1 t.1 same), met)
+    d i j x.0 y.0 x.1 y.1 (sym (same_meant x.0.ending y.0.ending s.0 t.0 s.1 t.1 same), same_shown asks a b x.0 y.0 x.2 y.2 shown)
 
 -- ---- a report
 

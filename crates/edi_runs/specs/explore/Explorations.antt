@@ -1,6 +1,6 @@
 -- Definition. THE EXPLORATION OF A TEXT: the endings that choices bring about, and whether these are all. Said of the executions of the text
 -- on a system with an input, without disk and files.
-use Rattle.std.specs.Prelude.{◌≡◌, ℕ, suc, ◌<◌, ◌≤◌, Bool, true, List, [], ◌∷◌, length, slice_get, Contains, Option, Some, is_some, ⊤}
+use Rattle.std.specs.Prelude.{◌≡◌, ℕ, suc, ◌<◌, ◌≤◌, Bool, true, false, List, [], ◌∷◌, length, slice_get, Contains, Option, Some, is_some, ⊤}
 use Rattle.edi_calls.specs.Choice.{listed}
 use Rattle.edi_calls.specs.Outcome as outcome
 use Rattle.edi_calls.specs.Outcome.{Ending, Outcome}
@@ -9,7 +9,6 @@ use Rattle.edi_texts.specs.Run.{IsRunOf}
 use Rattle.edi_texts.specs.Texts.{IsUnit}
 use Rattle.edi_scheme.specs.Laws.{parts_of}
 use Rattle.edi_explored.specs.Reached.{AreAll, AreAllBelow, AreAllShown, AreAllShownBelow}
-use Rattle.edi_explored.specs.machine.Alike.{SameShown}
 use Rattle.edi_waits.specs.Waits.{StandsSo, Waiting}
 use Rattle.edi_explore.specs.declared.ends.Verdict.{Verdict}
 use Rattle.edi_explore.specs.declared.ends.Verdict.TheVariants as verdict
@@ -76,10 +75,15 @@ pub record IsReachedBy (text input : List ℕ) (one : Reached) : Type 0 where
   pub small : AreChoices one.choices
   pub told : AreTold one.ending text input one.choices one.waits
 
+-- the same is shown, where output is looked at
+abbrev pub ShowSame : (asks : Bool) → (one other : Reached) → Type 0
+ShowSame true one other = one.shown ≡ other.shown
+ShowSame false one other = ⊤
+
 -- No ending is found twice. Where output is looked at, one with other output is another ending.
 abbrev pub AreDistinct : (asks : Bool) → List Reached → Type 0
 AreDistinct asks found =
-    (i j : ℕ) (a b : Reached) → slice_get found i ≡ Some a → slice_get found j ≡ Some b → a.ending ≡ b.ending → SameShown asks a.shown b.shown → i ≡ j
+    (i j : ℕ) (a b : Reached) → slice_get found i ≡ Some a → slice_get found j ≡ Some b → a.ending ≡ b.ending → ShowSame asks a b → i ≡ j
 
 -- ---- whether they are all
 
