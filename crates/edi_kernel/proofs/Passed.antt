@@ -1,11 +1,9 @@
 -- The states of the past are those of the moments.
 use Rattle.std.proofs.Common.{◌≡◌, ℕ, zero, suc, ◌⊎◌, inl, inr, List, [], ◌∷◌, ◌++◌, length, Option, Some, None, refl, sym, subst, ap, ◌∙◌, arith}
 use Rattle.std.specs.Prelude.{Contains}
-use Rattle.std.proofs.lemmas.Bool.{cases_lt}
-use Rattle.std.proofs.lemmas.List.{append_assoc}
 use Rattle.std.proofs.lemmas.List.Elements.{Contains-append_cases}
 use Rattle.edi_calls.specs.declared.ends.Outside.{Outside}
-use Rattle.edi_calls.specs.Asked.{uses, IsFollowed}
+use Rattle.edi_calls.specs.Asked.{uses}
 use Rattle.edi_calls.specs.Calls.{CallResult, answered, no_file, file_limit, call}
 use Rattle.edi_calls.specs.Choice.{Choices}
 use Rattle.edi_calls.specs.Names.{Name, find}
@@ -21,9 +19,9 @@ use Rattle.edi_target.specs.Effect.{Local, Turn, Effect, goes, released, asks, d
 use Rattle.edi_target.specs.Mach.{Running, Answer, on, behind, turned, over, called, turn_from, settled, effect_at, local_step, Activity, Machine, Stepped}
 use Rattle.edi_target.specs.Mach.{went, ended, running_of, kernel, is_first, step_of, step, entered}
 use Rattle.edi_target.specs.Moments.{news_of_call, news_of_effect, news_from, news_at, history_on, history_after, history, ComesThrough}
-use Rattle.edi_target.proofs.Histories.{Has, newest_again, past_grows, same_past, step_has, entered_has}
+use Rattle.edi_target.proofs.Histories.{Has, newest_again, step_has, entered_has}
 use Rattle.edi_kernel.specs.Moments.{Moment, moment_on, moment_after, moment}
-use Rattle.edi_kernel.specs.Passed.{past_at, MomentIsNewest, MomentAdds, PastIsOfMoments, FaultIsMoment, FollowedInWhole, IsFailedCall, FaultIsCall}
+use Rattle.edi_kernel.specs.Passed.{past_at, MomentIsNewest, MomentAdds, PastIsOfMoments, FaultIsMoment, IsFailedCall, FaultIsCall}
 use Rattle.edi_kernel.specs.Runs.{FailsIn}
 use Rattle.edi_trace.specs.Drawn.{Drawn}
 
@@ -316,25 +314,3 @@ fault_is_call code system bound old new used now f outside uses_it = go (call f.
     )
     go no_file is torn = absurd torn
     go file_limit is torn = absurd torn
-
--- ---- two states in a past
-
-followed_later : (system : State) (news past : List State) (one other : State) → IsFollowed system past one other
-    → IsFollowed system (news ++ past) one other
-followed_later system news past one other h = record {
-  later = news ++ h.later;
-  earlier = h.earlier;
-  is = ap (λ y. news ++ y) h.is ∙ sym (append_assoc news h.later (other ∷ h.earlier));
-  last = h.last;
-}
-
-pub followed_in_whole : (code : CodeParts) (system : State) (bound : ℕ) (choices : Choices) (before : ℕ)
-    → FollowedInWhole code system bound choices before
-followed_in_whole code system bound choices before n one other ending m drawn past e h = elim (cases_lt e.0 n) [
-  | inl l ↦ subst (λ y. IsFollowed system y one other)
-      (sym (same_past (target.fetch code.words) code.entry code.calls system bound choices before e.0 n ending m drawn (omega (arith, l)) e.1) ∙ e.2) h
-  | inr l ↦
-      let g = past_grows (target.fetch code.words) code.entry code.calls system bound choices before n e.0 l in
-      subst (λ y. IsFollowed system y one other) (sym g.1 ∙ e.2)
-      (followed_later system g.0 (past_at code system bound choices before n) one other h)
-]

@@ -4,12 +4,10 @@ use Rattle.edi_calls.specs.declared.ends.Outside.{Outside}
 use Rattle.edi_calls.specs.Asked.{uses, Asks, IsFollowed}
 use Rattle.edi_calls.specs.Choice.{Choices}
 use Rattle.edi_calls.specs.Laws.{IsSameOutside}
-use Rattle.edi_calls.specs.Outcome.{Ending}
 use Rattle.edi_calls.specs.State.{State, moments_of, newest}
 use Rattle.edi_target.specs.Check.{CodeParts}
 use Rattle.edi_target.specs.Fetch.{fetch}
-use Rattle.edi_target.specs.Mach.{Machine}
-use Rattle.edi_target.specs.Moments.{news_at, history_from_start, ComesThrough, EndsThrough}
+use Rattle.edi_target.specs.Moments.{news_at, history_from_start, ComesThrough}
 use Rattle.edi_trace.specs.Drawn.{Drawn}
 use Rattle.edi_kernel.specs.Moments.{Moment, moment_of}
 use Rattle.edi_kernel.specs.Runs.{FailsIn}
@@ -36,13 +34,6 @@ module _ (code : CodeParts) (system : State) (bound : ℕ) (choices : Choices) (
   abbrev pub PastIsOfMoments : Type 0
   PastIsOfMoments = (n : ℕ) (s : State) → Contains (moments_of system (past_at n)) s → (s ≡ system)
       ⊎ ((k : ℕ) × (x : Moment) × IsMomentAfter k x × (x.machine.system ≡ s))
-
-  -- two states that follow one another in a past of the run do so in its whole past
-  abbrev pub FollowedInWhole : Type 0
-  FollowedInWhole =
-      (n : ℕ) (one other : State) (ending : Ending) (m : Machine) (drawn : ℕ) (past : List State)
-      → EndsThrough (fetch code.words) code.entry code.calls system bound choices before ending m drawn past → IsFollowed system (past_at n) one other
-      → IsFollowed system past one other
 
 -- so of every run of every code, however many choices were drawn before it
 abbrev pub OfEveryRun : (CodeParts → State → ℕ → Choices → ℕ → Type 0) → Type 0

@@ -1,6 +1,6 @@
 //! What is true of every run of a kernel. The functions do nothing; their contracts are the laws.
 
-ghost use Rattle.edi_kernel.specs.Passed.{FaultIsCall, FaultIsMoment, FollowedInWhole, MomentAdds, MomentIsNewest, OfEveryRun, PastIsOfMoments};
+ghost use Rattle.edi_kernel.specs.Passed.{FaultIsCall, FaultIsMoment, MomentAdds, MomentIsNewest, OfEveryRun, PastIsOfMoments};
 ghost use Rattle.edi_kernel.specs.Runs.{RunsAreTheMachines};
 ghost use Rattle.edi_kernel.specs.Kept.{StandsAgain};
 ghost use Rattle.edi_kernel.specs.StandsStill.{StandstillIsMarked};
@@ -35,11 +35,6 @@ pub fn fault_is_moment()
 /// failed. For each object that this call uses it tells so. But for the found file and the buffer the system is one of the two.
 pub fn fault_is_call()
     ensures law { FaultIsCall }
-{}
-
-/// What follows one another in a past of a run does so in its whole past.
-pub fn followed_in_whole()
-    ensures law { OfEveryRun FollowedInWhole }
 {}
 
 /// A kernel to which the processes of another have been put back is the machine that the other is, but for words that do not
