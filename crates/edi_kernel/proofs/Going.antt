@@ -719,7 +719,7 @@ module _ (words : List ℕ) (old mid new : KernelState) (slot left left1 used : 
       breaks (pause.Over ending.Turns) result h u d = subst By (sym d.2) tt
       breaks (pause.Over ending.Standstill) result h u d = subst By (sym d.2) tt
       breaks (pause.Over (ending.Bad at)) result h u d = subst By (sym d.2) tt
-      breaks (pause.At (kind.Again true)) result h u d = subst By (sym d.2) (attempted _)
+      breaks (pause.At (kind.Again true)) result h u d = subst By (sym d.2) (attempted (marks_with mid.table slot == length (ready_slots new.table)))
       breaks (pause.At (kind.Again false)) result h u d = subst By (sym d.2) tt
       breaks (pause.At (kind.Fork at)) result h u d = subst By (sym d.1) tt
       breaks (pause.At kind.Exit) result h u d = subst By (sym d.2) tt

@@ -337,7 +337,7 @@ impl Kernel {
     }
 
     /// Whether the last stint ended by an attempt that failed: one of which no condition was true. It is `false` between the start and the
-    /// end of the first stint.
+    /// end of the first stint. After `run` it is open.
     pub fn failed(&self) -> bool
         ensures { result ≡ self.now.failed }
     {
