@@ -783,9 +783,9 @@ module _ (words : List ℕ) (old mid new : KernelState) (slot left left1 : ℕ) 
         arrived = arrived_ordered result slot ready new.table new.arrived h.0 m_is.taken.inside standing;
       }
 
-  given : (s t : State) (m : Machine) (p : Name) (others : List Name) (h : Holds old m (Some p) others) → m.system ≡ s → m.turns ≡ left
+  given_at : (s t : State) (m : Machine) (p : Name) (others : List Name) (h : Holds old m (Some p) others) → m.system ≡ s → m.turns ≡ left
       → Given words old mid new slot left left1 (left - left1) s t h.naming m a cleared
-  given s t m p others h system turns = record {
+  given_at s t m p others h system turns = record {
     table = kernel.table;
     taken = taken_at old slot kernel taken;
     stands = h.stands;
@@ -799,8 +799,8 @@ module _ (words : List ℕ) (old mid new : KernelState) (slot left left1 : ℕ) 
     ordered = ordered;
   }
 
-  named : (m : Machine) (p : Name) (others : List Name) (h : Holds old m (Some p) others) → p ≡ h.naming.name slot
-  named m p others h = some (h.is_taken ∙ ap (option_map h.naming.name) taken)
+  name_is : (m : Machine) (p : Name) (others : List Name) (h : Holds old m (Some p) others) → p ≡ h.naming.name slot
+  name_is m p others h = some (h.is_taken ∙ ap (option_map h.naming.name) taken)
     where
       some : {x y : Name} → Some x ≡ Some y → x ≡ y
       some e = cc
@@ -813,19 +813,20 @@ module _ (words : List ℕ) (old mid new : KernelState) (slot left left1 : ℕ) 
       subst (λ y. GoesBy words result left old y new t m p others) by.by
       (subst (λ q. GoesBy words result left old by.holds.naming new t m q others) (sym p_is)
       (subst (λ qs. GoesBy words result left old by.holds.naming new t m (by.holds.naming.name slot) qs) (sym by.holds.is_ready)
-      (goes words old mid new slot left left1 (left - left1) s t by.holds.naming m a cleared (given s t m p others by.holds system turns)
+      (goes words old mid new slot left left1 (left - left1) s t by.holds.naming m a cleared (given_at s t m p others by.holds system turns)
       pause result l h allowed handles)))
     where
       p_is : p ≡ by.holds.naming.name slot
-      p_is = named m p others by.holds
+      p_is = name_is m p others by.holds
 
-  pub breaks_all : (s t : State) (failed : Option Outside → Type 0) → Stretches words (32 - length (free_slots old.table)) (slot == 0)
+  pub breaks_all : (failed : Option Outside → Type 0)
+      → AsksFailed (Some pause) words (32 - length (free_slots old.table)) (slot == 0) (local_of mid.store a) failed →
+      (s t : State) → Stretches words (32 - length (free_slots old.table)) (slot == 0)
       (running_in old.store (resumed (process_at old.table slot)) s left) false pause (running_in mid.store a t left1) cleared →
-      AsksFailed (Some pause) words (32 - length (free_slots old.table)) (slot == 0) (local_of mid.store a) failed →
       (m : Machine) (p : Name) (others : List Name) → Holds old m (Some p) others → m.system ≡ s → m.turns ≡ left →
       BreaksBy failed words result left t m p others
-  breaks_all s t failed h u m p others holds system turns =
-      subst (λ q. BreaksBy failed words result left t m q others) (sym (named m p others holds))
+  breaks_all failed u s t h m p others holds system turns =
+      subst (λ q. BreaksBy failed words result left t m q others) (sym (name_is m p others holds))
       (subst (λ qs. BreaksBy failed words result left t m (holds.naming.name slot) qs) (sym holds.is_ready)
-      (breaks words old mid new slot left left1 (left - left1) s t holds.naming m a cleared (given s t m p others holds system turns)
+      (breaks words old mid new slot left left1 (left - left1) s t holds.naming m a cleared (given_at s t m p others holds system turns)
       failed pause result h u handles))

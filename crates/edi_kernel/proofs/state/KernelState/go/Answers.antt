@@ -53,12 +53,11 @@ returns-clause-standing g c =
 pub returns-clause-asked : goal.returns-clause-asked
 returns-clause-asked g c =
     WhereTold-map _ _ _ _
-    (λ s t h.
-    breaks_all c.args.code.now.words c.args.self.now (record c.walk-pause.new.self { table = c.unmark_if.new.self; taken = None })
+    (breaks_all c.args.code.now.words c.args.self.now (record c.walk-pause.new.self { table = c.unmark_if.new.self; taken = None })
     c.handle.new.self c.unwrap-slot.result c.args.left c.walk-pause.new.progress.left
     c.walk-pause.new.progress.activity c.walk-pause.new.progress.cleared c.walk-pause.result c.handle.result _ c.requires.kernel c.unwrap-slot.ensures
     (mid_of c.args.self.now c.walk-pause.new.self c.unmark_if.new.self c.unwrap-slot.result c.walk-pause.new.progress.cleared c.requires.kernel
     c.unwrap-slot.ensures (ap (λ (k : KernelState). k.table) c.walk-pause.ensures.same) c.unmark_if.ensures)
     c.handle.ensures.taken c.walk-pause.ensures.less c.walk-pause.ensures.ordered c.walk-pause.ensures.allowed c.handle.ensures.exact
-    s t (g.C.Calls.failed c.walk-pause.new.calls) h c.walk-pause.ensures.asked)
+    (g.C.Calls.failed c.walk-pause.new.calls) c.walk-pause.ensures.asked)
     c.walk-pause.ensures.exact
