@@ -6,8 +6,8 @@ use Rattle.edi_memory.specs.Memory.{state_of, Reaches}
 use Rattle.edi_memory.proofs.Reached.{removed, byte_word}
 use Rattle.edi_memory.proofs.state.MemoryState.remove.Goals as goal
 
-pub returns-in-Some-clause-exact : goal.returns-in-Some-clause-exact
-returns-in-Some-clause-exact c =
+pub returns-in-Some : goal.returns-in-Some
+returns-in-Some c =
     let before = state_of c.args.self.now in
     let after = state_of c.remove_titled.new.self in
     let named : title_of c.args.words.now ≡ Some c.in-Some.title.items =
