@@ -28,7 +28,12 @@ options_of o = record {
 }
 
 abbrev pub exploring_of : ExploreOptions → words.ExploreOptions
-exploring_of o = record { states = o.states; turns = o.turns; record_file = option_map (λ name. name.now) o.record_file }
+exploring_of o = record {
+  states = o.states;
+  turns = o.turns;
+  record_file = option_map (λ name. name.now) o.record_file;
+  shown = o.shown;
+}
 
 abbrev pub view : Command → words.Command
 view (command.Run file options) = words.run file.now (options_of options)

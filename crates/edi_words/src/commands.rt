@@ -31,6 +31,8 @@ pub struct ExploreOptions<'a> {
     pub turns: u32,
     /// The name of the files that are to keep the choices of the endings.
     pub record_file: Option<&'a str>,
+    /// How many endings are told at most where endings with other output are others, 1 to 1,000; none where output is not looked at.
+    pub shown: Option<u32>,
 }
 
 /// A command. Its names of files and titles are texts of the words.

@@ -192,7 +192,7 @@ fn named_more<'a>(name: &str, operands: &[&'a str], given: &Given<'_, 'a>) -> Op
     None
 }
 
-/// The command of this name, without `--states`.
+/// The command of this name, without `--states` and `--shown`.
 fn named_plain<'a>(name: &str, operands: &[&'a str], given: &Given<'_, 'a>) -> Option<Command<'a>>
     ensures exact { option_map view result ≡ words.named_plain name.now (texts operands.now) (given_view given.now) }
     ensures range { IfSome result IsInRange }
@@ -218,7 +218,7 @@ fn named_plain<'a>(name: &str, operands: &[&'a str], given: &Given<'_, 'a>) -> O
     named_more(name, operands, given)
 }
 
-/// The command of this name. Only `explore` takes `--states`.
+/// The command of this name. Only `explore` takes `--states` and `--shown`.
 fn named<'a>(name: &str, operands: &[&'a str], given: &Given<'_, 'a>) -> Option<Command<'a>>
     ensures exact { option_map view result ≡ words.named name.now (texts operands.now) (given_view given.now) }
     ensures range { IfSome result IsInRange }
@@ -226,7 +226,7 @@ fn named<'a>(name: &str, operands: &[&'a str], given: &Given<'_, 'a>) -> Option<
     if name == "explore" {
         return explore(operands, given);
     }
-    if !given.has_no_states() {
+    if !given.has_no_exploring() {
         return None;
     }
     named_plain(name, operands, given)

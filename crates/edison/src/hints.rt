@@ -22,7 +22,7 @@ const USAGES: [(&str, &str); 15] = [
     ("explain", "explain FILE"),
     (
         "explore",
-        "explore FILE [--states N] [--turns N] [--record NAME]",
+        "explore FILE [--states N] [--shown N] [--turns N] [--record NAME]",
     ),
     ("walk", "walk FILE CHOICES [--turns N]"),
     (

@@ -7,7 +7,7 @@ use Rattle.std.proofs.lemmas.Bool.{and_parts, leb-true}
 use Rattle.edi_calls.specs.State.{is_title}
 use Rattle.edi_words.specs.Words as words
 use Rattle.edi_words.specs.Words.{Command, Given, Options, Text, bare_run, command_by, command_in, command_of, explored_file, file_run, get_file, given_of}
-use Rattle.edi_words.specs.Words.{guided_run, has_no_states, in_range, named, named_more, named_plain, new_disk, number_in, one_operand, only_file, only_files}
+use Rattle.edi_words.specs.Words.{guided_run, has_no_exploring, in_range, named, named_more, named_plain, new_disk, number_in, one_operand, only_file, only_files}
 use Rattle.edi_words.specs.Words.{options_in, parts_of, put_file, sized_run, spelled, takes, two_operands, watched_run, with_options, with_title, first_of}
 use Rattle.edi_statuses.specs.Always.{IsInRange, WordsGiveRanges}
 
@@ -97,7 +97,7 @@ module _ (c : Command) where
   named_is : (name : Text) (operands : List Text) (g : Given) → named name operands g ≡ Some c → IsInRange c
   named_is name operands g =
       chosen (bytes_eq name (codes "explore")) _ _ (made (λ p. words.explore p.0 p.1) (explored_file operands g) (λ p e. tt))
-      (chosen (has_no_states g) _ _ (plain_is name operands g) none_is)
+      (chosen (has_no_exploring g) _ _ (plain_is name operands g) none_is)
 
   by_operands : (operands : List Text) (g : Given) → command_by operands g ≡ Some c → IsInRange c
   by_operands [] g h = none_is h

@@ -1,7 +1,10 @@
-use Rattle.std.proofs.Common.{false, option_map, refl, rules, sym, true≢false}
+use Rattle.std.proofs.Common.{◌∙◌, Some, ap, false, option_map, refl, rules, sym, true≢false}
 use Rattle.edi_words.specs.Words as words
-use Rattle.edi_words.specs.View.{exploring_of, options_of}
+use Rattle.edi_words.specs.View.{exploring_of, options_of, view}
+use Rattle.edi_words.specs.declared.commands.Command.{Command}
 use Rattle.edi_words.specs.declared.commands.Command.TheVariants as command
+use Rattle.edi_statuses.specs.EachObject.{command_does}
+use Rattle.edi_statuses.specs.Explored.{is_exploration}
 use Rattle.edi_statuses.specs.Outside.{kernel_of}
 use Rattle.edi_statuses.proofs.EachLeft.{same_valid, untouched, untouched_alone, untouched_but_input, untouched_but_kernel, untouched_drive}
 use Rattle.edi_statuses.proofs.Silent.{on_files}
@@ -229,3 +232,7 @@ returns-in-Explore-clause-untouched g c =
     (λ early.
     let none = c.explore_file.ensures.early early in
     (none.0, none.2)))
+
+pub returns-in-Explore-clause-unwatched : goal.returns-in-Explore-clause-unwatched
+returns-in-Explore-clause-unwatched g c = λ other.
+    absurd (true≢false (ap (λ (x : Command). command_does is_exploration (Some (view x))) (sym c.in-Explore.is) ∙ other))
