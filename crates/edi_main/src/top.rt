@@ -18,7 +18,7 @@ use edi_commands::boot::boot;
 use edi_commands::code::list;
 use edi_commands::disk::{get, new_disk, new_disk_from, put};
 use edi_commands::run::Form::{Code, Text};
-use edi_commands::run::{demonstrate, run_file, walk_file, watch_file};
+use edi_commands::run::{demonstrate, run_file, time_file, walk_file, watch_file};
 use edi_commands::text::{check, compile_file, explain_file, explore_file};
 use edi_host::{Drive, Files, Sink, Source};
 use edi_kernel::Kernel;
@@ -152,6 +152,12 @@ fn perform<F: Files, D: Drive, S: Source, T: Sink, P: Sink>(
         Command::Explore { file, options } => {
             explore_file(alloc, file, options, files, input, terminal, kernel)
         }
+        Command::Time { file, out, options } => time_file(
+            alloc, Text, file, out, options, files, drive, input, terminal, printer, kernel,
+        ),
+        Command::TimeCode { file, out, options } => time_file(
+            alloc, Code, file, out, options, files, drive, input, terminal, printer, kernel,
+        ),
     }
 }
 

@@ -47,6 +47,9 @@ pub data Command : Type 0 where
   walk : (file choices : List ℕ) → (turns : ℕ) → Command
   watch : (file stops out : List ℕ) → Options → Command
   explore : (file : List ℕ) → ExploreOptions → Command
+  -- a run with a timeline: `run FILE --timeline OUT` and `replay FILE CHOICES --timeline OUT`, and `exec CODEFILE --timeline OUT`
+  time : (file out : List ℕ) → Options → Command
+  time_code : (file out : List ℕ) → Options → Command
 
 -- ---- operands and options
 
@@ -62,7 +65,7 @@ is_plain (b ∷ more) = not (b == 45)
 
 abbrev pub option_names : List Text
 option_names =
-    codes "--turns" ∷ codes "--choices" ∷ codes "--seed" ∷ codes "--record" ∷ codes "--from" ∷ codes "--states" ∷ []
+    codes "--turns" ∷ codes "--choices" ∷ codes "--seed" ∷ codes "--record" ∷ codes "--from" ∷ codes "--states" ∷ codes "--timeline" ∷ []
 
 abbrev pub is_option_name : Text → Bool
 is_option_name word = list_any (bytes_eq word) option_names
@@ -71,7 +74,7 @@ abbrev pub before_parts : Part → Option (List Part) → Option (List Part)
 before_parts part None = None
 before_parts part (Some parts) = Some (part ∷ parts)
 
--- A word is an operand, or one of the six option names, which the word behind it follows as its value. Every other word
+-- A word is an operand, or one of the option names, which the word behind it follows as its value. Every other word
 -- is refused: an empty one, one that begins with `-` and is no option name, and an option name without a value.
 abbrev pub parts_of : List Text → Option (List Part)
 parts_of [] = Some []
@@ -102,6 +105,7 @@ pub record Given : Type 0 where
   pub record_files : List (List ℕ)
   pub old_disks : List (List ℕ)
   pub states : List (List ℕ)
+  pub timelines : List (List ℕ)
 
 abbrev pub given_of : List Part → Given
 given_of parts = record {
@@ -112,12 +116,13 @@ given_of parts = record {
   record_files = values_of (codes "--record") parts;
   old_disks = values_of (codes "--from") parts;
   states = values_of (codes "--states") parts;
+  timelines = values_of (codes "--timeline") parts;
 }
 
 abbrev pub at_most : ℕ → List Text → Bool
 at_most n values = nat_le (length values) n
 
--- The options but for `--states` are only those that a command takes: `--turns` at most so many times, `--choices`, `--seed` and `--record`
+-- The options but for `--states` and `--timeline` are only those that a command takes: `--turns` at most so many times, `--choices`, `--seed` and `--record`
 -- each at most so many times, and `--from` at most so many times. No command takes one twice.
 abbrev pub takes : (turns others from : ℕ) → Given → Bool
 takes turns others from g =
@@ -304,10 +309,26 @@ named name operands g =
     if bytes_eq name (codes "explore") then option_map (λ p. explore p.0 p.1) (explored_file operands g)
     else (if has_no_states g then named_plain name operands g else None)
 
--- the first operand names the command, the others are its own
+-- The command with a timeline of this name. Only runs of files have one; a replay is then a run with the choices of its file.
+abbrev pub timed : (out : Text) → Command → Option Command
+timed out (run file_ o) = Some (time file_ out o)
+timed out (replay file_ choices turns) = Some (time file_ out (record { turns = turns; choices = file choices; record_file = None }))
+timed out (exec file_ o) = Some (time_code file_ out o)
+timed out c = None
+
+abbrev pub named_timed : (out name : Text) → List Text → Given → Option Command
+named_timed out name operands g = option_and_then (timed out) (named name operands g)
+
+-- `--timeline` is not given
+abbrev pub has_no_timeline : Given → Bool
+has_no_timeline g = at_most 0 g.timelines
+
+-- The first operand names the command, the others are its own. `--timeline` is given at most once.
 abbrev pub command_by : List Text → Given → Option Command
 command_by [] g = None
-command_by (name ∷ operands) g = named name operands g
+command_by (name ∷ operands) g =
+    if has_no_timeline g then named name operands g
+    else option_and_then (λ out. named_timed out name operands g) (one_operand g.timelines)
 
 abbrev pub command_in : Given → Option Command
 command_in g = command_by g.operands g

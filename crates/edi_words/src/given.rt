@@ -17,6 +17,7 @@ pub(crate) struct Given<'m, 'a> {
     pub(crate) record_files: &'m [&'a str],
     pub(crate) old_disks: &'m [&'a str],
     pub(crate) states: &'m [&'a str],
+    pub(crate) timelines: &'m [&'a str],
 }
 
 fn are_digits(word: &[u8]) -> bool
@@ -92,7 +93,7 @@ fn at_most(most: usize, values: &[&str]) -> bool
 }
 
 impl<'m, 'a> Given<'m, 'a> {
-    /// Whether of the options but for `--states` only these are given, each at most so many times: `--turns`; `--choices`, `--seed` and
+    /// Whether of the options but for `--states` and `--timeline` only these are given, each at most so many times: `--turns`; `--choices`, `--seed` and
     /// `--record`; and `--from`.
     pub(crate) fn takes(&self, turns: usize, others: usize, from: usize) -> bool
         ensures { result ≡ words.takes turns others from (given_view self.now) }
@@ -109,6 +110,13 @@ impl<'m, 'a> Given<'m, 'a> {
         ensures { result ≡ words.has_no_states (given_view self.now) }
     {
         at_most(0, self.states)
+    }
+
+    /// Whether `--timeline` is not given.
+    pub(crate) fn has_no_timeline(&self) -> bool
+        ensures { result ≡ words.has_no_timeline (given_view self.now) }
+    {
+        at_most(0, self.timelines)
     }
 
     /// Whether only `--states`, `--turns` and `--record` are given, each at most once.

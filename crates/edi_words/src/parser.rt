@@ -35,6 +35,7 @@ fn is_option_name(word: &str) -> bool
         || word == "--record"
         || word == "--from"
         || word == "--states"
+        || word == "--timeline"
 }
 
 /// Whether the words are operands and options, each with its value.
@@ -86,6 +87,7 @@ fn parser<'a>(alloc: Global) -> Result<clap::Command<'a>, AllocError>
         .arg(option_of(alloc, "record"))?
         .arg(option_of(alloc, "from"))?
         .arg(option_of(alloc, "states"))?
+        .arg(option_of(alloc, "timeline"))?
         .arg(operands_of(alloc))
 }
 
@@ -109,6 +111,7 @@ fn given<'m, 'a>(matches: &'m ArgMatches<'a>, none: &'m [&'a str]) -> Given<'m, 
         record_files: values(matches, none, "record"),
         old_disks: values(matches, none, "from"),
         states: values(matches, none, "states"),
+        timelines: values(matches, none, "timeline"),
     }
 }
 
