@@ -1,5 +1,5 @@
 -- The commands that keep a timeline: how each may end.
-use Rattle.std.proofs.Common.{◌≡◌, ℕ, List, ◌++◌, Some, None, refl}
+use Rattle.std.proofs.Common.{ℕ, List, ◌++◌, refl}
 use Rattle.edi_calls.specs.Choice.{Choices}
 use Rattle.edi_calls.specs.State.{fresh}
 use Rattle.edi_host.specs.Contents.{Contents}
@@ -8,7 +8,7 @@ use Rattle.edi_target.proofs.Histories.{every_run_ends_through}
 use Rattle.edi_texts.specs.Texts.{IsUnit}
 use Rattle.edi_texts.proofs.Executions.{accepted_texts_run}
 use Rattle.edi_timed.specs.Ran.{stints_of_code}
-use Rattle.edi_timed.specs.on.Timelines.{AreStints, AreStintsOf, AreStintsOfCode}
+use Rattle.edi_timed.specs.on.Timelines.{AreStints}
 use Rattle.edi_timeline.specs.Stints.{Stint, stints_of}
 use Rattle.edi_timeline.specs.Timelines.{Told, told_of}
 use Rattle.edi_unit.specs.Tree.{ProgramUnit}

@@ -3,6 +3,7 @@ use Rattle.std.proofs.Common.{rules, ◌≡◌, ◌∙◌, ◌+◌, ◌<◌, ◌
 use Rattle.edi_kernel.specs.declared.ends.Ending.TheVariants as ending
 use Rattle.edi_statuses.specs.Counts.{Counts, HasCause, counts_of}
 use Rattle.edi_statuses.specs.Executions.{status_of}
+use Rattle.edi_statuses.specs.Timelines.{timable}
 use Rattle.edi_statuses.specs.declared.status.Status.TheVariants as status
 use Rattle.edi_statuses.specs.Outside.{Outside, kernel_of, outside_of}
 use Rattle.edi_statuses.proofs.Silent.{nothing_seen}
@@ -70,7 +71,7 @@ returns-clause-ran g c =
     timed_so c.args.code.now c.args.turns c.args.out.now (option_map (λ name. name.now) c.args.record_file) _ _ c.args.choices.now c.requires.none_drawn
     c.in-Ok-time_on.ran.due (left_on _ _ _ c.in-Ok-time_on.ensures.mounted l.told l.due) c.in-Ok-time_on.ran.ending unfailed c.time_on.new.choices
     (omega (arith, c.time_on.ensures.drawn, c.requires.none_drawn)) _ c.in-Ok-time_on.ensures.used (l.runs few) c.time_on.new.timeline
-    (λ program is. c.in-Ok-time_on.ensures.stints unfailed c.requires.none_drawn _ is) c.keep_timed-end.result c.ending_status-came.result
+    (λ program is. c.in-Ok-time_on.ensures.stints unfailed c.requires.none_drawn (timable program) is) c.keep_timed-end.result c.ending_status-came.result
     c.timed_status.result c.ending_status-came.ensures.exact c.timed_status.ensures.exact c.time_on.ensures.source c.keep_timed-end.ensures.keeps
 
 pub returns-clause-later : goal.returns-clause-later
