@@ -13,6 +13,9 @@ pub mod Mounting
 pub mod OfFiles
 pub mod PointsRead
 pub mod Shown
+pub mod TimedEnds
+pub mod TimedExits
+pub mod TimedKept
 pub mod Told
 pub mod WalkEnds
 pub mod WalkExits

@@ -9,6 +9,7 @@ pub mod Executions
 pub mod Walks
 pub mod Plain
 pub mod Programs
+pub mod Timelines
 pub mod Puts
 pub mod OldDisks
 pub mod Refuted

@@ -67,6 +67,8 @@ StepsGo (words.explain file) before = WentOn (Fetches before file)
 StepsGo (words.walk file choices turns) before = WentOn (RunSteps before file (words.file choices))
 StepsGo (words.watch file points_file out o) before = WentOn (WatchSteps before file points_file o.choices)
 StepsGo (words.explore file o) before = WentOn (TextSteps before file)
+StepsGo (words.time file out o) before = WentOn (RunSteps before file o.choices)
+StepsGo (words.time_code file out o) before = WentOn (ExecSteps before file o.choices)
 
 -- Of every command: a step stops it at such a status, or all its steps go on.
 abbrev pub SomeStep : Type 0

@@ -10,6 +10,7 @@ use Rattle.edi_statuses.specs.Executions.{text, code}
 use Rattle.edi_statuses.specs.Sessions.{BootSteps, HoldsSession}
 use Rattle.edi_statuses.specs.Walked.{Walks}
 use Rattle.edi_statuses.specs.Explored.{ExploresText}
+use Rattle.edi_statuses.specs.Timelines.{Times}
 use Rattle.edi_statuses.specs.Commands.{AreMigrated, ArePut, CommandEffect, Demonstrates, Does, Explains, IsDone, KeepsCode, OnlyBlocks, OnlyKeeps, OnlyShows}
 use Rattle.edi_statuses.specs.Commands.{Runs, ShowsReport, Watches, RunSteps, ExecSteps, WatchSteps, TextSteps, OldSteps, PutSteps, GetSteps, ListSteps}
 use Rattle.edi_statuses.specs.Commands.{DemoSteps}
@@ -21,6 +22,7 @@ use Rattle.edi_statuses.proofs.always.Steps.{text_some, watch_some}
 use Rattle.edi_statuses.proofs.always.Ends.{of_table, stops_or_goes}
 use Rattle.edi_statuses.proofs.always.Plain.{compile_may, explore_may, get_may, list_may, new_disk_may}
 use Rattle.edi_statuses.proofs.always.Programs.{demo_may, exec_may, replay_may, run_may, walk_may, watch_may}
+use Rattle.edi_statuses.proofs.always.Timelines.{time_code_may, time_may}
 use Rattle.edi_statuses.proofs.always.OldDisks.{old_disk_may}
 use Rattle.edi_statuses.proofs.always.Puts.{put_may}
 
@@ -81,6 +83,12 @@ module _ (files : Contents) (d : Devices) (kernel : KernelLeft) where
   some_of (words.explore file o) =
       step_of (words.explore file o) (TextSteps (told_outside files d) file) (λ a. ExploresText a.0 a.1 o)
       (text_some files d file) (λ may. of_table (words.explore file o) files d kernel _ may (λ s after shown k h. h))
+  some_of (words.time file out o) =
+      step_of (words.time file out o) (RunSteps (told_outside files d) file o.choices) (λ a. Times (text a.0) o.turns a.1 out o.record_file)
+      (run_some files d file o.choices) (λ may. of_table (words.time file out o) files d kernel _ may (λ s after shown k h. h))
+  some_of (words.time_code file out o) =
+      step_of (words.time_code file out o) (ExecSteps (told_outside files d) file o.choices) (λ a. Times (code a.0) o.turns a.1 out o.record_file)
+      (exec_some files d file o.choices) (λ may. of_table (words.time_code file out o) files d kernel _ may (λ s after shown k h. h))
 
   open_of : (c : Command) → is_open c ≡ true → IsInRange c → HasBlocks d → MayEnd c files d kernel
   open_of (words.run file o) is range sized = run_may files d kernel sized file o
@@ -99,6 +107,8 @@ module _ (files : Contents) (d : Devices) (kernel : KernelLeft) where
   open_of (words.walk file choices turns) is range sized = walk_may files d kernel sized file choices turns
   open_of (words.watch file points_file out o) is range sized = watch_may files d kernel sized file points_file out o
   open_of (words.explore file o) is range sized = explore_may files d kernel file o
+  open_of (words.time file out o) is range sized = time_may files d kernel sized file out o
+  open_of (words.time_code file out o) is range sized = time_code_may files d kernel sized file out o
 
 -- THE LAWS
 pub some_step : SomeStep

@@ -116,6 +116,30 @@ returns-in-Exec-clause-untouched g c =
     (untouched _ _ (words.exec c.in-Exec.file.now (options_of c.in-Exec.options)) c.run_file-in-Exec.result.status refl refl refl refl (λ e. e)
     (λ none. absurd (true≢false none)) c.run_file-in-Exec.ensures.early)
 
+pub returns-in-Time-clause-size : goal.returns-in-Time-clause-size
+returns-in-Time-clause-size g c =
+    counts_so c.args.command (command.Time c.in-Time.file c.in-Time.out c.in-Time.options) c.time_file.result.status c.time_file.result.status _ _ _ _
+    c.in-Time.is refl (c.time_file.ensures.size, c.time_file.ensures.fits)
+
+pub returns-in-Time-clause-untouched : goal.returns-in-Time-clause-untouched
+returns-in-Time-clause-untouched g c =
+    untouched_so c.args.command (command.Time c.in-Time.file c.in-Time.out c.in-Time.options) c.time_file.result.status c.time_file.result.status _ _
+    c.in-Time.is refl
+    (untouched _ _ (words.time c.in-Time.file.now c.in-Time.out.now (options_of c.in-Time.options)) c.time_file.result.status refl refl refl refl (λ e. e)
+    (λ none. absurd (true≢false none)) c.time_file.ensures.early)
+
+pub returns-in-TimeCode-clause-size : goal.returns-in-TimeCode-clause-size
+returns-in-TimeCode-clause-size g c =
+    counts_so c.args.command (command.TimeCode c.in-TimeCode.file c.in-TimeCode.out c.in-TimeCode.options) c.time_file-in-TimeCode.result.status c.time_file-in-TimeCode.result.status _ _ _ _
+    c.in-TimeCode.is refl (c.time_file-in-TimeCode.ensures.size, c.time_file-in-TimeCode.ensures.fits)
+
+pub returns-in-TimeCode-clause-untouched : goal.returns-in-TimeCode-clause-untouched
+returns-in-TimeCode-clause-untouched g c =
+    untouched_so c.args.command (command.TimeCode c.in-TimeCode.file c.in-TimeCode.out c.in-TimeCode.options) c.time_file-in-TimeCode.result.status c.time_file-in-TimeCode.result.status _ _
+    c.in-TimeCode.is refl
+    (untouched _ _ (words.time_code c.in-TimeCode.file.now c.in-TimeCode.out.now (options_of c.in-TimeCode.options)) c.time_file-in-TimeCode.result.status refl refl refl refl (λ e. e)
+    (λ none. absurd (true≢false none)) c.time_file-in-TimeCode.ensures.early)
+
 pub returns-in-Watch-clause-size : goal.returns-in-Watch-clause-size
 returns-in-Watch-clause-size g c =
     counts_so c.args.command (command.Watch c.in-Watch.file c.in-Watch.stops c.in-Watch.out c.in-Watch.options) c.watch_file.result.status
