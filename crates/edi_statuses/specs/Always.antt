@@ -87,7 +87,6 @@ WordsGiveRanges = (given : List (List ℕ)) (c : Command) → command_of given �
 
 -- the commands of which the law speaks
 abbrev pub is_open : Command → Bool
-is_open (words.boot o) = false
 is_open (words.check file) = false
 is_open (words.explain file) = false
 is_open c = true

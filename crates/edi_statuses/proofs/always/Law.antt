@@ -23,6 +23,7 @@ use Rattle.edi_statuses.proofs.always.Plain.{compile_may, explore_may, get_may, 
 use Rattle.edi_statuses.proofs.always.Programs.{demo_may, exec_may, replay_may, run_may, walk_may, watch_may}
 use Rattle.edi_statuses.proofs.always.OldDisks.{old_disk_may}
 use Rattle.edi_statuses.proofs.always.Puts.{put_may}
+use Rattle.edi_statuses.proofs.always.Sessions.{boot_may}
 
 module _ (files : Contents) (d : Devices) (kernel : KernelLeft) where
   -- of a command with these steps and this effect
@@ -86,7 +87,7 @@ module _ (files : Contents) (d : Devices) (kernel : KernelLeft) where
   open_of (words.run file o) is range sized = run_may files d kernel sized file o
   open_of (words.replay file choices turns) is range sized = replay_may files d kernel sized file choices turns
   open_of (words.exec file o) is range sized = exec_may files d kernel sized file o
-  open_of (words.boot o) is range sized = absurd (true≢false (sym is))
+  open_of (words.boot o) is range sized = boot_may files d kernel sized o
   open_of (words.compile file out) is range sized = compile_may files d kernel file out
   open_of (words.newdisk blocks None) is range sized = new_disk_may files d kernel blocks range.0 range.1
   open_of (words.newdisk blocks (Some file)) is range sized = old_disk_may files d kernel blocks file range.0 range.1

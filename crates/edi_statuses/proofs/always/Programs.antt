@@ -37,7 +37,7 @@ use Rattle.edi_statuses.proofs.always.Walks.{walk_ends_so}
 -- ---- what the steps have found
 
 -- the drive is a valid image, and this is what goes on
-mounts_then : {A : Type 0} (o : Outside) (x a : A) → (Mounts o >>= λ done. Ready x) (goes a) → IfSome o.blocks (λ blocks. mount_fault_of blocks ≡ None) × (a ≡ x)
+pub mounts_then : {A : Type 0} (o : Outside) (x a : A) → (Mounts o >>= λ done. Ready x) (goes a) → IfSome o.blocks (λ blocks. mount_fault_of blocks ≡ None) × (a ≡ x)
 mounts_then o x a (inl never) = absurd never
 mounts_then o x a (inr h) = (h.1, h.2)
 
