@@ -83,6 +83,7 @@ module _ (files : Contents) (d : Devices) (kernel : KernelLeft) (sized : HasBloc
         decisive = e.decisive;
         files_after = with_kept (record_of o.record_file choices 0) files;
         devices_after = devices_at d last e.stands.gone (d.shown ++ bytes);
+        sized = λ h. e.stands.gone.image.image.sized;
         shown = bytes;
         left = kernel;
         comes = record {
