@@ -11,6 +11,7 @@ pub mod LogKept
 pub mod Meaning
 pub mod Mounting
 pub mod OfFiles
+pub mod Past
 pub mod PointsRead
 pub mod Shown
 pub mod TimedEnds

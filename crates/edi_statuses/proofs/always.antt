@@ -6,6 +6,9 @@ pub mod Images
 pub mod Calls
 pub mod Runs
 pub mod Executions
+pub mod Changes
+pub mod Lines
+pub mod Sessions
 pub mod Walks
 pub mod Plain
 pub mod Programs

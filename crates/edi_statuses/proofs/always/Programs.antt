@@ -37,7 +37,7 @@ use Rattle.edi_statuses.proofs.always.Walks.{walk_ends_so}
 -- ---- what the steps have found
 
 -- the drive is a valid image, and this is what goes on
-mounts_then : {A : Type 0} (o : Outside) (x a : A) → (Mounts o >>= λ done. Ready x) (goes a) → IfSome o.blocks (λ blocks. mount_fault_of blocks ≡ None) × (a ≡ x)
+pub mounts_then : {A : Type 0} (o : Outside) (x a : A) → (Mounts o >>= λ done. Ready x) (goes a) → IfSome o.blocks (λ blocks. mount_fault_of blocks ≡ None) × (a ≡ x)
 mounts_then o x a (inl never) = absurd never
 mounts_then o x a (inr h) = (h.1, h.2)
 
@@ -151,6 +151,7 @@ module _ (c : Command) (files : Contents) (d : Devices) (kernel : KernelLeft) wh
       decisive = decisive run.ending;
       files_after = with_kept (record_of record_file choices run.drawn) files;
       devices_after = devices_then;
+      sized = λ h. run.gone.image.image.sized;
       shown = bytes_shown;
       left = run.left;
       comes = record {
@@ -194,6 +195,7 @@ module _ (c : Command) (files : Contents) (d : Devices) (kernel : KernelLeft) wh
         decisive = decisive run.ending;
         files_after = with_kept kept files;
         devices_after = devices_then (text bytes) bound choices run;
+        sized = λ h. run.gone.image.image.sized;
         shown = bytes_shown (text bytes) bound choices run;
         left = run.left;
         comes = record {
@@ -228,6 +230,7 @@ module _ (c : Command) (files : Contents) (d : Devices) (kernel : KernelLeft) wh
             decisive = decisive ending;
             files_after = files;
             devices_after = after;
+            sized = λ h. so.1.image.image.sized;
             shown = shown;
             left = kernel;
             comes = record {
@@ -285,6 +288,7 @@ module _ (c : Command) (files : Contents) (d : Devices) (kernel : KernelLeft) wh
     decisive = decisive run.ending;
     files_after = with_kept (record_of record_file choices run.drawn) files;
     devices_after = demo_devices n bound choices run;
+    sized = λ h. h;
     shown = all_shown n bound choices run;
     left = run.left;
     comes = record {
