@@ -1,10 +1,11 @@
 //! The system of a program that is explored: its input, no disk, and no file.
 
-ghost use Rattle.std.specs.Prelude.{◌≡◌, ◌≤◌, ◌%◌, length, [], None, IfOk, OnOk};
+ghost use Rattle.std.specs.Prelude.{◌≡◌, ◌≤◌, ◌%◌, length, [], None, true, IfOk, OnOk};
 ghost use Rattle.std.specs.Option.{option_map};
 ghost use Rattle.edi_calls.specs.Calls.{accept, argument_words, call, close, display, find, fresh_buffer, more, print, read, remove, write};
+ghost use Rattle.edi_explored.specs.machine.Alike.{SameShown};
 ghost use Rattle.edi_explore.specs.Offline.{offline};
-ghost use Rattle.edi_explore.specs.Systems.{IsPlaceOf, IsSameElsewhere, Reaches, system_of};
+ghost use Rattle.edi_explore.specs.Systems.{FailsUsed, IsPlaceOf, IsSameElsewhere, Reaches, system_of};
 
 use edi_calls::{CallEnd, Calls, Outside};
 use std::alloc::{AllocError, Global};
@@ -22,6 +23,8 @@ pub(crate) struct Place {
     pub(crate) taken: usize,
     /// The bytes of the file that is being written, if one is.
     pub(crate) buffer: Option<Vec<u8>>,
+    /// What was shown, where output is looked at; else nothing.
+    pub(crate) shown: Vec<u8>,
 }
 
 /// Why a call is not answered.
@@ -38,7 +41,7 @@ pub(crate) enum Stop {
 /// A system with an input, and without disk and files.
 #[derive(Drop)]
 pub(crate) struct Offline {
-    alloc: Global,
+    pub(crate) alloc: Global,
     input: Vec<u8>,
     /// The number of bytes of the input that were taken.
     taken: usize,
@@ -87,27 +90,45 @@ impl Offline {
         })
     }
 
-    /// Where the system stands.
-    pub(crate) fn keep(&self) -> Result<Place, AllocError>
-        ensures { IfOk result (IsPlaceOf self.now) }
+    /// What was shown, if that is asked; else nothing.
+    pub(crate) fn shown_if(&self, asks: bool) -> Result<Vec<u8>, AllocError>
+        ensures { IfOk result (λ shown. SameShown asks shown.items self.now.shown.items) }
+    {
+        if !asks {
+            return Ok(Vec::new(self.alloc));
+        }
+        let shown = Vec::from_slice(self.alloc, &self.shown)?;
+        Ok(shown)
+    }
+
+    /// What was shown.
+    pub(crate) fn into_shown(self) -> Vec<u8>
+        ensures { result ≡ self.shown }
+    {
+        self.shown
+    }
+
+    /// Where the system stands: with what was shown, if that is asked.
+    pub(crate) fn keep(&self, asks: bool) -> Result<Place, AllocError>
+        ensures { IfOk result (IsPlaceOf asks self.now) }
     {
         Ok(Place {
             taken: self.taken,
             buffer: copied(self.alloc, &self.buffer)?,
+            shown: self.shown_if(asks)?,
         })
     }
 
-    /// Puts the system back where it stood, with nothing shown or printed and nothing failed.
+    /// Puts the system back where it stood, with what was kept as shown, nothing printed and nothing failed.
     pub(crate) fn put_back(&mut self, place: &Place) -> Result<(), AllocError>
-        ensures place { OnOk result (IsPlaceOf self.new place.now) }
-        ensures shown { OnOk result (self.new.shown.items ≡ []) }
+        ensures place { OnOk result (IsPlaceOf true self.new place.now) }
         ensures printed { OnOk result (self.new.printed.items ≡ []) }
         ensures working { OnOk result (self.new.failed ≡ None) }
         ensures input { self.new.input ≡ self.old.input }
     {
         self.buffer = copied(self.alloc, &place.buffer)?;
+        self.shown = Vec::from_slice(self.alloc, &place.shown)?;
         self.taken = place.taken;
-        self.shown.clear();
         self.printed.clear();
         self.failed = None;
         Ok(())
@@ -116,6 +137,7 @@ impl Offline {
     /// The next byte of the input.
     fn accept(&mut self) -> Result<Option<u16>, Stop>
         ensures exact { Reaches (accept (system_of self.old)) result (system_of self.old) (system_of self.new) }
+        ensures used { FailsUsed 1 result }
         ensures rest { IsSameElsewhere self.old self.new }
     {
         if self.taken >= self.input.len() {
@@ -129,6 +151,7 @@ impl Offline {
     /// Shows a character.
     fn display(&mut self, word: u16) -> Result<Option<u16>, Stop>
         ensures exact { Reaches (display word (system_of self.old)) result (system_of self.old) (system_of self.new) }
+        ensures used { FailsUsed 2 result }
         ensures rest { IsSameElsewhere self.old self.new }
     {
         match self.shown.push(character(word)) {
@@ -140,6 +163,7 @@ impl Offline {
     /// Prints a character.
     fn print(&mut self, word: u16) -> Result<Option<u16>, Stop>
         ensures exact { Reaches (print word (system_of self.old)) result (system_of self.old) (system_of self.new) }
+        ensures used { FailsUsed 3 result }
         ensures rest { IsSameElsewhere self.old self.new }
     {
         match self.printed.push(character(word)) {
@@ -151,6 +175,7 @@ impl Offline {
     /// An empty file is begun.
     fn fresh_buffer(&mut self) -> Result<Option<u16>, Stop>
         ensures exact { Reaches (fresh_buffer (system_of self.old)) result (system_of self.old) (system_of self.new) }
+        ensures used { FailsUsed 7 result }
         ensures rest { IsSameElsewhere self.old self.new }
     {
         self.buffer = Some(Vec::new(self.alloc));
@@ -160,6 +185,7 @@ impl Offline {
     /// Writes a character to the file.
     fn write(&mut self, word: u16) -> Result<Option<u16>, Stop>
         ensures exact { Reaches (write word (system_of self.old)) result (system_of self.old) (system_of self.new) }
+        ensures used { FailsUsed 8 result }
         ensures rest { IsSameElsewhere self.old self.new }
     {
         let Some(bytes) = &mut self.buffer else {
@@ -176,7 +202,8 @@ impl Offline {
 
     /// No file is stored: there is no disk.
     fn close(&self, words: &[u16]) -> Result<Option<u16>, Stop>
-        ensures { Reaches (close words.now (system_of self.now)) result (system_of self.now) (system_of self.now) }
+        ensures exact { Reaches (close words.now (system_of self.now)) result (system_of self.now) (system_of self.now) }
+        ensures used { FailsUsed 9 result }
     {
         if self.buffer.is_none() {
             return Err(Stop::NoFile);
@@ -186,14 +213,16 @@ impl Offline {
 
     /// No file is found: there is none.
     fn find(&self, words: &[u16]) -> Result<Option<u16>, Stop>
-        ensures { Reaches (find words.now (system_of self.now)) result (system_of self.now) (system_of self.now) }
+        ensures exact { Reaches (find words.now (system_of self.now)) result (system_of self.now) (system_of self.now) }
+        ensures used { FailsUsed 4 result }
     {
         Ok(Some(0))
     }
 
     /// No file is removed: there is none.
     fn remove(&self, words: &[u16]) -> Result<Option<u16>, Stop>
-        ensures { Reaches (remove words.now (system_of self.now)) result (system_of self.now) (system_of self.now) }
+        ensures exact { Reaches (remove words.now (system_of self.now)) result (system_of self.now) (system_of self.now) }
+        ensures used { FailsUsed 10 result }
     {
         Ok(Some(0))
     }
@@ -204,6 +233,7 @@ impl Offline {
         requires to { number ≤ 10 }
         requires arguments { length args.now ≡ argument_words number }
         ensures exact { Reaches (call number args.now (system_of self.old)) result (system_of self.old) (system_of self.new) }
+        ensures used { FailsUsed number result }
         ensures rest { IsSameElsewhere self.old self.new }
     {
         match number {

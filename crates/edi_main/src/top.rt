@@ -10,7 +10,7 @@ ghost use Rattle.edi_commands.specs.disk.OnDisk.{HasCauseOnDisk, MeansOnDisk};
 ghost use Rattle.edi_statuses.specs.Outside.{lent, outside_of, Shows};
 ghost use Rattle.edi_statuses.specs.Counts.{counts_of, HasCause, NoneFalls};
 ghost use Rattle.edi_statuses.specs.EachObject.{command_does, handed, is_before_format, is_silent, uses_files};
-ghost use Rattle.edi_statuses.specs.EachObject.{CountsBlocks, CountsNew, LeavesEach, UnusedStay};
+ghost use Rattle.edi_statuses.specs.EachObject.{CountsBlocks, CountsNew, LeavesEach, UnmountedStay, UnusedStay};
 ghost use Rattle.edi_statuses.specs.Explored.{is_exploration};
 ghost use Rattle.edi_statuses.specs.Means.{EndsWith};
 ghost use Rattle.edi_statuses.specs.Decided.{Came};
@@ -19,7 +19,7 @@ use edi_commands::boot::boot;
 use edi_commands::code::list;
 use edi_commands::disk::{get, new_disk, new_disk_from, put};
 use edi_commands::run::Form::{Code, Text};
-use edi_commands::run::{demonstrate, run_file, walk_file, watch_file};
+use edi_commands::run::{demonstrate, run_file, time_file, walk_file, watch_file};
 use edi_commands::text::{check, compile_file, explain_file, explore_file};
 use edi_explore::Watcher;
 use edi_host::{Drive, Files, Sink, Source};
@@ -99,6 +99,9 @@ fn perform<F: Files, D: Drive, S: Source, T: Sink, P: Sink, W: Watcher>(
     ensures untouched { UnusedStay (Some (view command.entry)) result.status
         (handed files.old drive.old input.old terminal.old printer.old kernel.old)
         (handed files.new drive.new input.new terminal.new printer.new kernel.new) }
+    ensures unmounted { UnmountedStay (Some (view command.entry)) result.status
+        (handed files.old drive.old input.old terminal.old printer.old kernel.old)
+        (handed files.new drive.new input.new terminal.new printer.new kernel.new) }
     ensures no_terminal { command_does is_silent (Some (view command.entry)) ≡ true → terminal.new ≡ terminal.old }
     ensures unwatched { command_does is_exploration (Some (view command.entry)) ≡ false → watcher.new ≡ watcher.old }
 {
@@ -156,6 +159,12 @@ fn perform<F: Files, D: Drive, S: Source, T: Sink, P: Sink, W: Watcher>(
         Command::Explore { file, options } => {
             explore_file(alloc, file, options, files, input, terminal, kernel, watcher)
         }
+        Command::Time { file, out, options } => time_file(
+            alloc, Text, file, out, options, files, drive, input, terminal, printer, kernel,
+        ),
+        Command::TimeCode { file, out, options } => time_file(
+            alloc, Code, file, out, options, files, drive, input, terminal, printer, kernel,
+        ),
     }
 }
 
@@ -184,6 +193,9 @@ fn obey<F: Files, D: Drive, S: Source, T: Sink, P: Sink, W: Watcher>(
     ensures size { CountsBlocks (command_of (map string_bytes words.now)) result.status (D.count drive.old) (D.count drive.new)
         (D.faults drive.old) (D.faults drive.new) }
     ensures untouched { UnusedStay (command_of (map string_bytes words.now)) result.status
+        (handed files.old drive.old input.old terminal.old printer.old kernel.old)
+        (handed files.new drive.new input.new terminal.new printer.new kernel.new) }
+    ensures unmounted { UnmountedStay (command_of (map string_bytes words.now)) result.status
         (handed files.old drive.old input.old terminal.old printer.old kernel.old)
         (handed files.new drive.new input.new terminal.new printer.new kernel.new) }
     ensures no_terminal { command_does is_silent (command_of (map string_bytes words.now)) ≡ true → terminal.new ≡ terminal.old }
@@ -248,6 +260,10 @@ pub fn edison<F: Files, D: Drive, S: Source, T: Sink, P: Sink, W: Watcher>(
     // Objects that a command has no use for, and those that it has not come to, are not touched, whatever they tell; words that are
     // refused touch none but the terminal.
     ensures untouched { UnusedStay (command_of (map string_bytes words.now)) result
+        (handed files.old drive.old input.old terminal.old printer.old kernel.old)
+        (handed files.new drive.new input.new terminal.new printer.new kernel.new) }
+    // And where the drive is no valid image, what a command uses after it is not touched.
+    ensures unmounted { UnmountedStay (command_of (map string_bytes words.now)) result
         (handed files.old drive.old input.old terminal.old printer.old kernel.old)
         (handed files.new drive.new input.new terminal.new printer.new kernel.new) }
     ensures no_terminal { result ≡ Status.Ok → command_does is_silent (command_of (map string_bytes words.now)) ≡ true

@@ -1,6 +1,6 @@
--- Computed rows. Words of the command `explore`, and the options that are its own.
+-- Computed rows. Words of the command `explore`, and the options that are its own. And the words of a run with a timeline.
 use Rattle.std.specs.Prelude.{◌≡◌, [], ◌∷◌, Some, None, codes, refl}
-use Rattle.edi_words.specs.Words.{command_of, explore, run, nowhere}
+use Rattle.edi_words.specs.Words.{command_of, explore, file, nowhere, run, time, time_code}
 
 pub what_is_not_given : command_of (codes "explore" ∷ codes "p" ∷ []) ≡ Some (explore (codes "p") (record {
   states = 1000000;
@@ -69,3 +69,45 @@ shown_of_no_walk = refl
 pub others_are_taken : command_of (codes "run" ∷ codes "p" ∷ codes "--turns" ∷ codes "5" ∷ [])
     ≡ Some (run (codes "p") (record { turns = 5; choices = nowhere; record_file = None }))
 others_are_taken = refl
+
+-- ---- a timeline
+
+-- the place of the option among the words does not matter
+pub timed_run : command_of (codes "--timeline" ∷ codes "t" ∷ codes "run" ∷ codes "p" ∷ codes "--record" ∷ codes "r" ∷ [])
+    ≡ Some (time (codes "p") (codes "t") (record { turns = 1000000; choices = nowhere; record_file = Some (codes "r") }))
+timed_run = refl
+
+pub timed_replay : command_of (codes "replay" ∷ codes "p" ∷ codes "c" ∷ codes "--timeline" ∷ codes "t" ∷ codes "--turns" ∷ codes "9" ∷ [])
+    ≡ Some (time (codes "p") (codes "t") (record { turns = 9; choices = file (codes "c"); record_file = None }))
+timed_replay = refl
+
+pub timed_code : command_of (codes "exec" ∷ codes "p" ∷ codes "--timeline" ∷ codes "t" ∷ [])
+    ≡ Some (time_code (codes "p") (codes "t") (record { turns = 1000000; choices = nowhere; record_file = None }))
+timed_code = refl
+
+-- it is given once, with a name
+pub two_timelines : command_of (codes "run" ∷ codes "p" ∷ codes "--timeline" ∷ codes "t" ∷ codes "--timeline" ∷ codes "t" ∷ []) ≡ None
+two_timelines = refl
+
+pub no_timeline : command_of (codes "run" ∷ codes "p" ∷ codes "--timeline" ∷ []) ≡ None
+no_timeline = refl
+
+-- a replay takes no record with it either
+pub no_record : command_of (codes "replay" ∷ codes "p" ∷ codes "c" ∷ codes "--timeline" ∷ codes "t" ∷ codes "--record" ∷ codes "r" ∷ []) ≡ None
+no_record = refl
+
+-- no other command takes it
+pub not_explore : command_of (codes "explore" ∷ codes "p" ∷ codes "--timeline" ∷ codes "t" ∷ []) ≡ None
+not_explore = refl
+
+pub not_watch : command_of (codes "watch" ∷ codes "p" ∷ codes "s" ∷ codes "l" ∷ codes "--timeline" ∷ codes "t" ∷ []) ≡ None
+not_watch = refl
+
+pub not_walk : command_of (codes "walk" ∷ codes "p" ∷ codes "c" ∷ codes "--timeline" ∷ codes "t" ∷ []) ≡ None
+not_walk = refl
+
+pub not_demo : command_of (codes "demo" ∷ codes "5" ∷ codes "--timeline" ∷ codes "t" ∷ []) ≡ None
+not_demo = refl
+
+pub not_boot : command_of (codes "boot" ∷ codes "--timeline" ∷ codes "t" ∷ []) ≡ None
+not_boot = refl

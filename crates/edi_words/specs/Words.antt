@@ -48,6 +48,9 @@ pub data Command : Type 0 where
   walk : (file choices : List ℕ) → (turns : ℕ) → Command
   watch : (file stops out : List ℕ) → Options → Command
   explore : (file : List ℕ) → ExploreOptions → Command
+  -- a run with a timeline: `run FILE --timeline OUT` and `replay FILE CHOICES --timeline OUT`, and `exec CODEFILE --timeline OUT`
+  time : (file out : List ℕ) → Options → Command
+  time_code : (file out : List ℕ) → Options → Command
 
 -- ---- operands and options
 
@@ -63,7 +66,8 @@ is_plain (b ∷ more) = not (b == 45)
 
 abbrev pub option_names : List Text
 option_names =
-    codes "--turns" ∷ codes "--choices" ∷ codes "--seed" ∷ codes "--record" ∷ codes "--from" ∷ codes "--states" ∷ codes "--shown" ∷ []
+    codes "--turns" ∷ codes "--choices" ∷ codes "--seed" ∷ codes "--record" ∷ codes "--from" ∷ codes "--states" ∷ codes "--shown"
+    ∷ codes "--timeline" ∷ []
 
 abbrev pub is_option_name : Text → Bool
 is_option_name word = list_any (bytes_eq word) option_names
@@ -72,7 +76,7 @@ abbrev pub before_parts : Part → Option (List Part) → Option (List Part)
 before_parts part None = None
 before_parts part (Some parts) = Some (part ∷ parts)
 
--- A word is an operand, or one of the seven option names, which the word behind it follows as its value. Every other word
+-- A word is an operand, or one of the option names, which the word behind it follows as its value. Every other word
 -- is refused: an empty one, one that begins with `-` and is no option name, and an option name without a value.
 abbrev pub parts_of : List Text → Option (List Part)
 parts_of [] = Some []
@@ -104,6 +108,7 @@ pub record Given : Type 0 where
   pub old_disks : List (List ℕ)
   pub states : List (List ℕ)
   pub shown : List (List ℕ)
+  pub timelines : List (List ℕ)
 
 abbrev pub given_of : List Part → Given
 given_of parts = record {
@@ -115,13 +120,14 @@ given_of parts = record {
   old_disks = values_of (codes "--from") parts;
   states = values_of (codes "--states") parts;
   shown = values_of (codes "--shown") parts;
+  timelines = values_of (codes "--timeline") parts;
 }
 
 abbrev pub at_most : ℕ → List Text → Bool
 at_most n values = nat_le (length values) n
 
--- The options but for `--states` and `--shown` are only those that a command takes: `--turns` at most so many times, `--choices`, `--seed` and
--- `--record` each at most so many times, and `--from` at most so many times. No command takes one twice.
+-- The options but for `--states`, `--shown` and `--timeline` are only those that a command takes: `--turns` at most so many times, `--choices`,
+-- `--seed` and `--record` each at most so many times, and `--from` at most so many times. No command takes one twice.
 abbrev pub takes : (turns others from : ℕ) → Given → Bool
 takes turns others from g =
     at_most turns g.turns && at_most others g.choices && at_most others g.seeds && at_most others g.record_files
@@ -315,10 +321,26 @@ named name operands g =
     if bytes_eq name (codes "explore") then option_map (λ p. explore p.0 p.1) (explored_file operands g)
     else (if has_no_exploring g then named_plain name operands g else None)
 
--- the first operand names the command, the others are its own
+-- The command with a timeline of this name. Only runs of files have one; a replay is then a run with the choices of its file.
+abbrev pub timed : (out : Text) → Command → Option Command
+timed out (run file_ o) = Some (time file_ out o)
+timed out (replay file_ choices turns) = Some (time file_ out (record { turns = turns; choices = file choices; record_file = None }))
+timed out (exec file_ o) = Some (time_code file_ out o)
+timed out c = None
+
+abbrev pub named_timed : (out name : Text) → List Text → Given → Option Command
+named_timed out name operands g = option_and_then (timed out) (named name operands g)
+
+-- `--timeline` is not given
+abbrev pub has_no_timeline : Given → Bool
+has_no_timeline g = at_most 0 g.timelines
+
+-- The first operand names the command, the others are its own. `--timeline` is given at most once.
 abbrev pub command_by : List Text → Given → Option Command
 command_by [] g = None
-command_by (name ∷ operands) g = named name operands g
+command_by (name ∷ operands) g =
+    if has_no_timeline g then named name operands g
+    else option_and_then (λ out. named_timed out name operands g) (one_operand g.timelines)
 
 abbrev pub command_in : Given → Option Command
 command_in g = command_by g.operands g

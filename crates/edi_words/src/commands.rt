@@ -113,4 +113,16 @@ pub enum Command<'a> {
         file: &'a str,
         options: ExploreOptions<'a>,
     },
+    /// `run FILE --timeline OUT` and `replay FILE CHOICES --timeline OUT`: runs the program of a text and keeps a timeline.
+    Time {
+        file: &'a str,
+        out: &'a str,
+        options: Options<'a>,
+    },
+    /// `exec CODEFILE --timeline OUT`: runs the program of a code file and keeps a timeline.
+    TimeCode {
+        file: &'a str,
+        out: &'a str,
+        options: Options<'a>,
+    },
 }

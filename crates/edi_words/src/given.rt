@@ -18,6 +18,7 @@ pub(crate) struct Given<'m, 'a> {
     pub(crate) old_disks: &'m [&'a str],
     pub(crate) states: &'m [&'a str],
     pub(crate) shown: &'m [&'a str],
+    pub(crate) timelines: &'m [&'a str],
 }
 
 fn are_digits(word: &[u8]) -> bool
@@ -106,8 +107,8 @@ fn at_most(most: usize, values: &[&str]) -> bool
 }
 
 impl<'m, 'a> Given<'m, 'a> {
-    /// Whether of the options but for `--states` and `--shown` only these are given, each at most so many times: `--turns`; `--choices`,
-    /// `--seed` and `--record`; and `--from`.
+    /// Whether of the options but for `--states`, `--shown` and `--timeline` only these are given, each at most so many times: `--turns`;
+    /// `--choices`, `--seed` and `--record`; and `--from`.
     pub(crate) fn takes(&self, turns: usize, others: usize, from: usize) -> bool
         ensures { result ≡ words.takes turns others from (given_view self.now) }
     {
@@ -123,6 +124,13 @@ impl<'m, 'a> Given<'m, 'a> {
         ensures { result ≡ words.has_no_exploring (given_view self.now) }
     {
         at_most(0, self.states) && at_most(0, self.shown)
+    }
+
+    /// Whether `--timeline` is not given.
+    pub(crate) fn has_no_timeline(&self) -> bool
+        ensures { result ≡ words.has_no_timeline (given_view self.now) }
+    {
+        at_most(0, self.timelines)
     }
 
     /// Whether only `--states`, `--shown`, `--turns` and `--record` are given, each at most once.

@@ -36,6 +36,7 @@ fn is_option_name(word: &str) -> bool
         || word == "--from"
         || word == "--states"
         || word == "--shown"
+        || word == "--timeline"
 }
 
 /// Whether the words are operands and options, each with its value.
@@ -88,6 +89,7 @@ fn parser<'a>(alloc: Global) -> Result<clap::Command<'a>, AllocError>
         .arg(option_of(alloc, "from"))?
         .arg(option_of(alloc, "states"))?
         .arg(option_of(alloc, "shown"))?
+        .arg(option_of(alloc, "timeline"))?
         .arg(operands_of(alloc))
 }
 
@@ -112,6 +114,7 @@ fn given<'m, 'a>(matches: &'m ArgMatches<'a>, none: &'m [&'a str]) -> Given<'m, 
         old_disks: values(matches, none, "from"),
         states: values(matches, none, "states"),
         shown: values(matches, none, "shown"),
+        timelines: values(matches, none, "timeline"),
     }
 }
 
