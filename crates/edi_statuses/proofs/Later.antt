@@ -118,9 +118,9 @@ module _ (b m : Outside) (y : Option (List ℕ)) (still : StillTold m.shown y) w
             kernel steps (λ a. watches_later b m y still a.0 a.2 options.turns a.1 out options.record_file s shown kernel);
         wants = watched_wants b m y still file points_file out options shown kernel;
         files = watched_lost b m y still file points_file out options shown kernel;
-        drive = broke;
-        input = broke;
-        output = broke;
+        drive = broke status.DriveFault;
+        input = broke status.InputFault;
+        output = broke status.OutputFault;
       }
 
   walk_is : (file choices : List ℕ) (turns : ℕ) (shown : List ℕ) (kernel : Lent) → Later (words.walk file choices turns) shown kernel

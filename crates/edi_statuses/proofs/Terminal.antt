@@ -18,7 +18,7 @@ use Rattle.edi_statuses.specs.declared.status.Status.{Status}
 use Rattle.edi_statuses.specs.Outside.{Outside, seen, Lent, KernelLeft, Kept, Devices, DevicesAreAt, devices_of, devices_with, system_on}
 use Rattle.edi_statuses.specs.Steps.{AfterStep, goes, stops, ◌>>=◌, Ready, Fetches, GivesChoices, ReadsChoices, ChoicesAreThere, Accepts, Mounts, Loads}
 use Rattle.edi_statuses.specs.Steps.{ChecksOld, FindsPoints, FitsDisk, HasRoom}
-use Rattle.edi_statuses.specs.Executions.{Runnable, FailedAt, HasCall, HasMoment, HasRun, StandsAt, BrokeRun, BrokeWatch}
+use Rattle.edi_statuses.specs.Executions.{Runnable, FailedAt, HasCall, HasRun, StandsAt, BrokeRun}
 use Rattle.edi_session.specs.declared.end.SessionEnd.{SessionEnd}
 use Rattle.edi_session.specs.Session.{IsMomentOfSession}
 use Rattle.edi_statuses.specs.Sessions.{BootSteps, BrokeSession, HasEnded, EndedWhole, HoldsSession, shell_on}
@@ -345,12 +345,6 @@ module _ (b m : Outside) (y : Option (List ℕ)) (still : StillTold m.shown y) w
   broke_later s program bound choices shown told =
       told_later (λ d e. FailedAt s (HasCall program (system_on d) bound choices) d e shown)
       (failed_silent s (λ d. HasCall program (system_on d) bound choices) shown) told
-
-  pub broke_watch_later : (program : Runnable) (bound : ℕ) (choices : Choices) (shown : List ℕ) → BrokeWatch program bound choices seen_then m shown
-      → BrokeWatch program bound choices seen_now now shown
-  broke_watch_later program bound choices shown told =
-      told_later (λ d e. StandsAt (HasMoment program (system_on d) bound choices) d e shown)
-      (stands_silent (λ d. HasMoment program (system_on d) bound choices) shown) told
 
   -- ---- sessions
 

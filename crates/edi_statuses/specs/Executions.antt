@@ -13,7 +13,7 @@ use Rattle.edi_meaning.specs.Bad.{IsNoBad}
 use Rattle.edi_target.specs.Check.{CodeParts}
 use Rattle.edi_target.specs.Fetch.{fetch}
 use Rattle.edi_target.specs.Mach.{Ends, Machine}
-use Rattle.edi_texts.specs.Run.{IsCallOf, IsCallOfCode, IsCodeFor, IsMomentOf, IsMomentOfCode, IsRunOf, IsRunOfCode}
+use Rattle.edi_texts.specs.Run.{IsCallOf, IsCallOfCode, IsCodeFor, IsRunOf, IsRunOfCode}
 use Rattle.edi_trace.specs.Drawn.{most_kept}
 use Rattle.edi_trace.specs.Lines.{written}
 use Rattle.edi_statuses.specs.declared.status.Status.{Status}
@@ -30,10 +30,6 @@ pub data Runnable : Type 0 where
 abbrev pub HasOutcome : Runnable → State → (bound : ℕ) → Choices → Outcome → Type 0
 HasOutcome (text bytes) system bound choices o = IsRunOf bytes system bound choices o
 HasOutcome (code parts) system bound choices o = IsRunOfCode parts system bound choices o
-
-abbrev pub HasMoment : Runnable → State → (bound : ℕ) → Choices → State → Type 0
-HasMoment (text bytes) system bound choices moment = IsMomentOf bytes system bound choices moment
-HasMoment (code parts) system bound choices moment = IsMomentOfCode parts system bound choices moment
 
 -- in its execution the second state of the system is the one that the next call leaves after the first
 abbrev pub HasCall : Runnable → State → (bound : ℕ) → Choices → (before next : State) → Type 0
@@ -122,17 +118,12 @@ abbrev pub BrokeRun : Status → Runnable → (bound : ℕ) → Choices → Outs
 BrokeRun s program bound choices before after shown =
     WhereTold (devices_of before) (devices_of after) (λ d e. FailedAt s (HasCall program (system_on d) bound choices) d e shown)
 
--- The devices are at one moment of an execution, a walk or a session, at which just these bytes were shown and printed. A change of the files
+-- The devices are at one moment of a walk or a session, at which just these bytes were shown and printed. A change of the files
 -- in which the drive failed leaves them at the moment before it or at the one after it.
 pub record StandsAt (Comes : State → Type 0) (d e : Devices) (shown : List ℕ) : Type 0 where
   pub moment : State
   pub comes : Comes moment
   pub at : DevicesAreAt moment d e shown
-
--- so where a program is watched
-abbrev pub BrokeWatch : Runnable → (bound : ℕ) → Choices → Outside → Outside → (shown : List ℕ) → Type 0
-BrokeWatch program bound choices before after shown =
-    WhereTold (devices_of before) (devices_of after) (λ d e. StandsAt (HasMoment program (system_on d) bound choices) d e shown)
 
 -- ---- the record
 

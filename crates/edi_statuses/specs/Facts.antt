@@ -10,7 +10,7 @@ use Rattle.edi_statuses.specs.declared.status.Status.{Status}
 use Rattle.edi_statuses.specs.declared.status.Status.TheVariants as status
 use Rattle.edi_statuses.specs.Outside.{Outside, Lent}
 use Rattle.edi_statuses.specs.Steps.{AfterStep, ◌>>=◌, Fetches, ReadsChoices, FitsDisk}
-use Rattle.edi_statuses.specs.Executions.{Runnable, text, code, BrokeRun, BrokeWatch}
+use Rattle.edi_statuses.specs.Executions.{Runnable, text, code, BrokeRun}
 use Rattle.edi_statuses.specs.Sessions.{BootSteps, BrokeSession, EndedUnkept, EndedWhole}
 use Rattle.edi_statuses.specs.Commands.{IsNothing, OnItsOwn, RunSteps, ExecSteps, WatchSteps, TextSteps, OldSteps, PutSteps, GetSteps, ListSteps, DemoSteps}
 use Rattle.edi_statuses.specs.Broken.{RanWhole, RanUnkept, AtRecord, HasNotBegun, ChangesDrive, ArePutInPart, IsOpen, BrokeDemo}
@@ -230,14 +230,9 @@ facts_of (words.walk file choices turns) =
       output_failed = broken;
     }
 facts_of (words.watch file points_file out o) =
-    let broken : Left = λ before after shown kernel.
-    HasBegun (WatchSteps before file points_file o.choices) (λ a. BrokeWatch (text a.0) o.turns a.1 before after shown) in
-    record (on_devices (file_named file) o.record_file) {
-      asks_drive = λ before. WatchAsks before file points_file o.choices;
+    record (program_run file (λ before. WatchAsks before file points_file o.choices) (λ before. WatchSteps before file points_file o.choices) (λ a. text a.0) (λ a. a.1)
+    o.turns o.record_file) {
       keeps = out ∷ [];
-      drive_failed = broken;
-      input_failed = broken;
-      output_failed = broken;
       no_memory = λ before after shown kernel.
           IsNothing before after shown kernel
           ⊎ HasBegun (WatchSteps before file points_file o.choices)

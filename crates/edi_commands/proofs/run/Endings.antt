@@ -5,7 +5,7 @@ use Rattle.edi_calls.specs.declared.ends.Outside as failing
 use Rattle.edi_calls.specs.declared.ends.Outside.TheVariants as object
 use Rattle.edi_calls.specs.Choice.{Choices}
 use Rattle.edi_calls.specs.Outcome as outcome
-use Rattle.edi_execute.specs.Objects.{HasRun, StandsAtCall, StandsAtMoment}
+use Rattle.edi_execute.specs.Objects.{HasRun, StandsAtCall}
 use Rattle.edi_image.specs.declared.faults.MountFault.{MountFault}
 use Rattle.edi_kernel.specs.declared.ends.Ending.{Ending}
 use Rattle.edi_kernel.specs.declared.ends.Ending.TheVariants as ending
@@ -15,7 +15,7 @@ use Rattle.edi_statuses.specs.declared.status.Status.{Status}
 use Rattle.edi_statuses.specs.Counts.{Counts, HasCause}
 use Rattle.edi_statuses.specs.Outside.{Outside, seen, system_on, with_kept, Keeps, SameFiles, Lent}
 use Rattle.edi_statuses.specs.Steps.{goes, Mounts}
-use Rattle.edi_statuses.specs.Executions.{Runnable, FailedAt, HasCall, HasCode, HasMoment, StandsAt, Ran, BrokeRun, BrokeWatch, object_status, record_of, status_of}
+use Rattle.edi_statuses.specs.Executions.{Runnable, FailedAt, HasCall, HasCode, Ran, BrokeRun, object_status, record_of, status_of}
 use Rattle.edi_statuses.specs.Executions as statuses
 use Rattle.edi_statuses.specs.Commands.{Runs}
 use Rattle.edi_statuses.specs.Broken.{RanWhole}
@@ -23,7 +23,7 @@ use Rattle.edi_commands.specs.steps.OnFiles.{RecordEnd, RecordStep}
 use Rattle.edi_commands.specs.steps.NotMounted.{mount_status}
 use Rattle.edi_commands.specs.run.CodeRan.{CodeRan, RanCode, ending_status}
 use Rattle.edi_commands.proofs.run.Mounting.{IsLeft, IsUnmounted, left_due, left_each, left_shows, mounts, shown_in, unkept, unmounted_by, unmounted_each}
-use Rattle.edi_commands.proofs.run.Left.{devices_told, told_by, ending_of, has_run, stands, stands_watched, IsNoFault}
+use Rattle.edi_commands.proofs.run.Left.{devices_told, told_by, ending_of, has_run, stands, IsNoFault}
 use Rattle.edi_statuses.proofs.Told.{same_told, still, shows_nothing}
 
 -- ---- the drive is not mounted
@@ -72,13 +72,6 @@ module _ (parts : CodeParts) (bound : ℕ) (old : Drawn) (none : old.drawn ≡ 0
       devices_told before after shown_now (StandsAtCall parts bound old failed)
       (λ d e. FailedAt (object_status failed) (HasCall program (system_on d) bound old.source) d e shown_now)
       left.told.valid (left_shows due before after left) (stands program parts is bound old none shown_now failed) at
-
-  -- so of a watched run, whose moment is known
-  pub broke_watch : WhereTold (told_by before) (told_by after) (StandsAtMoment parts bound old) → (program : Runnable) → HasCode program parts
-      → BrokeWatch program bound old.source (seen before after) after shown_now
-  broke_watch moment program is =
-      devices_told before after shown_now (StandsAtMoment parts bound old) (λ d e. StandsAt (HasMoment program (system_on d) bound old.source) d e shown_now)
-      left.told.valid (left_shows due before after left) (stands_watched program parts is bound old none shown_now) moment
 
   broke_by : (failed : failing.Outside) (name : Option (List ℕ)) (kernel : Lent) → SameFiles (seen before after) after → (program : Runnable)
       → BrokeRun (object_status failed) program bound old.source (seen before after) after shown_now

@@ -8,7 +8,7 @@ use Rattle.edi_calls.specs.Outcome as outcome
 use Rattle.edi_calls.specs.Outcome.{Outcome, outcome_of}
 use Rattle.edi_calls.specs.State.{State}
 use Rattle.edi_execute.specs.Objects as execute
-use Rattle.edi_execute.specs.Objects.{Contents, Show, StandsAtCall, StandsAtMoment, contents_with}
+use Rattle.edi_execute.specs.Objects.{Contents, Show, StandsAtCall, contents_with}
 use Rattle.edi_image.specs.Image.{mount_fault_of}
 use Rattle.edi_kernel.specs.declared.ends.Ending.{Ending}
 use Rattle.edi_kernel.specs.declared.ends.Ending.TheVariants as ending
@@ -19,13 +19,13 @@ use Rattle.edi_system.specs.Parts.{IsValid}
 use Rattle.edi_system.specs.State.{all_told}
 use Rattle.edi_target.specs.Check.{CodeParts}
 use Rattle.edi_target.specs.Fetch.{fetch}
-use Rattle.edi_target.specs.Moments.{history_from_start, ComesThrough}
-use Rattle.edi_texts.specs.Run.{IsCallOfCode, IsMomentOfCode, IsRunOfCode}
+use Rattle.edi_target.specs.Moments.{history_from_start}
+use Rattle.edi_texts.specs.Run.{IsCallOfCode, IsRunOfCode}
 use Rattle.edi_texts.proofs.Executions.{runs_are_never_bad}
 use Rattle.edi_trace.specs.Drawn.{Drawn}
 use Rattle.edi_statuses.specs.Outside.{Outside, Devices, devices_of, devices_with, seen, still_told, system_on, DevicesAreAt, Shows, kernel_of}
-use Rattle.edi_commands.proofs.run.Blocks.{call_blocks, end_blocks, moment_blocks}
-use Rattle.edi_statuses.specs.Executions.{Runnable, text, code, FailedAt, HasCall, HasCode, HasMoment, HasOutcome, HasRun, NeverBad, StandsAt, StoreIs, object_status}
+use Rattle.edi_commands.proofs.run.Blocks.{call_blocks, end_blocks}
+use Rattle.edi_statuses.specs.Executions.{Runnable, text, code, FailedAt, HasCall, HasCode, HasOutcome, HasRun, NeverBad, StoreIs, object_status}
 
 -- ---- what the four objects tell
 
@@ -112,11 +112,6 @@ has_outcome : (program : Runnable) (parts : CodeParts) (system : State) (bound :
 has_outcome (text bytes) parts system bound choices o is run = (is.same system bound choices o).0 run
 has_outcome (code own) parts system bound choices o is run = subst (λ p. IsRunOfCode p system bound choices o) is run
 
-has_moment : (program : Runnable) (parts : CodeParts) (system : State) (bound : ℕ) (choices : Choices) (moment : State) → HasCode program parts
-    → IsMomentOfCode parts system bound choices moment → HasMoment program system bound choices moment
-has_moment (text bytes) parts system bound choices moment is through = (is.through system bound choices moment).0 through
-has_moment (code own) parts system bound choices moment is through = subst (λ p. IsMomentOfCode p system bound choices moment) is through
-
 has_call : (program : Runnable) (parts : CodeParts) (system : State) (bound : ℕ) (choices : Choices) (before next : State) → HasCode program parts
     → IsCallOfCode parts system bound choices before next → HasCall program system bound choices before next
 has_call (text bytes) parts system bound choices before next is calls = (is.calls system bound choices before next).0 calls
@@ -196,14 +191,3 @@ module _ (program : Runnable) (parts : CodeParts) (is : HasCode program parts) (
           | inr then_ ↦ inr (at_state h.next x y valid shows both.1 then_)
         ];
       }
-
-  -- so where only the moment is known
-  pub stands_watched : (x y : Contents) → mount_fault_of y.disk ≡ None → y.shown ≡ x.shown ++ shown → StandsAtMoment parts bound old x y
-      → StandsAt (HasMoment program (system_on (devices x)) bound old.source) (devices x) (devices y) shown
-  stands_watched x y valid shows h = record {
-    moment = h.moment;
-    comes = has_moment program parts (system_on (devices x)) bound old.source h.moment is
-        (subst (λ n. ComesThrough (fetch parts.words) parts.entry parts.calls (execute.system_on x) bound old.source n h.moment) none h.comes);
-    at = at_state h.moment x y valid shows
-        (moment_blocks (fetch parts.words) parts.entry parts.calls (execute.system_on x) bound old.source old.drawn h.moment h.comes) h.shows;
-  }

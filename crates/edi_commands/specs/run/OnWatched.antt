@@ -13,7 +13,7 @@ use Rattle.edi_statuses.specs.EachObject.{LeavesEach}
 use Rattle.edi_statuses.specs.Outside.{Outside, SameBut, SameFiles, Lent, Shows, seen, with_kept, without_names}
 use Rattle.edi_statuses.specs.Lines.{is_due}
 use Rattle.edi_statuses.specs.Steps.{goes, stops, Mounts}
-use Rattle.edi_statuses.specs.Executions.{text, BrokeWatch, record_of}
+use Rattle.edi_statuses.specs.Executions.{text, BrokeRun, record_of}
 use Rattle.edi_statuses.specs.Commands.{IsNothing, Watches}
 use Rattle.edi_statuses.specs.Broken.{HasNotBegun, KeepsLog, LosesRecord, RanWhole, names_in}
 
@@ -57,7 +57,7 @@ OnWatched out name broken whole logged lost comes s before after shown kernel = 
 abbrev pub TextWatched : (bytes : List ℕ) → List Watched → (bound : ℕ) → Choices → (out : List ℕ) → (record_file : Option (List ℕ)) → Status
     → Outside → Outside → (shown : List ℕ) → Lent → Type 0
 TextWatched bytes points bound choices out name s before after shown kernel =
-    OnWatched out name (BrokeWatch (text bytes) bound choices before after shown) (RanWhole (text bytes) bound choices before after shown kernel)
+    OnWatched out name (BrokeRun s (text bytes) bound choices before after shown) (RanWhole (text bytes) bound choices before after shown kernel)
     (KeepsLog bytes points bound choices out name before after) (LosesRecord bytes points bound choices out name before after)
     (λ end. Watches bytes points bound choices out name end before after shown kernel) s before after shown kernel
 
