@@ -1,8 +1,9 @@
 -- Words of contracts. The system of a program whose choices are all followed, as its object keeps it.
-use Rattle.std.specs.Prelude.{◌≡◌, ℕ, Option, None, drop}
+use Rattle.std.specs.Prelude.{◌≡◌, ℕ, true, Option, None, drop, ⊤}
 use Rattle.std.specs.Option.{option_map, option_to_list}
 use Rattle.std.specs.Prelude.{Result, Ok, Err}
 use Rattle.edi_calls.specs.State.{State}
+use Rattle.edi_calls.specs.Asked.{uses}
 use Rattle.edi_calls.specs.Calls.{CallResult, answered, no_file, file_limit}
 use Rattle.edi_explore.specs.declared.offline.Offline.{Offline}
 use Rattle.edi_explore.specs.declared.offline.Place.{Place}
@@ -40,3 +41,8 @@ Reaches (answered words next) (Err (stop.Failed outside)) before after = after �
 Reaches no_file (Err stop.NoFile) before after = after ≡ before
 Reaches file_limit (Err stop.FileLimit) before after = after ≡ before
 Reaches _ _ before after = ⊥
+
+-- where memory ran out the object that was to take it is one that the call of this number uses
+abbrev pub FailsUsed : (number : ℕ) → Result (Option ℕ) Stop → Type 0
+FailsUsed number (Err (stop.Failed outside)) = uses number outside ≡ true
+FailsUsed number result = ⊤

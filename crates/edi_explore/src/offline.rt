@@ -4,7 +4,7 @@ ghost use Rattle.std.specs.Prelude.{◌≡◌, ◌≤◌, ◌%◌, length, [], N
 ghost use Rattle.std.specs.Option.{option_map};
 ghost use Rattle.edi_calls.specs.Calls.{accept, argument_words, call, close, display, find, fresh_buffer, more, print, read, remove, write};
 ghost use Rattle.edi_explore.specs.Offline.{offline};
-ghost use Rattle.edi_explore.specs.Systems.{IsPlaceOf, IsSameElsewhere, Reaches, system_of};
+ghost use Rattle.edi_explore.specs.Systems.{FailsUsed, IsPlaceOf, IsSameElsewhere, Reaches, system_of};
 
 use edi_calls::{CallEnd, Calls, Outside};
 use std::alloc::{AllocError, Global};
@@ -116,6 +116,7 @@ impl Offline {
     /// The next byte of the input.
     fn accept(&mut self) -> Result<Option<u16>, Stop>
         ensures exact { Reaches (accept (system_of self.old)) result (system_of self.old) (system_of self.new) }
+        ensures used { FailsUsed 1 result }
         ensures rest { IsSameElsewhere self.old self.new }
     {
         if self.taken >= self.input.len() {
@@ -129,6 +130,7 @@ impl Offline {
     /// Shows a character.
     fn display(&mut self, word: u16) -> Result<Option<u16>, Stop>
         ensures exact { Reaches (display word (system_of self.old)) result (system_of self.old) (system_of self.new) }
+        ensures used { FailsUsed 2 result }
         ensures rest { IsSameElsewhere self.old self.new }
     {
         match self.shown.push(character(word)) {
@@ -140,6 +142,7 @@ impl Offline {
     /// Prints a character.
     fn print(&mut self, word: u16) -> Result<Option<u16>, Stop>
         ensures exact { Reaches (print word (system_of self.old)) result (system_of self.old) (system_of self.new) }
+        ensures used { FailsUsed 3 result }
         ensures rest { IsSameElsewhere self.old self.new }
     {
         match self.printed.push(character(word)) {
@@ -151,6 +154,7 @@ impl Offline {
     /// An empty file is begun.
     fn fresh_buffer(&mut self) -> Result<Option<u16>, Stop>
         ensures exact { Reaches (fresh_buffer (system_of self.old)) result (system_of self.old) (system_of self.new) }
+        ensures used { FailsUsed 7 result }
         ensures rest { IsSameElsewhere self.old self.new }
     {
         self.buffer = Some(Vec::new(self.alloc));
@@ -160,6 +164,7 @@ impl Offline {
     /// Writes a character to the file.
     fn write(&mut self, word: u16) -> Result<Option<u16>, Stop>
         ensures exact { Reaches (write word (system_of self.old)) result (system_of self.old) (system_of self.new) }
+        ensures used { FailsUsed 8 result }
         ensures rest { IsSameElsewhere self.old self.new }
     {
         let Some(bytes) = &mut self.buffer else {
@@ -176,7 +181,8 @@ impl Offline {
 
     /// No file is stored: there is no disk.
     fn close(&self, words: &[u16]) -> Result<Option<u16>, Stop>
-        ensures { Reaches (close words.now (system_of self.now)) result (system_of self.now) (system_of self.now) }
+        ensures exact { Reaches (close words.now (system_of self.now)) result (system_of self.now) (system_of self.now) }
+        ensures used { FailsUsed 9 result }
     {
         if self.buffer.is_none() {
             return Err(Stop::NoFile);
@@ -186,14 +192,16 @@ impl Offline {
 
     /// No file is found: there is none.
     fn find(&self, words: &[u16]) -> Result<Option<u16>, Stop>
-        ensures { Reaches (find words.now (system_of self.now)) result (system_of self.now) (system_of self.now) }
+        ensures exact { Reaches (find words.now (system_of self.now)) result (system_of self.now) (system_of self.now) }
+        ensures used { FailsUsed 4 result }
     {
         Ok(Some(0))
     }
 
     /// No file is removed: there is none.
     fn remove(&self, words: &[u16]) -> Result<Option<u16>, Stop>
-        ensures { Reaches (remove words.now (system_of self.now)) result (system_of self.now) (system_of self.now) }
+        ensures exact { Reaches (remove words.now (system_of self.now)) result (system_of self.now) (system_of self.now) }
+        ensures used { FailsUsed 10 result }
     {
         Ok(Some(0))
     }
@@ -204,6 +212,7 @@ impl Offline {
         requires to { number ≤ 10 }
         requires arguments { length args.now ≡ argument_words number }
         ensures exact { Reaches (call number args.now (system_of self.old)) result (system_of self.old) (system_of self.new) }
+        ensures used { FailsUsed number result }
         ensures rest { IsSameElsewhere self.old self.new }
     {
         match number {

@@ -59,8 +59,8 @@ module _ (b m : Outside) (y : Option (List ℕ)) (still : StillTold m.shown y) w
         → IsNothing seen_later later_ shown kernel ⊎ AtRecord name steps' (λ v. RanUnkept (program v) bound (choices v) seen_later later_ shown kernel)
     files : AtRecord name steps (λ v. RanWhole (program v) bound (choices v) before_ m shown kernel)
         → AtRecord name steps' (λ v. RanWhole (program v) bound (choices v) seen_later later_ shown kernel)
-    broke : HasBegun steps (λ v. BrokeRun (program v) bound (choices v) before_ m shown)
-        → HasBegun steps' (λ v. BrokeRun (program v) bound (choices v) seen_later later_ shown)
+    broke : (s : Status) → HasBegun steps (λ v. BrokeRun s (program v) bound (choices v) before_ m shown)
+        → HasBegun steps' (λ v. BrokeRun s (program v) bound (choices v) seen_later later_ shown)
 
   -- memory is wanting before the first effect, or at the record
   wants_later : {A : Type 0} (name : Option (List ℕ)) (steps steps' : AfterStep A → Type 0) (P P' : A → Type 0) (shown : List ℕ) (kernel : Lent)
@@ -80,14 +80,14 @@ module _ (b m : Outside) (y : Option (List ℕ)) (still : StillTold m.shown y) w
     files = record_later b m y still name steps steps' (λ v. RanWhole (program v) bound (choices v) before_ m shown kernel)
         (λ v. RanWhole (program v) bound (choices v) seen_later later_ shown kernel) go
         (λ v. whole_later b m y still (program v) bound (choices v) shown kernel);
-    broke = λ h. (h.0, go (goes h.0) h.1, broke_later b m y still (program h.0) bound (choices h.0) shown h.2);
+    broke = λ s h. (h.0, go (goes h.0) h.1, broke_later b m y still s (program h.0) bound (choices h.0) shown h.2);
   }
 
   run_is : (file : List ℕ) (options : Options) (shown : List ℕ) (kernel : Lent) → Later (words.run file options) shown kernel
   run_is file options shown kernel =
       let r = run_later_by (RunSteps before_ file options.choices) (RunSteps seen_later file options.choices) (λ v. text v.0) (λ v. v.1) options.turns
       options.record_file shown kernel (run_later b m y still file options.choices) in
-      record { comes = r.comes; wants = r.wants; files = r.files; drive = r.broke; input = r.broke; output = r.broke }
+      record { comes = r.comes; wants = r.wants; files = r.files; drive = r.broke status.DriveFault; input = r.broke status.InputFault; output = r.broke status.OutputFault }
 
   replay_is : (file choices : List ℕ) (turns : ℕ) (shown : List ℕ) (kernel : Lent) → Later (words.replay file choices turns) shown kernel
   replay_is file choices turns shown kernel =
@@ -97,16 +97,16 @@ module _ (b m : Outside) (y : Option (List ℕ)) (still : StillTold m.shown y) w
         comes = r.comes;
         wants = nothing_later b m y still shown kernel;
         files = λ h. absurd h;
-        drive = r.broke;
-        input = r.broke;
-        output = r.broke;
+        drive = r.broke status.DriveFault;
+        input = r.broke status.InputFault;
+        output = r.broke status.OutputFault;
       }
 
   exec_is : (file : List ℕ) (options : Options) (shown : List ℕ) (kernel : Lent) → Later (words.exec file options) shown kernel
   exec_is file options shown kernel =
       let r = run_later_by (ExecSteps before_ file options.choices) (ExecSteps seen_later file options.choices) (λ v. code v.0) (λ v. v.1) options.turns
       options.record_file shown kernel (exec_later b m y still file options.choices) in
-      record { comes = r.comes; wants = r.wants; files = r.files; drive = r.broke; input = r.broke; output = r.broke }
+      record { comes = r.comes; wants = r.wants; files = r.files; drive = r.broke status.DriveFault; input = r.broke status.InputFault; output = r.broke status.OutputFault }
 
   watch_is : (file points_file out : List ℕ) (options : Options) (shown : List ℕ) (kernel : Lent) → Later (words.watch file points_file out options) shown kernel
   watch_is file points_file out options shown kernel =
@@ -118,9 +118,9 @@ module _ (b m : Outside) (y : Option (List ℕ)) (still : StillTold m.shown y) w
             kernel steps (λ a. watches_later b m y still a.0 a.2 options.turns a.1 out options.record_file s shown kernel);
         wants = watched_wants b m y still file points_file out options shown kernel;
         files = watched_lost b m y still file points_file out options shown kernel;
-        drive = broke;
-        input = broke;
-        output = broke;
+        drive = broke status.DriveFault;
+        input = broke status.InputFault;
+        output = broke status.OutputFault;
       }
 
   walk_is : (file choices : List ℕ) (turns : ℕ) (shown : List ℕ) (kernel : Lent) → Later (words.walk file choices turns) shown kernel

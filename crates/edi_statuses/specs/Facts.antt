@@ -6,6 +6,8 @@ use Rattle.edi_utils.specs.Demo.{demo_text}
 use Rattle.edi_utils.specs.Listing.{listing_of}
 use Rattle.edi_words.specs.Words as words
 use Rattle.edi_words.specs.Words.{ChoicesFrom, Command}
+use Rattle.edi_statuses.specs.declared.status.Status.{Status}
+use Rattle.edi_statuses.specs.declared.status.Status.TheVariants as status
 use Rattle.edi_statuses.specs.Outside.{Outside, Lent}
 use Rattle.edi_statuses.specs.Steps.{AfterStep, ◌>>=◌, Fetches, ReadsChoices, FitsDisk}
 use Rattle.edi_statuses.specs.Executions.{Runnable, text, code, BrokeRun}
@@ -108,8 +110,8 @@ on_devices fetches record_file = record plain {
 abbrev pub program_run : {A : Type 0} → (file : List ℕ) → (asks : Outside → Type 0) → (steps : Outside → AfterStep A → Type 0)
     → (program : A → Runnable) → (choices : A → Choices) → (bound : ℕ) → (record_file : Option (List ℕ)) → Facts
 program_run file asks steps program choices bound record_file =
-    let broken : Left = λ before after shown kernel.
-    HasBegun (steps before) (λ a. BrokeRun (program a) bound (choices a) before after shown) in
+    let broken : Status → Left = λ s before after shown kernel.
+    HasBegun (steps before) (λ a. BrokeRun s (program a) bound (choices a) before after shown) in
     record (on_devices (file_named file) record_file) {
       asks_drive = asks;
       no_memory = λ before after shown kernel.
@@ -117,9 +119,9 @@ program_run file asks steps program choices bound record_file =
           ⊎ AtRecord record_file (steps before) (λ a. RanUnkept (program a) bound (choices a) before after shown kernel);
       files_failed = λ before after shown kernel.
           AtRecord record_file (steps before) (λ a. RanWhole (program a) bound (choices a) before after shown kernel);
-      drive_failed = broken;
-      input_failed = broken;
-      output_failed = broken;
+      drive_failed = broken status.DriveFault;
+      input_failed = broken status.InputFault;
+      output_failed = broken status.OutputFault;
     }
 
 -- ---- rows by the operand that may be there

@@ -5,8 +5,9 @@ ghost use Rattle.edi_explain.specs.told.Notes as spec;
 ghost use Rattle.edi_explain.specs.told.Tables.{pairs_of, row_of, rows_of, seen_of};
 
 use crate::expected::Expected;
+use crate::told::foreign::{ELEMENTARY_TYPES, WORDS};
 use crate::told::groups::{all_may, any_may, is_among, may};
-use crate::told::table::{ELEMENTARY_TYPES, ROWS, Row, WORDS};
+use crate::told::table::{ROWS, Row};
 use crate::told::words::is_text_of;
 use edi_lex::{Mark, Symbol};
 use std::alloc::AllocError;
