@@ -222,6 +222,8 @@ module _ (b m : Outside) (y : Option (List ℕ)) (still : StillTold m.shown y) w
   asks_later (words.replay file choices turns) h = (h.0, third_later file (words.file choices) Accepts (goes h.0) h.1)
   asks_later (words.walk file choices turns) h = (h.0, third_later file (words.file choices) Accepts (goes h.0) h.1)
   asks_later (words.exec file o) h = (h.0, third_later file o.choices Loads (goes h.0) h.1)
+  asks_later (words.time file out o) h = (h.0, third_later file o.choices Accepts (goes h.0) h.1)
+  asks_later (words.time_code file out o) h = (h.0, third_later file o.choices Loads (goes h.0) h.1)
   asks_later (words.boot o) h = (h.0, choices_later o.choices (goes h.0) h.1)
   asks_later (words.watch file points_file out o) h = (h.0, points_later file points_file o.choices (goes h.0) h.1)
   asks_later (words.put file title) h = (h.0, fetched_later file (λ bytes. FitsDisk bytes) (goes h.0) h.1)

@@ -18,6 +18,7 @@ use Rattle.edi_statuses.specs.Broken.{ShowsFront, ShowsReportFront, ExplainsFron
 use Rattle.edi_statuses.specs.Broken.{HasBegun, WentOn, RunAsks, ExecAsks, WatchAsks, WatchedLost, WatchedUnkept}
 use Rattle.edi_statuses.specs.Walked.{BrokeWalk, FailedWalk}
 use Rattle.edi_statuses.specs.Explored.{ExploredFront, ExploredInPart, ExploredThen, LosesInput, LosesNext, names_of_records}
+use Rattle.edi_statuses.specs.Timelines.{TimedInPart, TimedLost, timeline_names}
 
 -- ---- facts
 
@@ -123,6 +124,18 @@ program_run file asks steps program choices bound record_file =
       input_failed = broken status.InputFault;
       output_failed = broken status.OutputFault;
     }
+
+-- One that runs the program of a file and keeps a timeline of it, after the record. Memory runs out before the first effect, or when a file is to be kept.
+abbrev pub timed_run : {A : Type 0} → (file : List ℕ) → (asks : Outside → Type 0) → (steps : Outside → AfterStep A → Type 0)
+    → (program : A → Runnable) → (choices : A → Choices) → (bound : ℕ) → (out : List ℕ) → (record_file : Option (List ℕ)) → Facts
+timed_run file asks steps program choices bound out record_file = record (program_run file asks steps program choices bound record_file) {
+  keeps = timeline_names out;
+  no_memory = λ before after shown kernel.
+      IsNothing before after shown kernel
+      ⊎ HasBegun (steps before) (λ a. TimedInPart (program a) bound (choices a) out record_file before after shown kernel);
+  files_failed = λ before after shown kernel.
+      HasBegun (steps before) (λ a. TimedLost (program a) bound (choices a) out record_file before after shown kernel);
+}
 
 -- ---- rows by the operand that may be there
 
@@ -257,3 +270,7 @@ facts_of (words.explore file o) = record plain {
   input_failed = λ before after shown kernel. HasBegun (TextSteps before file) (λ a. LosesInput a.1 before after shown kernel);
   output_failed = λ before after shown kernel. HasBegun (TextSteps before file) (λ a. ExploredFront a.0 a.1 o before after shown);
 }
+facts_of (words.time file out o) =
+    timed_run file (λ before. RunAsks before file o.choices) (λ before. RunSteps before file o.choices) (λ a. text a.0) (λ a. a.1) o.turns out o.record_file
+facts_of (words.time_code file out o) =
+    timed_run file (λ before. ExecAsks before file o.choices) (λ before. ExecSteps before file o.choices) (λ a. code a.0) (λ a. a.1) o.turns out o.record_file

@@ -11,6 +11,7 @@ use Rattle.edi_commands.proofs.run.Left.{ending_of}
 use Rattle.edi_commands.proofs.run.Counted.{none_falls, record_cause}
 use Rattle.edi_commands.proofs.run.Endings.{unmounted, broke, ended_cause, ended_so, status_is, with_bound}
 use Rattle.edi_commands.proofs.run.Mounting.{left_on}
+use Rattle.edi_commands.proofs.run.Past.{ended_past, failed_past, never_at, past_so, record_past}
 use Rattle.edi_commands.proofs.run.code.run_code.Goals as goal
 
 pub returns-in-Err-clause-ran : goal.returns-in-Err-clause-ran
@@ -93,3 +94,21 @@ returns-clause-asked g c =
     (status_is c.in-Ok.ran.ending c.ending_status.result c.ending_status.ensures.exact)
     (ended_asked _ (record { least = c.in-Ok.ensures.least; most = c.in-Ok.ensures.most }) (ending_of c.in-Ok.ran.ending)))
     c.end_with_record.ensures.keeps
+
+pub returns-in-Err-clause-unmounted : goal.returns-in-Err-clause-unmounted
+returns-in-Err-clause-unmounted g c = λ at.
+    let n = c.in-Err.ensures.nothing_run in
+    record { input = n.0; printer = n.2; kernel = n.3 }
+
+pub returns-in-Some-clause-unmounted : goal.returns-in-Some-clause-unmounted
+returns-in-Some-clause-unmounted g c = λ at.
+    never_at c.object_status.result
+    (past_so (object_status c.in-Some.object) c.object_status.result c.object_status.ensures.exact (failed_past c.in-Some.object)) at
+
+pub returns-clause-unmounted : goal.returns-clause-unmounted
+returns-clause-unmounted g c = λ at.
+    never_at c.end_with_record.result.status
+    (record_past (option_map (λ name. name.now) c.args.record_file) c.run_on.new.choices c.ending_status.result c.end_with_record.result.status _ _
+    (past_so (status_of (ending_of c.in-Ok.ran.ending)) c.ending_status.result
+    (status_is c.in-Ok.ran.ending c.ending_status.result c.ending_status.ensures.exact) (ended_past (ending_of c.in-Ok.ran.ending)))
+    c.end_with_record.ensures.keeps) at

@@ -15,6 +15,7 @@ use Rattle.edi_commands.proofs.run.LogKept.{log_asked, log_cause}
 use Rattle.edi_commands.proofs.run.Counted.{none_falls}
 use Rattle.edi_commands.proofs.run.Endings.{ended_cause, status_is}
 use Rattle.edi_commands.proofs.run.Mounting.{left_on}
+use Rattle.edi_commands.proofs.run.Past.{ended_past, failed_past, log_past, never_at, past_so}
 use Rattle.edi_commands.proofs.run.WatchedEnds.{failed_so, no_log, not_mounted, watched_so, with_bound}
 use Rattle.edi_commands.proofs.run.logging.watch_program.Goals as goal
 
@@ -113,3 +114,25 @@ returns-clause-asked g c =
     (status_is c.in-Ok-watch_on.ran.ending c.ending_status.result c.ending_status.ensures.exact)
     (ended_asked _ (record { least = c.in-Ok-watch_on.ensures.least; most = c.in-Ok-watch_on.ensures.most }) (ending_of c.in-Ok-watch_on.ran.ending)))
     c.end_with_log.ensures.keeps
+
+pub returns-in_default-clause-unmounted : goal.returns-in_default-clause-unmounted
+returns-in_default-clause-unmounted g c = λ at. record { input = refl; printer = refl; kernel = refl }
+
+pub returns-in-Err-clause-unmounted : goal.returns-in-Err-clause-unmounted
+returns-in-Err-clause-unmounted g c = λ at.
+    let n = c.in-Err.ensures.nothing_run in
+    record { input = n.0; printer = n.2; kernel = n.3 }
+
+pub returns-in-Some-clause-unmounted : goal.returns-in-Some-clause-unmounted
+returns-in-Some-clause-unmounted g c = λ at.
+    never_at c.object_status.result
+    (past_so (object_status c.in-Some.object) c.object_status.result c.object_status.ensures.exact (failed_past c.in-Some.object)) at
+
+pub returns-clause-unmounted : goal.returns-clause-unmounted
+returns-clause-unmounted g c = λ at.
+    never_at c.end_with_log.result.status
+    (log_past c.args.out.now _ (option_map (λ name. name.now) c.args.record_file) c.watch_on.new.choices c.ending_status.result
+    c.end_with_log.result.status _ _
+    (past_so (status_of (ending_of c.in-Ok-watch_on.ran.ending)) c.ending_status.result
+    (status_is c.in-Ok-watch_on.ran.ending c.ending_status.result c.ending_status.ensures.exact) (ended_past (ending_of c.in-Ok-watch_on.ran.ending)))
+    c.end_with_log.ensures.keeps) at

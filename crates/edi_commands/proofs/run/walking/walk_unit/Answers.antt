@@ -9,6 +9,7 @@ use Rattle.edi_commands.specs.steps.NotMounted.{mount_status}
 use Rattle.edi_statuses.specs.Executions.{object_status}
 use Rattle.edi_commands.proofs.run.Asked.{asked_so, failed_asked, unmounted_asked}
 use Rattle.edi_commands.proofs.run.Mounting.{left_on}
+use Rattle.edi_commands.proofs.run.Past.{failed_past, never_at, past_so, walked_past}
 use Rattle.edi_commands.proofs.run.WalkEnds.{ended_no_fault, ended_walk_asked, failed_so, not_mounted, walked_so, with_bound}
 use Rattle.edi_commands.proofs.run.walking.walk_unit.Goals as goal
 
@@ -88,3 +89,17 @@ returns-clause-later_terminal g c = c.walk_on.ensures.later.later object.Termina
 
 pub returns-clause-later_printer : goal.returns-clause-later_printer
 returns-clause-later_printer g c = c.walk_on.ensures.later.later object.Printer
+
+pub returns-in-Err-clause-unmounted : goal.returns-in-Err-clause-unmounted
+returns-in-Err-clause-unmounted g c = λ at.
+    let n = c.in-Err.ensures.nothing_done in
+    (n.0, n.2)
+
+pub returns-in-Some-clause-unmounted : goal.returns-in-Some-clause-unmounted
+returns-in-Some-clause-unmounted g c = λ at.
+    never_at c.object_status.result
+    (past_so (object_status c.in-Some.object) c.object_status.result c.object_status.ensures.exact (failed_past c.in-Some.object)) at
+
+pub returns-clause-unmounted : goal.returns-clause-unmounted
+returns-clause-unmounted g c = λ at.
+    never_at c.end_status.result (walked_past c.in-Ok.walked.end c.end_status.result c.end_status.ensures.exact) at
