@@ -14,6 +14,9 @@ pub mod OfFiles
 pub mod Past
 pub mod PointsRead
 pub mod Shown
+pub mod TimedEnds
+pub mod TimedExits
+pub mod TimedKept
 pub mod Told
 pub mod WalkEnds
 pub mod WalkExits

@@ -1,5 +1,5 @@
 -- A state that is added, and those that were there before.
-use Rattle.std.proofs.Common.{◌≡◌, ◌⊎◌, inl, inr, ℕ, zero, suc, ◌+◌, ◌-◌, ◌<◌, ◌≤◌, true, List, [], ◌∷◌, ◌++◌, length, take, drop, slice_get, slice_index_or}
+use Rattle.std.proofs.Common.{◌≡◌, ◌⊎◌, inl, inr, ℕ, zero, suc, ◌+◌, ◌-◌, ◌<◌, ◌≤◌, Bool, true, List, [], ◌∷◌, ◌++◌, length, take, drop, slice_get, slice_index_or}
 use Rattle.std.proofs.Common.{Option, Some, None, refl, sym, ap, ◌∙◌, arith, subst, length-append}
 use Rattle.std.proofs.lemmas.Bool.{cases_lt, eqb-true}
 use Rattle.std.proofs.lemmas.List.{get_or_append_left}
@@ -71,8 +71,8 @@ parts_added old mid a d = subst AreStates (sym d.rest) (record {
 same_slots : (old mid : States) → AddsParts old mid → (v : ℕ) → slots_of mid v ≡ slots_of old v
 same_slots old mid d v = ap (λ (x : States). slots_of x v) d.rest
 
-same_key : (s : States) (key other : Key) (k : KernelState) (o : Offline) → IsKeyOf s key k o → IsSameKey key other → IsKeyOf s other k o
-same_key s key other k o h e = record {
+same_key : (asks : Bool) (s : States) (key other : Key) (k : KernelState) (o : Offline) → IsKeyOf asks s key k o → IsSameKey key other → IsKeyOf asks s other k o
+same_key asks s key other k o h e = record {
   place = h.place;
   at = ap (slice_get s.places.keys) e.0 ∙ h.at;
   system = h.system;
@@ -95,9 +95,9 @@ keys_same mid new m is same = subst AreStates (sym is) (record {
 })
 
 -- the state was kept already
-pub added_again : (old mid new : States) (key other : Key) (n : ℕ) (k : KernelState) (o : Offline) → AreStates old → AddsParts old mid → IsKeyOf mid key k o →
-    new ≡ record mid { keys = new.keys } → new.keys.keys ≡ mid.keys.keys → slice_get new.keys.keys n ≡ Some other → IsSameKey key other → IsAdded old new k o
-added_again old mid new key other n k o a d h is same at e =
+pub added_again : (asks : Bool) (old mid new : States) (key other : Key) (n : ℕ) (k : KernelState) (o : Offline) → AreStates old → AddsParts old mid → IsKeyOf asks mid key k o →
+    new ≡ record mid { keys = new.keys } → new.keys.keys ≡ mid.keys.keys → slice_get new.keys.keys n ≡ Some other → IsSameKey key other → IsAdded asks old new k o
+added_again asks old mid new key other n k o a d h is same at e =
     let kept : old.keys.keys ≡ mid.keys.keys = sym (ap (λ (x : States). x.keys.keys) d.rest) in
     let p : new.processes.keys ≡ mid.processes.keys = ap (λ (x : States). x.processes.keys) is in
     let q : new.places.keys ≡ mid.places.keys = ap (λ (x : States). x.places.keys) is in
@@ -105,7 +105,7 @@ added_again old mid new key other n k o a d h is same at e =
       number = n;
       key = other;
       is = at;
-      of = subst (λ (x : States). IsKeyOf x other k o) (sym is) (same_key (record mid { keys = new.keys }) key other k o
+      of = subst (λ (x : States). IsKeyOf asks x other k o) (sym is) (same_key asks (record mid { keys = new.keys }) key other k o
           (record { place = h.place; at = h.at; system = h.system; processes = h.processes; each = h.each; all = h.all }) e);
       states = keys_same mid new (parts_added old mid a d) is same;
       processes = subst (Follows old.processes.keys) (sym p) d.processes;
@@ -157,8 +157,8 @@ ready_home (Some list) e = ap Some (eqb-true list 0 e)
 
 -- ---- a new state
 
-new_state : (s : States) (key : Key) (k : KernelState) (o : Offline) → IsKernel k → IsKeyOf s key k o → IsState s key (ready_slots k.table)
-new_state s key k o kernel h = record {
+new_state : (asks : Bool) (s : States) (key : Key) (k : KernelState) (o : Offline) → IsKernel k → IsKeyOf asks s key k o → IsState s key (ready_slots k.table)
+new_state asks s key k o kernel h = record {
   place = slice_get_within s.places.keys key.place h.place h.at;
   processes = h.processes;
   first = h.all 0 (live_of_home k.table 0 (omega arith) kernel.table.root);
@@ -173,7 +173,7 @@ new_state s key k o kernel h = record {
   few = length-le-nodes 32 2 k.table.lists 0 kernel.table.sound;
 }
 
-module _ (mid new : States) (key : Key) (k : KernelState) (o : Offline) (m : AreStates mid) (kernel : IsKernel k) (h : IsKeyOf mid key k o)
+module _ (asks : Bool) (mid new : States) (key : Key) (k : KernelState) (o : Offline) (m : AreStates mid) (kernel : IsKernel k) (h : IsKeyOf asks mid key k o)
     (p : new.processes ≡ mid.processes) (q : new.places ≡ mid.places) (keys : new.keys.keys ≡ mid.keys.keys ++ key ∷ [])
     (orders : new.orders.items ≡ mid.orders.items ++ ready_slots k.table) (origin : Origin) (may : MayComeFrom mid origin)
     (origins : new.origins.items ≡ mid.origins.items ++ origin ∷ []) (ends : new.ends.items ≡ mid.ends.items ++ length new.orders.items ∷ []) where
@@ -224,7 +224,7 @@ module _ (mid new : States) (key : Key) (k : KernelState) (o : Offline) (m : Are
       (let w = may (omega (arith, e.0, m.origins)) in
       (omega (arith, w.0, e.0, m.origins), subst (λ xs. origin.index < length xs) (sym (slots_old origin.state w.0)) w.1))
 
-  of_new : IsKeyOf new key k o
+  of_new : IsKeyOf asks new key k o
   of_new = record {
     place = h.place;
     at = ap (λ x. slice_get x.keys key.place) q ∙ h.at;
@@ -259,14 +259,14 @@ module _ (mid new : States) (key : Key) (k : KernelState) (o : Offline) (m : Are
           (subst (λ x. Follows mid.places.keys x.keys) (sym q) (follows_same mid.places.keys)) (m.states v other at))
       states v other (inr e) =
           subst (λ (x : Key). IsState new x (slots_of new v)) (sym e.1)
-          (subst (λ n. IsState new key (slots_of new n)) (sym e.0) (subst (IsState new key) (sym slots_last) (new_state new key k o kernel of_new)))
+          (subst (λ n. IsState new key (slots_of new n)) (sym e.0) (subst (IsState new key) (sym slots_last) (new_state asks new key k o kernel of_new)))
 
 -- the state is new
-pub added_new : (old mid new : States) (key : Key) (k : KernelState) (o : Offline) → AreStates old → AddsParts old mid → IsKernel k → IsKeyOf mid key k o →
+pub added_new : (asks : Bool) (old mid new : States) (key : Key) (k : KernelState) (o : Offline) → AreStates old → AddsParts old mid → IsKernel k → IsKeyOf asks mid key k o →
     new.processes ≡ mid.processes → new.places ≡ mid.places → new.keys.keys ≡ mid.keys.keys ++ key ∷ [] →
     new.orders.items ≡ mid.orders.items ++ ready_slots k.table → (origin : Origin) → MayComeFrom old origin →
-    new.origins.items ≡ mid.origins.items ++ origin ∷ [] → new.ends.items ≡ mid.ends.items ++ length new.orders.items ∷ [] → IsAdded old new k o
-added_new old mid new key k o a d kernel h p q keys orders origin may origins ends =
+    new.origins.items ≡ mid.origins.items ++ origin ∷ [] → new.ends.items ≡ mid.ends.items ++ length new.orders.items ∷ [] → IsAdded asks old new k o
+added_new asks old mid new key k o a d kernel h p q keys orders origin may origins ends =
     let m : AreStates mid = parts_added old mid a d in
     let kept : mid.keys.keys ≡ old.keys.keys = ap (λ (x : States). x.keys.keys) d.rest in
     let came : MayComeFrom mid origin = subst (λ (x : States). MayComeFrom x origin) (sym d.rest) may in
@@ -274,17 +274,17 @@ added_new old mid new key k o a d kernel h p q keys orders origin may origins en
       number = length mid.keys.keys;
       key = key;
       is = ap (λ ks. slice_get ks (length mid.keys.keys)) keys ∙ last_at mid.keys.keys key;
-      of = of_new mid new key k o m kernel h p q keys orders origin came origins ends;
-      states = are_states mid new key k o m kernel h p q keys orders origin came origins ends;
+      of = of_new asks mid new key k o m kernel h p q keys orders origin came origins ends;
+      states = are_states asks mid new key k o m kernel h p q keys orders origin came origins ends;
       processes = subst (λ x. Follows old.processes.keys x.keys) (sym p) d.processes;
       places = subst (λ x. Follows old.places.keys x.keys) (sym q) d.places;
       keys = (key ∷ [], keys ∙ ap (λ ks. ks ++ key ∷ []) kept);
       slots = λ v l.
-          slots_old mid new key k o m kernel h p q keys orders origin came origins ends v (subst (λ ks. v < length ks) (sym kept) l) ∙ same_slots old mid d v;
+          slots_old asks mid new key k o m kernel h p q keys orders origin came origins ends v (subst (λ ks. v < length ks) (sym kept) l) ∙ same_slots old mid d v;
       fresh = λ v l. elim (cases_lt v (length mid.keys.keys)) [
         | inl less ↦ inl (subst (λ ks. v < length ks) kept less)
         | inr past ↦
-            let e : v ≡ length mid.keys.keys = omega (arith, l, past, counted mid new key k o m kernel h p q keys orders origin came origins ends) in
-            inr (e, ap (slots_of new) e ∙ slots_last mid new key k o m kernel h p q keys orders origin came origins ends)
+            let e : v ≡ length mid.keys.keys = omega (arith, l, past, counted asks mid new key k o m kernel h p q keys orders origin came origins ends) in
+            inr (e, ap (slots_of new) e ∙ slots_last asks mid new key k o m kernel h p q keys orders origin came origins ends)
       ];
     }

@@ -97,6 +97,9 @@ kept_same a b e =
       sym ((slice_eq-Decides Decides-eqb a.words.items b.words.items (pointwise nat_eq a.words.items b.words.items) refl).0 p.11),
     )
 
+pub bytes_same : (a b : List ℕ) → pointwise nat_eq a b ≡ true → a ≡ b
+bytes_same a b e = (slice_eq-Decides Decides-eqb a b (pointwise nat_eq a b) refl).0 e
+
 option_same : {V : Type 0} (items : V → List ℕ) (x y : Option V) → option_eq (λ a b. pointwise nat_eq (items a) (items b)) x y ≡ true →
     option_map items y ≡ option_map items x
 option_same items None None e = refl
@@ -106,9 +109,12 @@ option_same items (Some a) (Some b) e = ap Some (sym ((slice_eq-Decides Decides-
 
 pub place_same : (a b : Place) → (place.ghosts).eq a b ≡ true → IsSamePlace a b
 place_same a b e =
-    let rest = option_eq (λ x y. pointwise nat_eq x.items y.items) a.buffer b.buffer in (
-      sym (eqb-true a.taken b.taken (both_one (nat_eq a.taken b.taken) rest e)),
-      option_same (λ x. x.items) a.buffer b.buffer (both_two (nat_eq a.taken b.taken) rest e),
+    let buffers = option_eq (λ x y. pointwise nat_eq x.items y.items) a.buffer b.buffer in
+    let shown = pointwise nat_eq a.shown.items b.shown.items in
+    let rest = both_two (nat_eq a.taken b.taken) (buffers && shown) e in (
+      sym (eqb-true a.taken b.taken (both_one (nat_eq a.taken b.taken) (buffers && shown) e)),
+      option_same (λ x. x.items) a.buffer b.buffer (both_one buffers shown rest),
+      sym (bytes_same a.shown.items b.shown.items (both_two buffers shown rest)),
     )
 
 -- ---- what is said of a part is said of an equal one

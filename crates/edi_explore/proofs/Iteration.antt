@@ -1,5 +1,5 @@
 -- One stint of a search: what was found of it, and what was found before of others.
-use Rattle.std.proofs.Common.{◌≡◌, ◌⊎◌, inl, inr, ℕ, ◌<◌, ◌≤◌, ◌^◌, arith, false, List, length, None, refl, sym, ap, subst, ◌∙◌}
+use Rattle.std.proofs.Common.{◌≡◌, ◌⊎◌, inl, inr, ℕ, ◌<◌, ◌≤◌, ◌^◌, arith, Bool, false, List, length, None, refl, sym, ap, subst, ◌∙◌}
 use Rattle.edi_calls.specs.State.{State}
 use Rattle.edi_target.specs.Check.{CodeParts}
 use Rattle.edi_kernel.specs.declared.ends.Ending.{Ending}
@@ -11,23 +11,25 @@ use Rattle.edi_kernel.specs.Kernel.{IsKernel, is_over}
 use Rattle.edi_kernel.specs.Runs.{IsAt}
 use Rattle.edi_kernel.specs.Table.{ready_slots}
 use Rattle.edi_explored.specs.Covered.{Report, Tells, tells_shown}
-use Rattle.edi_explored.specs.Covered as covered
+use Rattle.edi_explored.specs.machine.Alike.{Alike}
 use Rattle.edi_explored.specs.machine.Kernels as law
 use Rattle.edi_explored.specs.machine.Kernels.{IsBack, IsFailed, IsFound, LeadsOn, StintOf}
 use Rattle.edi_explored.specs.machine.Levels.{StateTable, AreKept, Below, Nothing, StintBelow}
 use Rattle.edi_explored.proofs.machine.Levels.{IsLater, expanded_later, goes_later, stint_later}
 use Rattle.edi_explore.specs.declared.ends.Found.{Found}
+use Rattle.edi_explore.specs.declared.ends.Limits.{Limits}
 use Rattle.edi_explore.specs.declared.finding.Search.{Search}
 use Rattle.edi_explore.specs.declared.offline.Offline.{Offline}
 use Rattle.edi_explore.specs.declared.states.States.{States}
 use Rattle.edi_explore.specs.Expand.{HasExpanded, HasOneThatGoes, HasStint}
-use Rattle.edi_explore.specs.Found.{HasEnding, IsTold, endings_of}
+use Rattle.edi_explore.specs.Found.{IsTold}
 use Rattle.edi_explore.specs.Offline.{offline}
+use Rattle.edi_explore.specs.Shown.{HasEnding, asks_of, told_by}
 use Rattle.edi_explore.specs.Systems.{system_of}
 use Rattle.edi_explore.specs.States.{AreStates, Follows, IsAdded, slots_of}
 use Rattle.edi_explore.specs.Steps.{GoesOn, IsProper}
 use Rattle.edi_explore.specs.Tables.{Grows, table_of}
-use Rattle.edi_explore.proofs.Findings.{tells, tells_more}
+use Rattle.edi_explore.proofs.Findings.{asks_same, tells, tells_more}
 use Rattle.edi_explore.proofs.Table.{is_back, is_order, is_system, later_of, leads_there, alike_there, number_within, processes_still, system_still, longer, grows_added}
 
 -- ---- what was found of a stint, by how it has ended
@@ -62,9 +64,9 @@ goes_ended used ending.Standstill k p f = p
 goes_ended used (ending.Bad at) k p f = f
 goes_ended used ending.Fault k p f = f
 
-module _ (code : CodeParts) (start : State) (turns : ℕ) (found : List Found) (table : StateTable) (next : ℕ) where
+module _ (code : CodeParts) (start : State) (turns : ℕ) (asks : Bool) (found : List Found) (table : StateTable) (next : ℕ) where
   abbrev report : Report
-  report = covered.endings (endings_of found)
+  report = told_by asks found
 
   abbrev pub FoundSo : StintEnd → KernelState → State → Type 0
   FoundSo end k now = IsFound code start turns report ℕ table.processes table.slots table.system (Nothing code start turns report table)
@@ -95,33 +97,33 @@ module _ (code : CodeParts) (start : State) (turns : ℕ) (found : List Found) (
   found_led (stint_end.Over used e) k now over l = absurd (cc)
 
   -- it has ended the run, in a way that is told
-  pub found_ended : (used : ℕ) (e : Ending) (k : KernelState) (now : State) → IsProper e → HasEnding found e → FoundSo (stint_end.Over used e) k now
-  found_ended used ending.Done k now p h = λ end same. tells found ending.Done end h same
-  found_ended used (ending.Halted line) k now p h = λ end same. tells found (ending.Halted line) end h same
-  found_ended used (ending.Failed cause line) k now p h = λ end same. tells found (ending.Failed cause line) end h same
+  pub found_ended : (used : ℕ) (e : Ending) (k : KernelState) (now : State) → IsProper e → HasEnding asks found e now.shown → FoundSo (stint_end.Over used e) k now
+  found_ended used ending.Done k now p h = λ end same. tells asks found ending.Done now.shown end h same
+  found_ended used (ending.Halted line) k now p h = λ end same. tells asks found (ending.Halted line) now.shown end h same
+  found_ended used (ending.Failed cause line) k now p h = λ end same. tells asks found (ending.Failed cause line) now.shown end h same
   found_ended used ending.Turns k now p h = absurd p
   found_ended used ending.Standstill k now p h = absurd p
-  found_ended used (ending.Bad at) k now p h = λ end same. tells found (ending.Bad at) end h same
+  found_ended used (ending.Bad at) k now p h = λ end same. tells asks found (ending.Bad at) now.shown end h same
   found_ended used ending.Fault k now p h = absurd p
 
 -- ---- a stint that was followed
 
-module _ (code : CodeParts) (input : List ℕ) (turns : ℕ) (old new : States) (found : List Found) (v index : ℕ) (end : StintEnd) (k : KernelState) (o : Offline)
-    (before : AreStates old) (inside : v < length old.keys.keys) (grows : Grows old new) (same : o.input.items ≡ input) (h : GoesOn old code turns v index end k o)
+module _ (code : CodeParts) (input : List ℕ) (limits : Limits) (old new : States) (found : List Found) (v index : ℕ) (end : StintEnd) (k : KernelState) (o : Offline)
+    (before : AreStates old) (inside : v < length old.keys.keys) (grows : Grows old new) (same : o.input.items ≡ input) (h : GoesOn old code limits.turns v index end k o)
   where
     abbrev N : StateTable
     N = table_of new input
 
     abbrev Stint : Type 0
-    Stint = StintBelow code (offline input) turns (covered.endings (endings_of found)) N (length new.keys.keys) v index
+    Stint = StintBelow code (offline input) limits.turns (told_by (asks_of limits) found) N (length new.keys.keys) v index
 
     -- with this end, and the kernel after it
-    pub stint_there : FoundSo code (offline input) turns found N (length new.keys.keys) end k (system_of o) → law.AreApart (N.processes v) →
+    pub stint_there : FoundSo code (offline input) limits.turns (asks_of limits) found N (length new.keys.keys) end k (system_of o) → law.AreApart (N.processes v) →
         (one : Stint) × (one.end ≡ end) × (one.after ≡ k)
     stint_there f apart =
         let ps = processes_still old new input before grows v inside in
         let placed : h.placed.input.items ≡ input = ap (λ x. x.items) (sym h.input) ∙ same in
-        let system = system_still old new input before grows v inside ∙ sym (is_system old input v h.back h.placed before h.puts h.shown h.printed placed) in
+        let system = system_still old new input before grows v inside ∙ sym (is_system old input v h.back h.placed before h.puts h.printed placed) in
         let one : Stint = record {
           back = h.back;
           is_back = subst (λ x. IsBack x h.back) (sym ps) (is_back old input v h.back h.placed before h.puts (subst law.AreApart ps apart));
@@ -132,7 +134,7 @@ module _ (code : CodeParts) (input : List ℕ) (turns : ℕ) (old new : States) 
           end = end;
           after = k;
           now = system_of o;
-          goes = λ m p others at. h.goes m p others (subst (λ y. IsAt code h.taken y turns m p others) system at);
+          goes = λ m p others at. h.goes m p others (subst (λ y. IsAt code h.taken y limits.turns m p others) system at);
           kernel = h.kernel;
           long = h.long;
           free = h.free;
@@ -143,10 +145,15 @@ module _ (code : CodeParts) (input : List ℕ) (turns : ℕ) (old new : States) 
 -- ---- states that are added
 
 -- a state that is added leads where it is kept
-pub leads_on : (code : CodeParts) (input : List ℕ) (turns : ℕ) (old new : States) (found : List Found) (k : KernelState) (o : Offline) → IsAdded old new k o →
-    o.input.items ≡ input → Leads code (offline input) turns found (table_of new input) (length new.keys.keys) k (system_of o)
-leads_on code input turns old new found k o h same none =
-    (h.number, number_within old new input k o h, leads_there old new input k o h, alike_there old new input k o h same)
+pub leads_on : (code : CodeParts) (input : List ℕ) (turns : ℕ) (asks : Bool) (old new : States) (found : List Found) (k : KernelState) (o : Offline) →
+    IsAdded asks old new k o → o.input.items ≡ input →
+    Leads code (offline input) turns asks found (table_of new input) (length new.keys.keys) k (system_of o)
+leads_on code input turns asks old new found k o h same none = (
+  h.number,
+  number_within old new input asks k o h,
+  leads_there old new input asks k o h,
+  subst (λ t. Alike t ((table_of new input).system h.number) (system_of o)) (sym (asks_same asks found)) (alike_there old new input asks k o h same),
+)
 
 abbrev pub AreKeptIn : States → (input : List ℕ) → Type 0
 AreKeptIn s input = (v : ℕ) → v < length s.keys.keys → (k : KernelState) × IsBack ((table_of s input).processes v) k × (ready_slots k.table ≡ (table_of s input).slots v)
@@ -158,13 +165,13 @@ kept_still old new input v before grows kept l =
     (r.0, subst (λ x. IsBack x r.0) (sym (processes_still old new input before grows v l)) r.1, r.2 ∙ sym (grows.slots v l))
 
 -- each state is that of some kernel
-pub kept_added : (old new : States) (input : List ℕ) (k : KernelState) (o : Offline) → AreStates old → IsKernel k → k.taken ≡ None → k.table.marks ≡ 0 →
-    length k.store ≡ 2 ^ 16 → IsAdded old new k o → AreKeptIn old input → AreKeptIn new input
-kept_added old new input k o before kernel free marks long h kept v l = go (h.fresh v l)
+pub kept_added : (asks : Bool) (old new : States) (input : List ℕ) (k : KernelState) (o : Offline) → AreStates old → IsKernel k → k.taken ≡ None → k.table.marks ≡ 0 →
+    length k.store ≡ 2 ^ 16 → IsAdded asks old new k o → AreKeptIn old input → AreKeptIn new input
+kept_added asks old new input k o before kernel free marks long h kept v l = go (h.fresh v l)
   where
     go : (v < length old.keys.keys) ⊎ ((v ≡ h.number) × (slots_of new v ≡ ready_slots k.table)) →
         (q : KernelState) × IsBack ((table_of new input).processes v) q × (ready_slots q.table ≡ (table_of new input).slots v)
-    go (inl less) = kept_still old new input v before (grows_added old new k o h) kept less
+    go (inl less) = kept_still old new input v before (grows_added asks old new k o h) kept less
     go (inr e) = (
       k,
       record {
@@ -172,20 +179,20 @@ kept_added old new input k o before kernel free marks long h kept v l = go (h.fr
         free = free;
         unmarked = kernel.table.clear marks;
         long = long;
-        has = subst (λ n. law.AreKeptOf ((table_of new input).processes n) k) (sym e.0) (leads_there old new input k o h);
+        has = subst (λ n. law.AreKeptOf ((table_of new input).processes n) k) (sym e.0) (leads_there old new input asks k o h);
       },
       sym e.1,
     )
 
 -- ---- what was found before
 
-module _ (code : CodeParts) (input : List ℕ) (turns : ℕ) (a b : Search) (before : AreStates a.states) (grows : Grows a.states b.states)
+module _ (code : CodeParts) (input : List ℕ) (limits : Limits) (a b : Search) (before : AreStates a.states) (grows : Grows a.states b.states)
     (more : Follows a.found.items b.found.items) where
   abbrev Was : Report
-  Was = covered.endings (endings_of a.found.items)
+  Was = told_by (asks_of limits) a.found.items
 
   abbrev Is : Report
-  Is = covered.endings (endings_of b.found.items)
+  Is = told_by (asks_of limits) b.found.items
 
   abbrev TA : StateTable
   TA = table_of a.states input
@@ -195,7 +202,8 @@ module _ (code : CodeParts) (input : List ℕ) (turns : ℕ) (a b : Search) (bef
 
   pub is_later : (next next' : ℕ) → next ≤ length a.states.keys.keys → next ≤ next' → IsLater Was Is TA TB (λ w. w < next) (λ w. w < next')
   is_later next next' within low =
-      later_of a.states b.states input before grows Was Is (λ e shown t. tells_more a.found.items b.found.items e more t) refl next next' within low
+      later_of a.states b.states input before grows Was Is (λ e shown t. tells_more (asks_of limits) a.found.items b.found.items e shown more t)
+      (asks_same (asks_of limits) b.found.items ∙ sym (asks_same (asks_of limits) a.found.items)) next next' within low
 
   abbrev from : ℕ
   from = length a.states.keys.keys
@@ -206,27 +214,27 @@ module _ (code : CodeParts) (input : List ℕ) (turns : ℕ) (a b : Search) (bef
   high : from ≤ to
   high = longer a.states b.states input before grows
 
-  pub stint_still : (v index : ℕ) → v < from → HasStint code input turns a v index → HasStint code input turns b v index
+  pub stint_still : (v index : ℕ) → v < from → HasStint code input limits a v index → HasStint code input limits b v index
   stint_still v index l s =
-      stint_later code (offline input) turns Was Is TA TB (Nothing code (offline input) turns Was TA) (Nothing code (offline input) turns Is TB)
-      (Below code (offline input) turns Was TA from) (Below code (offline input) turns Is TB to) 0 0 (is_later from to (omega arith) high) v index
+      stint_later code (offline input) limits.turns Was Is TA TB (Nothing code (offline input) limits.turns Was TA) (Nothing code (offline input) limits.turns Is TB)
+      (Below code (offline input) limits.turns Was TA from) (Below code (offline input) limits.turns Is TB to) 0 0 (is_later from to (omega arith) high) v index
       (processes_still a.states b.states input before grows v l) (grows.slots v l) (system_still a.states b.states input before grows v l) s
 
-  pub goes_still : (v : ℕ) → v < from → HasOneThatGoes code input turns a v → HasOneThatGoes code input turns b v
+  pub goes_still : (v : ℕ) → v < from → HasOneThatGoes code input limits a v → HasOneThatGoes code input limits b v
   goes_still v l s =
-      goes_later code (offline input) turns Was Is TA TB (Nothing code (offline input) turns Was TA) (Nothing code (offline input) turns Is TB)
-      (Below code (offline input) turns Was TA from) (Below code (offline input) turns Is TB to) 0 0 (is_later from to (omega arith) high) v
+      goes_later code (offline input) limits.turns Was Is TA TB (Nothing code (offline input) limits.turns Was TA) (Nothing code (offline input) limits.turns Is TB)
+      (Below code (offline input) limits.turns Was TA from) (Below code (offline input) limits.turns Is TB to) 0 0 (is_later from to (omega arith) high) v
       (processes_still a.states b.states input before grows v l) (grows.slots v l) (system_still a.states b.states input before grows v l) s
 
-  pub expanded_still : (v : ℕ) → v < from → HasExpanded code input turns a v → HasExpanded code input turns b v
+  pub expanded_still : (v : ℕ) → v < from → HasExpanded code input limits a v → HasExpanded code input limits b v
   expanded_still v l x =
-      expanded_later code (offline input) turns Was Is TA TB from to v (is_later from to (omega arith) high)
+      expanded_later code (offline input) limits.turns Was Is TA TB from to v (is_later from to (omega arith) high)
       (processes_still a.states b.states input before grows v l) (grows.slots v l) (system_still a.states b.states input before grows v l) x
 
   -- of fewer states
   pub expanded_below : (next v : ℕ) → next ≤ from → v < from →
-      Rattle.edi_explored.specs.machine.Levels.IsExpanded code (offline input) turns Was TA next v →
-      Rattle.edi_explored.specs.machine.Levels.IsExpanded code (offline input) turns Is TB next v
+      Rattle.edi_explored.specs.machine.Levels.IsExpanded code (offline input) limits.turns Was TA next v →
+      Rattle.edi_explored.specs.machine.Levels.IsExpanded code (offline input) limits.turns Is TB next v
   expanded_below next v within l x =
-      expanded_later code (offline input) turns Was Is TA TB next next v (is_later next next within (omega arith))
+      expanded_later code (offline input) limits.turns Was Is TA TB next next v (is_later next next within (omega arith))
       (processes_still a.states b.states input before grows v l) (grows.slots v l) (system_still a.states b.states input before grows v l) x

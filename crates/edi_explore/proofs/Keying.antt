@@ -1,5 +1,5 @@
 -- The parts of the live processes, slot after slot.
-use Rattle.std.proofs.Common.{◌≡◌, ◌⊎◌, inl, inr, ℕ, zero, suc, ◌+◌, ◌<◌, true, false, List, [], ◌∷◌, ◌++◌, length, slice_get, Some, refl, sym, ap, ◌∙◌, arith}
+use Rattle.std.proofs.Common.{◌≡◌, ◌⊎◌, inl, inr, ℕ, zero, suc, ◌+◌, ◌<◌, ◌≤◌, Bool, true, false, List, [], ◌∷◌, ◌++◌, length, slice_get, Some, refl, sym, ap, ◌∙◌, arith}
 use Rattle.std.proofs.Common.{subst, length-append}
 use Rattle.std.proofs.lemmas.Bool.{cases_lt}
 use Rattle.std.proofs.lemmas.Option.{slice_get_within}
@@ -7,8 +7,15 @@ use Rattle.edi_kernel.specs.declared.kept.Kept.{Kept}
 use Rattle.edi_kernel.specs.declared.state.KernelState.{KernelState}
 use Rattle.edi_kernel.specs.Table.{is_live}
 use Rattle.edi_kernel.specs.Kept.{IsKeptOf, IsWhole}
+use Rattle.edi_kernel.proofs.Changes.{live_below}
+use Rattle.edi_explored.specs.machine.Alike.{SameShown}
+use Rattle.edi_explore.specs.declared.offline.Offline.{Offline}
+use Rattle.edi_explore.specs.declared.offline.Place.{Place}
+use Rattle.edi_explore.specs.declared.states.Key.{Key}
+use Rattle.edi_explore.specs.declared.states.States.{States}
 use Rattle.edi_explore.specs.Back.{IsPart}
-use Rattle.edi_explore.specs.States.{ArePartsBelow, Follows, IsSameKept}
+use Rattle.edi_explore.specs.States.{ArePartsBelow, Follows, IsKeyOf, IsSameKept, IsSamePlace}
+use Rattle.edi_explore.specs.Systems.{IsPlaceOf}
 use Rattle.edi_explore.proofs.Growing.{stays_at}
 use Rattle.edi_explore.proofs.Equal.{same_kept_of, same_whole}
 
@@ -111,3 +118,23 @@ module _ (n : ℕ) (kept : List Kept) (numbers : List ℕ) (k : KernelState) (b 
         distinct i j x y (inl p) (inr q) e = absurd (let s : y.slot ≡ n = ap (λ (z : Kept). z.slot) q.1 ∙ here in omega (arith, b.below i x p, e, s))
         distinct i j x y (inr p) (inl q) e = absurd (let s : x.slot ≡ n = ap (λ (z : Kept). z.slot) p.1 ∙ here in omega (arith, b.below j y q, e, s))
         distinct i j x y (inr p) (inr q) e = p.0 ∙ sym q.0
+
+-- ---- the key of them
+
+pub same_place : (asks : Bool) (o : Offline) (a b : Place) → IsPlaceOf asks o a → IsSamePlace a b → IsPlaceOf asks o b
+same_place asks o a b h e = record {
+  taken = e.0 ∙ h.taken;
+  shown = subst (λ (xs : List ℕ). SameShown asks xs o.shown.items) (sym e.2) h.shown;
+  buffer = e.1 ∙ h.buffer;
+}
+
+pub parts_key : (asks : Bool) (s : States) (key : Key) (k : KernelState) (o : Offline) (n : ℕ) → ArePartsBelow n s.processes.keys key.parts.items k → 32 ≤ n →
+    (place : Place) × (slice_get s.places.keys key.place ≡ Some place) × IsPlaceOf asks o place → IsKeyOf asks s key k o
+parts_key asks s key k o n b all place = record {
+  place = place.0;
+  at = place.1;
+  system = place.2;
+  processes = record { there = b.there; whole = b.whole; distinct = b.distinct };
+  each = b.each;
+  all = λ slot live. b.all slot (omega (arith, live_below k.table slot live, all)) live;
+}

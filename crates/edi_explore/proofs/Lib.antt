@@ -14,3 +14,8 @@ pub mod Iteration
 pub mod Expanding
 pub mod Beginning
 pub mod Levelling
+pub mod Fewer
+pub mod Watching
+pub mod Noted
+pub mod Telling
+pub mod Recording

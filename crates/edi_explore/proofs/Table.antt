@@ -1,5 +1,5 @@
 -- The states that a search keeps as a table, as the laws of a search speak of them.
-use Rattle.std.proofs.Common.{◌≡◌, ℕ, ◌<◌, ◌≤◌, arith, false, List, [], length, Some, None, refl, sym, ap, subst, ◌∙◌}
+use Rattle.std.proofs.Common.{◌≡◌, ℕ, ◌<◌, ◌≤◌, arith, Bool, List, [], length, Option, Some, None, refl, sym, ap, subst, ◌∙◌}
 use Rattle.std.specs.Prelude.{slice_get, drop}
 use Rattle.edi_kernel.specs.declared.kept.Kept.{Kept}
 use Rattle.edi_kernel.specs.declared.state.KernelState.{KernelState}
@@ -13,12 +13,13 @@ use Rattle.edi_explored.specs.Covered.{Report, Tells, tells_shown}
 use Rattle.edi_explored.proofs.machine.Levels.{IsLater}
 use Rattle.edi_explored.specs.machine.Levels.{StateTable}
 use Rattle.edi_explore.specs.declared.offline.Offline.{Offline}
+use Rattle.edi_explore.specs.declared.offline.Place.{Place}
 use Rattle.edi_explore.specs.declared.states.Key.{Key}
 use Rattle.edi_explore.specs.declared.states.States.{States}
 use Rattle.edi_explore.specs.Offline.{no_files}
 use Rattle.edi_explore.specs.Systems.{system_of}
 use Rattle.edi_explore.specs.States.{AreStates, Follows, IsAdded, PutsStateBack}
-use Rattle.edi_explore.specs.Tables.{Grows, parts_at, parts_of, place_of, system_at, table_of}
+use Rattle.edi_explore.specs.Tables.{Grows, parts_at, parts_of, place_of, shown_at, shown_in, system_at, table_of}
 use Rattle.edi_explore.proofs.Growing.{follows_on, follows_same, stays_at}
 use Rattle.edi_explore.proofs.Keying.{lookup}
 use Rattle.edi_explore.proofs.Tabled.{are_kept, are_apart, parts_last, there_still}
@@ -49,11 +50,11 @@ module _ (s : States) (input : List ℕ) (v : ℕ) (k : KernelState) (o : Offlin
   pub is_order : Rattle.edi_kernel.specs.Table.ready_slots k.table ≡ T.slots v
   is_order = h.back.ready
 
-  pub is_system : o.shown.items ≡ [] → o.printed.items ≡ [] → o.input.items ≡ input → system_of o ≡ T.system v
-  is_system shown printed same =
+  pub is_system : o.printed.items ≡ [] → o.input.items ≡ input → system_of o ≡ T.system v
+  is_system printed same =
       (λ i. record {
         input = drop (sym h.system.taken i) (same i);
-        shown = shown i;
+        shown = h.system.shown i;
         printed = printed i;
         slots = no_files;
         blocks = 0;
@@ -61,6 +62,14 @@ module _ (s : States) (input : List ℕ) (v : ℕ) (k : KernelState) (o : Offlin
         buffer = sym h.system.buffer i;
       })
       ∙ sym (ap (λ x. system_at input (place_of s x)) h.is ∙ ap (system_at input) h.at)
+
+-- what was shown in a state is that of its system
+pub shown_of : (s : States) (input : List ℕ) (v : ℕ) → ((table_of s input).system v).shown ≡ shown_at s v
+shown_of s input v = of (place_of s (slice_get s.keys.keys v))
+  where
+    of : (place : Option Place) → (system_at input place).shown ≡ shown_in place
+    of None = refl
+    of (Some place) = refl
 
 -- ---- states that grow
 
@@ -83,8 +92,8 @@ grows_on a b c f g = record {
   slots = λ v l. g.slots v (omega (arith, l, follows_long a.keys.keys b.keys.keys f.keys)) ∙ f.slots v l;
 }
 
-pub grows_added : (old new : States) (k : KernelState) (o : Offline) → IsAdded old new k o → Grows old new
-grows_added old new k o h = record { processes = h.processes; places = h.places; keys = h.keys; slots = h.slots }
+pub grows_added : (asks : Bool) (old new : States) (k : KernelState) (o : Offline) → IsAdded asks old new k o → Grows old new
+grows_added asks old new k o h = record { processes = h.processes; places = h.places; keys = h.keys; slots = h.slots }
 
 pub grows_equal : (old new : States) → new ≡ old → Grows old new
 grows_equal old new e = subst (Grows old) (sym e) (grows_same old)
@@ -131,21 +140,21 @@ module _ (old new : States) (input : List ℕ) (before : AreStates old) (h : Gro
 
 -- ---- a state that was added
 
-module _ (old new : States) (input : List ℕ) (k : KernelState) (o : Offline) (h : IsAdded old new k o) where
+module _ (old new : States) (input : List ℕ) (asks : Bool) (k : KernelState) (o : Offline) (h : IsAdded asks old new k o) where
   abbrev A : StateTable
   A = table_of new input
 
   pub leads_there : AreKeptOf (A.processes h.number) k
   leads_there = subst (λ ps. AreKeptOf ps k) (sym (ap (parts_of new) h.is)) (are_kept new.processes.keys h.key.parts.items k h.of.each h.of.all)
 
-  pub alike_there : o.input.items ≡ input → Alike false (A.system h.number) (system_of o)
-  alike_there same = subst (λ x. Alike false x (system_of o)) (sym (ap (λ x. system_at input (place_of new x)) h.is ∙ ap (system_at input) h.of.at)) (record {
+  pub alike_there : o.input.items ≡ input → Alike asks (A.system h.number) (system_of o)
+  alike_there same = subst (λ x. Alike asks x (system_of o)) (sym (ap (λ x. system_at input (place_of new x)) h.is ∙ ap (system_at input) h.of.at)) (record {
     input = λ i. drop (sym h.of.system.taken i) (same i);
     slots = refl;
     blocks = refl;
     found = refl;
     buffer = sym h.of.system.buffer;
-    shown = tt;
+    shown = h.of.system.shown;
   })
 
   pub number_within : h.number < length new.keys.keys

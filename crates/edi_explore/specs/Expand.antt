@@ -4,11 +4,12 @@ use Rattle.edi_target.specs.Check.{CodeParts}
 use Rattle.edi_explored.specs.Covered as covered
 use Rattle.edi_explored.specs.machine.Kernels.{AreApart, IsFailed}
 use Rattle.edi_explored.specs.machine.Levels.{AreKept, FirstBelow, GoesBelow, IsExpanded, StintBelow}
+use Rattle.edi_explore.specs.declared.ends.Limits.{Limits}
 use Rattle.edi_explore.specs.declared.expand.Expanded.{Expanded}
 use Rattle.edi_explore.specs.declared.expand.Expanded.TheVariants as expanded
 use Rattle.edi_explore.specs.declared.finding.Search.{Search}
-use Rattle.edi_explore.specs.Found.{endings_of}
 use Rattle.edi_explore.specs.Offline.{offline}
+use Rattle.edi_explore.specs.Shown.{asks_of, told_by}
 use Rattle.edi_explore.specs.States.{AreStates}
 use Rattle.edi_explore.specs.Tables.{Grows, table_of}
 
@@ -23,9 +24,9 @@ by_record true = expanded.Whole
 by_record false = expanded.Unrecorded
 
 module _ (code : CodeParts) (input : List ℕ) where
-  module _ (turns : ℕ) (s : Search) where
+  module _ (limits : Limits) (s : Search) where
     abbrev pub told : covered.Report
-    told = covered.endings (endings_of s.found.items)
+    told = told_by (asks_of limits) s.found.items
 
     abbrev pub count : ℕ
     count = length s.states.keys.keys
@@ -35,7 +36,7 @@ module _ (code : CodeParts) (input : List ℕ) where
 
     -- the process at this index of those that are ready in a state has had a stint, which leads to a state that is kept or to an ending that is told
     abbrev pub HasStint : (state index : ℕ) → Type 0
-    HasStint state index = StintBelow code (offline input) turns told (table_of s.states input) count state index
+    HasStint state index = StintBelow code (offline input) limits.turns told (table_of s.states input) count state index
 
     -- and where it does not fail, the stint was more than a failed attempt
     pub record HasStintThat (fails : Bool) (state index : ℕ) : Type 0 where
@@ -43,21 +44,21 @@ module _ (code : CodeParts) (input : List ℕ) where
       pub goes : fails ≡ false → IsFailed one.end one.after → ⊥
 
     abbrev pub HasOneThatGoes : (state : ℕ) → Type 0
-    HasOneThatGoes state = GoesBelow code (offline input) turns told (table_of s.states input) count state
+    HasOneThatGoes state = GoesBelow code (offline input) limits.turns told (table_of s.states input) count state
 
     -- the state was expanded
     abbrev pub HasExpanded : (state : ℕ) → Type 0
-    HasExpanded state = IsExpanded code (offline input) turns told (table_of s.states input) count state
+    HasExpanded state = IsExpanded code (offline input) limits.turns told (table_of s.states input) count state
 
     -- the program was begun
     abbrev pub HasBegun : Type 0
-    HasBegun = FirstBelow code (offline input) turns told (table_of s.states input) count
+    HasBegun = FirstBelow code (offline input) limits.turns told (table_of s.states input) count
 
     -- each state is that of some kernel, and the system has this input
     pub record IsSearch : Type 0 where
       pub states : AreStates s.states
       pub input_is : s.calls.input.items ≡ input
-      pub kept : AreKept code (offline input) turns told (table_of s.states input) count
+      pub kept : AreKept code (offline input) limits.turns told (table_of s.states input) count
 
     -- of the processes at the first so many indices
     pub record HasStintsTo (index state : ℕ) (stands : Bool) : Type 0 where
@@ -65,11 +66,11 @@ module _ (code : CodeParts) (input : List ℕ) where
       pub goes : stands ≡ false → HasOneThatGoes state
 
   -- the search has what it had
-  pub record GoesFurther (turns : ℕ) (old new : Search) : Type 0 where
-    pub search : IsSearch turns new
+  pub record GoesFurther (limits : Limits) (old new : Search) : Type 0 where
+    pub search : IsSearch limits new
     pub grows : Grows old.states new.states
 
   -- it goes further, and where nothing is lacking this is so
-  pub record ComesTo (turns : ℕ) (old new : Search) (result : Expanded) (whole : Type 0) : Type 0 where
-    pub further : GoesFurther turns old new
+  pub record ComesTo (limits : Limits) (old new : Search) (result : Expanded) (whole : Type 0) : Type 0 where
+    pub further : GoesFurther limits old new
     pub so : result ≡ expanded.Whole → whole

@@ -1,5 +1,5 @@
 -- Words of contracts. The endings that a search has found, with choices that bring them about.
-use Rattle.std.specs.Prelude.{◌≡◌, ◌≤◌, ℕ, Bool, true, false, List, [], ◌∷◌, length, slice_get, Contains, Option, Some, None, ⊤}
+use Rattle.std.specs.Prelude.{◌≡◌, ◌≤◌, ℕ, Bool, true, false, List, [], ◌∷◌, length, Contains, Option, Some, None, ⊤}
 use Rattle.edi_calls.specs.Choice.{listed}
 use Rattle.edi_calls.specs.Outcome as outcome
 use Rattle.edi_calls.specs.Outcome.{Outcome}
@@ -16,12 +16,13 @@ use Rattle.edi_explore.specs.declared.ends.Found.{Found}
 pub use Rattle.edi_explore.specs.Choices.{AreChoices, most_choices, most_turns}
 use Rattle.edi_explore.specs.Offline.{offline}
 
--- the execution that these choices select, of at most so many turns, ends so, after as many as are told
+-- the execution that these choices select, of at most so many turns, ends so, after as many as are told, and has shown what is told
 pub record Selects (most : ℕ) (unit : ProgramUnit) (input : List ℕ) (found : Found) (end : outcome.Ending) : Type 0 where
   pub outcome : Outcome
   pub selects : Select unit (offline input) most (listed found.choices.items) outcome
   pub ends : outcome.ending ≡ end
   pub turns : outcome.turns ≡ found.turns
+  pub shown : outcome.shown ≡ found.shown.items
 
 -- what is found is what the run with these choices, of at most so many turns, came to, unless an object has failed in it
 pub record RunsWith (most : ℕ) (unit : ProgramUnit) (input choices : List ℕ) (found : Found) : Type 0 where
@@ -35,7 +36,7 @@ IsTold ending.Turns = ⊥
 IsTold ending.Fault = ⊥
 IsTold e = ⊤
 
--- WHAT IS FOUND IS SO: its choices select an execution that ends so, after so many turns, and a record may have them
+-- WHAT IS FOUND IS SO: its choices select an execution that ends so, after so many turns, with this shown, and a record may have them
 pub record IsRecorded (unit : ProgramUnit) (input : List ℕ) (found : Found) : Type 0 where
   pub end : outcome.Ending
   pub is : ending_of found.ending ≡ Some end
@@ -77,14 +78,6 @@ AllTellWaits code input found = (one : Found) → Contains found one → TellsWa
 -- none of them is an instruction without a meaning
 abbrev pub AreNeverBad : List Found → Type 0
 AreNeverBad found = (one : Found) (at : ℕ) → Contains found one → one.ending ≡ ending.Bad at → ⊥
-
--- the ending is among those that were found
-abbrev pub HasEnding : List Found → Ending → Type 0
-HasEnding found e = (one : Found) × Contains found one × (one.ending ≡ e)
-
--- no ending is found twice
-abbrev pub AreDistinct : List Found → Type 0
-AreDistinct found = (i j : ℕ) (a b : Found) → slice_get found i ≡ Some a → slice_get found j ≡ Some b → a.ending ≡ b.ending → i ≡ j
 
 abbrev pub with_ending : Option outcome.Ending → List outcome.Ending → List outcome.Ending
 with_ending None es = es

@@ -2,6 +2,7 @@ pub mod Choices
 pub mod Offline
 pub mod Systems
 pub mod Found
+pub mod Shown
 pub mod Back
 pub mod States
 pub mod Records
@@ -10,3 +11,5 @@ pub mod Steps
 pub mod Tables
 pub mod Expand
 pub mod Verdicts
+pub mod Fewest
+pub mod Watched

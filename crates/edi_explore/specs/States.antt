@@ -1,5 +1,5 @@
 -- Words of contracts. The states that a search keeps, by numbers.
-use Rattle.std.specs.Prelude.{◌≡◌, ◌⊎◌, ℕ, zero, suc, ◌-◌, ◌<◌, ◌≤◌, ◌^◌, true, false, List, [], ◌++◌, length, slice_get, slice_index_or, Some, None, take, drop}
+use Rattle.std.specs.Prelude.{◌≡◌, ◌⊎◌, ℕ, zero, suc, ◌-◌, ◌<◌, ◌≤◌, ◌^◌, Bool, true, false, List, [], ◌++◌, length, slice_get, slice_index_or, Some, None, take, drop}
 use Rattle.std.specs.Option.{option_map}
 use Rattle.edi_kernel.specs.declared.kept.Kept.{Kept}
 use Rattle.edi_kernel.specs.declared.state.KernelState.{KernelState}
@@ -66,7 +66,7 @@ module _ (s : States) where
     pub back : IsBackOf key (slots_of s v) k
     pub place : Place
     pub at : slice_get s.places.keys key.place ≡ Some place
-    pub system : IsPlaceOf o place
+    pub system : IsPlaceOf true o place
 
 -- no state is kept
 pub record AreNone (s : States) : Type 0 where
@@ -88,10 +88,10 @@ abbrev pub Follows : {X : Type 0} → List X → List X → Type 0
 Follows {X = X} old new = (more : List X) × (new ≡ old ++ more)
 
 -- the parts of a state are those of a kernel and a system
-pub record IsKeyOf (s : States) (key : Key) (k : KernelState) (o : Offline) : Type 0 where
+pub record IsKeyOf (asks : Bool) (s : States) (key : Key) (k : KernelState) (o : Offline) : Type 0 where
   pub place : Place
   pub at : slice_get s.places.keys key.place ≡ Some place
-  pub system : IsPlaceOf o place
+  pub system : IsPlaceOf asks o place
   pub processes : AreProcesses s.processes.keys key.parts.items
   pub each : (index : ℕ) (part : Kept) → IsPart s.processes.keys key.parts.items index part → IsKeptOf k part
   pub all : (slot : ℕ) → is_live k.table slot ≡ true →
@@ -119,17 +119,18 @@ IsSameKept a b =
     × (b.first ≡ a.first) × (b.last ≡ a.last) × (b.held ≡ a.held) × (b.ready ≡ a.ready) × (b.words.items ≡ a.words.items)
 
 abbrev pub IsSamePlace : Place → Place → Type 0
-IsSamePlace a b = (b.taken ≡ a.taken) × (option_map (λ bytes. bytes.items) b.buffer ≡ option_map (λ bytes. bytes.items) a.buffer)
+IsSamePlace a b =
+    (b.taken ≡ a.taken) × (option_map (λ bytes. bytes.items) b.buffer ≡ option_map (λ bytes. bytes.items) a.buffer) × (b.shown.items ≡ a.shown.items)
 
 abbrev pub IsSameKey : Key → Key → Type 0
 IsSameKey a b = (b.place ≡ a.place) × (b.parts.items ≡ a.parts.items)
 
 -- a state of this kernel and this system is kept, and no other one is new; what was kept before is as it was
-pub record IsAdded (old new : States) (k : KernelState) (o : Offline) : Type 0 where
+pub record IsAdded (asks : Bool) (old new : States) (k : KernelState) (o : Offline) : Type 0 where
   pub number : ℕ
   pub key : Key
   pub is : slice_get new.keys.keys number ≡ Some key
-  pub of : IsKeyOf new key k o
+  pub of : IsKeyOf asks new key k o
   pub states : AreStates new
   pub processes : Follows old.processes.keys new.processes.keys
   pub places : Follows old.places.keys new.places.keys

@@ -1,5 +1,5 @@
 -- Words of contracts. One stint from a state that is kept.
-use Rattle.std.specs.Prelude.{◌≡◌, ◌^◌, ℕ, false, List, [], length, Some, None, ⊤}
+use Rattle.std.specs.Prelude.{◌≡◌, ◌^◌, ℕ, Bool, false, List, [], length, Some, None, ⊤}
 use Rattle.edi_calls.specs.Names.{Name}
 use Rattle.edi_calls.specs.Ready.{name_at, without_index}
 use Rattle.edi_target.specs.Check.{CodeParts}
@@ -12,10 +12,12 @@ use Rattle.edi_kernel.specs.declared.state.KernelState.{KernelState}
 use Rattle.edi_kernel.specs.Kernel.{GoesTo, Holds, IsKernel, is_over}
 use Rattle.edi_kernel.specs.Runs.{IsAt}
 use Rattle.edi_explored.specs.machine.Kernels.{IsFailed}
+use Rattle.edi_explore.specs.declared.ends.Limits.{Limits}
 use Rattle.edi_explore.specs.declared.offline.Offline.{Offline}
 use Rattle.edi_explore.specs.declared.states.States.{States}
 use Rattle.edi_explore.specs.declared.step.Followed.{Followed}
 use Rattle.edi_explore.specs.declared.step.Followed.TheVariants as followed
+use Rattle.edi_explore.specs.Shown.{asks_of}
 use Rattle.edi_explore.specs.Systems.{system_of}
 use Rattle.edi_explore.specs.States.{IsAdded, PutsStateBack}
 
@@ -24,7 +26,6 @@ pub record GoesOn (s : States) (code : CodeParts) (turns state index : ℕ) (end
   pub back : KernelState
   pub placed : Offline
   pub puts : PutsStateBack s state back placed
-  pub shown : placed.shown.items ≡ []
   pub printed : placed.printed.items ≡ []
   pub taken : KernelState
   pub takes : (m : Machine) (ready : List Name) → Holds back m None ready → Holds taken m (Some (name_at ready index)) (without_index ready index)
@@ -52,14 +53,14 @@ EndsSo ending.Fault result = ⊥
 EndsSo e result = result ≡ followed.Ended e
 
 -- how a stint was followed: the run has ended, or the stint was cut, or the process only failed an attempt, or the state to which it leads is kept
-abbrev pub FollowedAs : Followed → StintEnd → (old new : States) → KernelState → Offline → Type 0
-FollowedAs (followed.Ended e) end old new k o = ((used : ℕ) × (end ≡ stint_end.Over used e)) × IsProper e × (new ≡ old)
-FollowedAs followed.Cut end old new k o = new ≡ old
-FollowedAs followed.Failed end old new k o = IsFailed end k × (new ≡ old)
-FollowedAs followed.Led end old new k o = (is_over end ≡ false) × (k.table.marks ≡ 0) × IsAdded old new k o
+abbrev pub FollowedAs : (asks : Bool) → Followed → StintEnd → (old new : States) → KernelState → Offline → Type 0
+FollowedAs asks (followed.Ended e) end old new k o = ((used : ℕ) × (end ≡ stint_end.Over used e)) × IsProper e × (new ≡ old)
+FollowedAs asks followed.Cut end old new k o = new ≡ old
+FollowedAs asks followed.Failed end old new k o = IsFailed end k × (new ≡ old)
+FollowedAs asks followed.Led end old new k o = (is_over end ≡ false) × (k.table.marks ≡ 0) × IsAdded asks old new k o
 
 -- the stint of the process at this index from this state was followed so
-pub record FollowsStint (code : CodeParts) (turns state index : ℕ) (result : Followed) (old new : States) (after : KernelState) (o : Offline) : Type 0 where
+pub record FollowsStint (code : CodeParts) (limits : Limits) (state index : ℕ) (result : Followed) (old new : States) (after : KernelState) (o : Offline) : Type 0 where
   pub end : StintEnd
-  pub goes : GoesOn old code turns state index end after o
-  pub so : FollowedAs result end old new after o
+  pub goes : GoesOn old code limits.turns state index end after o
+  pub so : FollowedAs (asks_of limits) result end old new after o

@@ -1,10 +1,11 @@
 -- Words of contracts. The system of a program whose choices are all followed, as its object keeps it.
-use Rattle.std.specs.Prelude.{◌≡◌, ℕ, true, Option, None, drop, ⊤}
+use Rattle.std.specs.Prelude.{◌≡◌, ℕ, Bool, true, Option, None, drop, ⊤}
 use Rattle.std.specs.Option.{option_map, option_to_list}
 use Rattle.std.specs.Prelude.{Result, Ok, Err}
 use Rattle.edi_calls.specs.State.{State}
 use Rattle.edi_calls.specs.Asked.{uses}
 use Rattle.edi_calls.specs.Calls.{CallResult, answered, no_file, file_limit}
+use Rattle.edi_explored.specs.machine.Alike.{SameShown}
 use Rattle.edi_explore.specs.declared.offline.Offline.{Offline}
 use Rattle.edi_explore.specs.declared.offline.Place.{Place}
 use Rattle.edi_explore.specs.declared.offline.Stop.{Stop}
@@ -23,9 +24,10 @@ system_of o = record {
   buffer = option_map (λ bytes. bytes.items) o.buffer;
 }
 
--- what is kept is where the system stands: what was taken of the input, and the file that is being written
-pub record IsPlaceOf (o : Offline) (place : Place) : Type 0 where
+-- what is kept is where the system stands: what was taken of the input, the file that is being written, and what was shown, if that is asked
+pub record IsPlaceOf (asks : Bool) (o : Offline) (place : Place) : Type 0 where
   pub taken : place.taken ≡ o.taken
+  pub shown : SameShown asks place.shown.items o.shown.items
   pub buffer : option_map (λ bytes. bytes.items) place.buffer ≡ option_map (λ bytes. bytes.items) o.buffer
 
 -- the input, and what has failed, are as before

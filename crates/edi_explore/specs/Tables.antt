@@ -23,12 +23,12 @@ abbrev pub parts_of : States → Option Key → List Kept
 parts_of s None = []
 parts_of s (Some key) = parts_at s.processes.keys key.parts.items
 
--- the system of an input that stands at a place, with nothing shown or printed
+-- the system of an input that stands at a place, with nothing printed
 abbrev pub system_at : List ℕ → Option Place → State
 system_at input None = offline input
 system_at input (Some place) = record {
   input = drop place.taken input;
-  shown = [];
+  shown = place.shown.items;
   printed = [];
   slots = no_files;
   blocks = 0;
@@ -39,6 +39,14 @@ system_at input (Some place) = record {
 abbrev pub place_of : States → Option Key → Option Place
 place_of s None = None
 place_of s (Some key) = slice_get s.places.keys key.place
+
+abbrev pub shown_in : Option Place → List ℕ
+shown_in None = []
+shown_in (Some place) = place.shown.items
+
+-- what was shown in a state, where output is looked at
+abbrev pub shown_at : States → ℕ → List ℕ
+shown_at s v = shown_in (place_of s (slice_get s.keys.keys v))
 
 abbrev pub table_of : States → (input : List ℕ) → StateTable
 table_of s input = record {

@@ -6,9 +6,10 @@ use Rattle.edi_unit.specs.Tree.{ProgramUnit}
 use Rattle.edi_meaning.specs.Select.{Select}
 use Rattle.edi_target.specs.Check.{CodeParts}
 use Rattle.edi_follows.specs.Theorem.{CanBeCoded}
-use Rattle.edi_explored.specs.Reached.{AreAll, AreAllBelow}
+use Rattle.edi_explored.specs.Covered.{AllTold, AllToldBelow}
 use Rattle.edi_explored.specs.machine.Kernels.{IsUnitCode}
 use Rattle.edi_explore.specs.declared.ends.Found.{Found}
+use Rattle.edi_explore.specs.declared.ends.Limits.{Limits}
 use Rattle.edi_explore.specs.declared.ends.Verdict.{Verdict}
 use Rattle.edi_explore.specs.declared.ends.Verdict.TheVariants as verdict
 use Rattle.edi_explore.specs.declared.expand.Expanded.{Expanded}
@@ -18,8 +19,8 @@ use Rattle.edi_explore.specs.declared.step.GivenUp.{GivenUp}
 use Rattle.edi_explore.specs.declared.step.GivenUp.TheVariants as given_up
 use Rattle.edi_explore.specs.Expand.{HasBegun}
 use Rattle.edi_explore.specs.Choices.{AreChoices, most_choices, turn_limit}
-use Rattle.edi_explore.specs.Found.{endings_of}
 use Rattle.edi_explore.specs.Offline.{offline}
+use Rattle.edi_explore.specs.Shown.{HasMany, asks_of, told_by}
 
 -- the verdict where all executions of fewer moves were followed, and these
 abbrev pub verdict_of : Expanded → (moves : ℕ) → Verdict
@@ -30,6 +31,7 @@ verdict_of expanded.Unrecorded moves = verdict.Unrecorded moves
 -- the verdict where all executions of fewer moves were followed before the search was given up
 abbrev pub verdict_of_given_up : GivenUp → (moves : ℕ) → Verdict
 verdict_of_given_up given_up.Full moves = verdict.Full moves
+verdict_of_given_up given_up.Many moves = verdict.Many moves
 verdict_of_given_up given_up.NoMemory moves = verdict.NoMemory moves
 
 -- the one verdict, or the other where that one says that nothing is lacking
@@ -41,6 +43,7 @@ or_else one other = one
 abbrev pub IsUpTo : Verdict → ℕ → Type 0
 IsUpTo verdict.All n = ⊥
 IsUpTo (verdict.Full moves) n = n ≡ moves
+IsUpTo (verdict.Many moves) n = n ≡ moves
 IsUpTo (verdict.Cut moves) n = n ≡ moves
 IsUpTo (verdict.Unrecorded moves) n = n ≡ moves
 IsUpTo (verdict.NoMemory moves) n = n ≡ moves
@@ -65,22 +68,24 @@ abbrev pub IsConfirmed : (first now : Verdict) → Type 0
 IsConfirmed (verdict.Cut moves) now = (now ≡ verdict.Cut moves) ⊎ ((now ≡ verdict.Unrecorded moves) ⊎ (now ≡ verdict.NoMemory moves))
 IsConfirmed first now = now ≡ first
 
-module _ (code : CodeParts) (input : List ℕ) where
+module _ (code : CodeParts) (input : List ℕ) (limits : Limits) where
   -- these are all endings of each program with this code, or all below so many moves
   abbrev pub AreAllOf : List Found → Type 0
-  AreAllOf found = (unit : ProgramUnit) → CanBeCoded unit → IsUnitCode unit code → AreAll unit (offline input) (endings_of found)
+  AreAllOf found = (unit : ProgramUnit) → CanBeCoded unit → IsUnitCode unit code → AllTold unit (offline input) (told_by (asks_of limits) found)
 
   abbrev pub AreAllTo : ℕ → List Found → Type 0
-  AreAllTo moves found = (unit : ProgramUnit) → CanBeCoded unit → IsUnitCode unit code → AreAllBelow moves unit (offline input) (endings_of found)
+  AreAllTo moves found =
+      (unit : ProgramUnit) → CanBeCoded unit → IsUnitCode unit code → AllToldBelow moves unit (offline input) (told_by (asks_of limits) found)
 
-  abbrev pub IsAnswer : (most count : ℕ) → List Found → Verdict → Type 0
-  IsAnswer most count found verdict.All = AreAllOf found
-  IsAnswer most count found (verdict.Full moves) = AreAllTo moves found × (most ≤ count)
-  IsAnswer most count found (verdict.Cut moves) = AreAllTo moves found
-  IsAnswer most count found (verdict.Unrecorded moves) = AreAllTo moves found
-  IsAnswer most count found (verdict.NoMemory moves) = AreAllTo moves found
+  abbrev pub IsAnswer : (count : ℕ) → List Found → Verdict → Type 0
+  IsAnswer count found verdict.All = AreAllOf found
+  IsAnswer count found (verdict.Full moves) = AreAllTo moves found × (limits.states ≤ count)
+  IsAnswer count found (verdict.Many moves) = AreAllTo moves found × HasMany limits found
+  IsAnswer count found (verdict.Cut moves) = AreAllTo moves found
+  IsAnswer count found (verdict.Unrecorded moves) = AreAllTo moves found
+  IsAnswer count found (verdict.NoMemory moves) = AreAllTo moves found
 
   -- the first stint was followed, with turns left
-  pub record HasFirst (turns : ℕ) (s : Search) : Type 0 where
-    pub some : 0 < turns
-    pub first : HasBegun code input turns s
+  pub record HasFirst (s : Search) : Type 0 where
+    pub some : 0 < limits.turns
+    pub first : HasBegun code input limits s

@@ -1,5 +1,8 @@
 //! What a search is told, and what it reports.
 
+ghost use Rattle.std.specs.Prelude.{◌≡◌};
+ghost use Rattle.edi_explore.specs.Shown.{asks_of};
+
 use edi_kernel::Ending;
 use edi_waits::Wait;
 
@@ -10,6 +13,8 @@ pub struct Limits {
     pub states: u32,
     /// How many turns a stint may have.
     pub turns: u64,
+    /// With a number: an ending with other output is another one, and so many are found at most. With none, output is not looked at.
+    pub shown: Option<u32>,
 }
 
 /// An ending with choices that bring it about. After their end each choice is 0.
@@ -21,6 +26,10 @@ pub struct Found {
     pub choices: Vec<u8>,
     /// The turns of the run with these choices, at most 1,000,000,000.
     pub turns: u64,
+    /// No execution of fewer moves ends so.
+    pub moves: usize,
+    /// All that the run has shown.
+    pub shown: Vec<u8>,
     /// Who waits where at the end of that run, if it is a standstill; else nobody.
     pub waits: Vec<Wait>,
 }
@@ -32,6 +41,8 @@ pub enum Verdict {
     All,
     /// As many states were kept as may be.
     Full(usize),
+    /// As many endings were found as may be, and there is another one.
+    Many(usize),
     /// A process goes on for more turns than it may: the choices of the report lead to it.
     Cut(usize),
     /// An ending has no record: the run with its choices has more of them, or more turns, than a record may have, or ends otherwise.
@@ -48,4 +59,13 @@ pub struct Report {
     pub states: usize,
     /// Where the verdict is `Cut`: choices with which the run has more turns than a process may take, at most 65,536. Else they say nothing.
     pub cut: Vec<u8>,
+}
+
+impl Limits {
+    /// Whether output is looked at.
+    pub(crate) fn asks(self) -> bool
+        ensures { result ≡ asks_of self }
+    {
+        self.shown.is_some()
+    }
 }

@@ -2,16 +2,16 @@
 
 ghost use Rattle.std.specs.Prelude.{◌≡◌, ◌<◌, ◌≤◌, ◌&&◌, true, false, ℕ, length, IfErr, IfOk};
 ghost use Rattle.edi_explore.specs.Expand.{Apart, ComesTo, HasExpanded, HasStintThat, IsSearch, both, by_record};
-ghost use Rattle.edi_explore.specs.Finding.{Finds};
+ghost use Rattle.edi_explore.specs.Finding.{FindsAt};
+ghost use Rattle.edi_explore.specs.Shown.{HasMany};
 ghost use Rattle.edi_explore.specs.States.{slots_of};
 
 use crate::ends::Limits;
-use crate::finding::Search;
+use crate::finding::{Met, Search};
 use crate::states::Origin;
 use crate::step::{Followed, GivenUp, follow};
 use edi_kernel::{Ending, Kernel};
 use edi_target::Code;
-use std::alloc::Global;
 
 /// Whether all of some stints were followed.
 #[derive(Clone, Copy, PartialEq, Eq)]
@@ -70,26 +70,26 @@ impl Search {
     /// Follows the stint of the process of this origin, and finds its ending, if it ends the run.
     fn stint(
         &mut self,
-        alloc: Global,
         kernel: &mut Kernel,
         code: &Code,
         input: &[u8],
         origin: Origin,
         limits: Limits,
     ) -> Result<Came, GivenUp>
-        requires search { IsSearch code.now input.now limits.turns self.old }
+        requires search { IsSearch code.now input.now limits self.old }
         requires state { origin.state < length self.old.states.keys.keys }
         requires index { origin.index < length (slots_of self.old.states origin.state) }
         requires few { length self.old.states.keys.keys ≤ limits.states }
-        ensures finds { Finds code.now input.now self.old.found.items self.new.found.items }
-        ensures follows { IfOk result (λ came. ComesTo code.now input.now limits.turns self.old self.new came.expanded
-            (Apart code.now input.now limits.turns self.new origin.state →
-            HasStintThat code.now input.now limits.turns self.new came.fails origin.state origin.index)) }
+        ensures finds { FindsAt code.now input.now limits self.old self.new }
+        ensures follows { IfOk result (λ came. ComesTo code.now input.now limits self.old self.new came.expanded
+            (Apart code.now input.now limits self.new origin.state →
+            HasStintThat code.now input.now limits self.new came.fails origin.state origin.index)) }
         ensures full { IfErr result (λ given_up. given_up ≡ GivenUp.Full → limits.states ≤ length self.new.states.keys.keys) }
+        ensures many { IfErr result (λ given_up. given_up ≡ GivenUp.Many → HasMany limits self.new.found.items) }
         ensures few { length self.new.states.keys.keys ≤ limits.states }
     {
         let followed = follow(
-            alloc,
+            self.calls.alloc,
             &mut self.states,
             kernel,
             code,
@@ -107,14 +107,18 @@ impl Search {
                 fails: true,
             }),
             Followed::Cut => {
-                self.note_cut(alloc, origin)?;
+                self.note_cut(origin)?;
                 Ok(Came {
                     expanded: Expanded::Cut,
                     fails: false,
                 })
             }
             Followed::Ended(ending) => {
-                let told = self.find(alloc, kernel, code, input, ending, origin)?;
+                let met = Met {
+                    ending,
+                    shown: self.calls.shown_if(limits.asks())?,
+                };
+                let told = self.find(kernel, code, input, limits, met, origin)?;
                 Ok(Came {
                     expanded: Expanded::by_record(told),
                     fails: false,
@@ -126,20 +130,20 @@ impl Search {
     /// Follows a stint of each process that is ready in a state. Where all of them only fail, that is a standstill.
     pub(crate) fn expand(
         &mut self,
-        alloc: Global,
         kernel: &mut Kernel,
         code: &Code,
         input: &[u8],
         state: usize,
         limits: Limits,
     ) -> Result<Expanded, GivenUp>
-        requires search { IsSearch code.now input.now limits.turns self.old }
+        requires search { IsSearch code.now input.now limits self.old }
         requires state { state < length self.old.states.keys.keys }
         requires few { length self.old.states.keys.keys ≤ limits.states }
-        ensures finds { Finds code.now input.now self.old.found.items self.new.found.items }
+        ensures finds { FindsAt code.now input.now limits self.old self.new }
         ensures expands { IfOk result (λ expanded.
-            ComesTo code.now input.now limits.turns self.old self.new expanded (HasExpanded code.now input.now limits.turns self.new state)) }
+            ComesTo code.now input.now limits self.old self.new expanded (HasExpanded code.now input.now limits self.new state)) }
         ensures full { IfErr result (λ given_up. given_up ≡ GivenUp.Full → limits.states ≤ length self.new.states.keys.keys) }
+        ensures many { IfErr result (λ given_up. given_up ≡ GivenUp.Many → HasMany limits self.new.found.items) }
         ensures few { length self.new.states.keys.keys ≤ limits.states }
     {
         let Ok(number) = u32::try_from(state) else {
@@ -152,7 +156,7 @@ impl Search {
                 state: number,
                 index: index as u8,
             };
-            let came = self.stint(alloc, kernel, code, input, origin, limits)?;
+            let came = self.stint(kernel, code, input, origin, limits)?;
             expanded = expanded.and(came.expanded);
             stands = came.fails_after(stands);
         }
@@ -163,7 +167,11 @@ impl Search {
             state: number,
             index: 0,
         };
-        let told = self.find(alloc, kernel, code, input, Ending::Standstill, origin)?;
+        let met = Met {
+            ending: Ending::Standstill,
+            shown: self.states.shown(self.calls.alloc, state)?,
+        };
+        let told = self.find(kernel, code, input, limits, met, origin)?;
         Ok(expanded.and(Expanded::by_record(told)))
     }
 }

@@ -10,6 +10,8 @@ mod record;
 mod search;
 mod states;
 mod step;
+mod watch;
 
 pub use ends::{Found, Limits, Report, Verdict};
 pub use search::explore;
+pub use watch::Watcher;

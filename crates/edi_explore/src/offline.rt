@@ -1,8 +1,9 @@
 //! The system of a program that is explored: its input, no disk, and no file.
 
-ghost use Rattle.std.specs.Prelude.{◌≡◌, ◌≤◌, ◌%◌, length, [], None, IfOk, OnOk};
+ghost use Rattle.std.specs.Prelude.{◌≡◌, ◌≤◌, ◌%◌, length, [], None, true, IfOk, OnOk};
 ghost use Rattle.std.specs.Option.{option_map};
 ghost use Rattle.edi_calls.specs.Calls.{accept, argument_words, call, close, display, find, fresh_buffer, more, print, read, remove, write};
+ghost use Rattle.edi_explored.specs.machine.Alike.{SameShown};
 ghost use Rattle.edi_explore.specs.Offline.{offline};
 ghost use Rattle.edi_explore.specs.Systems.{FailsUsed, IsPlaceOf, IsSameElsewhere, Reaches, system_of};
 
@@ -22,6 +23,8 @@ pub(crate) struct Place {
     pub(crate) taken: usize,
     /// The bytes of the file that is being written, if one is.
     pub(crate) buffer: Option<Vec<u8>>,
+    /// What was shown, where output is looked at; else nothing.
+    pub(crate) shown: Vec<u8>,
 }
 
 /// Why a call is not answered.
@@ -38,7 +41,7 @@ pub(crate) enum Stop {
 /// A system with an input, and without disk and files.
 #[derive(Drop)]
 pub(crate) struct Offline {
-    alloc: Global,
+    pub(crate) alloc: Global,
     input: Vec<u8>,
     /// The number of bytes of the input that were taken.
     taken: usize,
@@ -87,27 +90,45 @@ impl Offline {
         })
     }
 
-    /// Where the system stands.
-    pub(crate) fn keep(&self) -> Result<Place, AllocError>
-        ensures { IfOk result (IsPlaceOf self.now) }
+    /// What was shown, if that is asked; else nothing.
+    pub(crate) fn shown_if(&self, asks: bool) -> Result<Vec<u8>, AllocError>
+        ensures { IfOk result (λ shown. SameShown asks shown.items self.now.shown.items) }
+    {
+        if !asks {
+            return Ok(Vec::new(self.alloc));
+        }
+        let shown = Vec::from_slice(self.alloc, &self.shown)?;
+        Ok(shown)
+    }
+
+    /// What was shown.
+    pub(crate) fn into_shown(self) -> Vec<u8>
+        ensures { result ≡ self.shown }
+    {
+        self.shown
+    }
+
+    /// Where the system stands: with what was shown, if that is asked.
+    pub(crate) fn keep(&self, asks: bool) -> Result<Place, AllocError>
+        ensures { IfOk result (IsPlaceOf asks self.now) }
     {
         Ok(Place {
             taken: self.taken,
             buffer: copied(self.alloc, &self.buffer)?,
+            shown: self.shown_if(asks)?,
         })
     }
 
-    /// Puts the system back where it stood, with nothing shown or printed and nothing failed.
+    /// Puts the system back where it stood, with what was kept as shown, nothing printed and nothing failed.
     pub(crate) fn put_back(&mut self, place: &Place) -> Result<(), AllocError>
-        ensures place { OnOk result (IsPlaceOf self.new place.now) }
-        ensures shown { OnOk result (self.new.shown.items ≡ []) }
+        ensures place { OnOk result (IsPlaceOf true self.new place.now) }
         ensures printed { OnOk result (self.new.printed.items ≡ []) }
         ensures working { OnOk result (self.new.failed ≡ None) }
         ensures input { self.new.input ≡ self.old.input }
     {
         self.buffer = copied(self.alloc, &place.buffer)?;
+        self.shown = Vec::from_slice(self.alloc, &place.shown)?;
         self.taken = place.taken;
-        self.shown.clear();
         self.printed.clear();
         self.failed = None;
         Ok(())

@@ -87,6 +87,8 @@ pub(crate) fn run(
         ending,
         choices,
         turns: kernel.turns_used(),
+        moves: 0,
+        shown: calls.into_shown(),
         waits: Vec::new(alloc),
     })
 }
@@ -121,30 +123,28 @@ fn waits_of(
     stand_still(alloc, kernel, code, &mut calls, MOST_TURNS, &mut source)
 }
 
-/// What was found, with who waits where. If it is a standstill, the run is made once more.
+/// What was found, with so many moves, and with who waits where. If it is a standstill, the run is made once more.
 /// The only error is want of memory.
-pub(crate) fn with_waits(
+pub(crate) fn finished(
     alloc: Global,
     kernel: &mut Kernel,
     code: &Code,
     input: &[u8],
     found: Found,
-) -> Result<Option<Found>, AllocError>
+    moves: usize,
+) -> Result<Found, AllocError>
     requires none { found.waits.items ≡ [] }
-    ensures same { IfOk result (λ told. IfSome told (λ told. told ≡ record found { waits = told.waits })) }
-    ensures waits { IfOk result (λ told. IfSome told (TellsWaits code.now input.now)) }
+    ensures same { IfOk result (λ told. told ≡ record found { moves = moves; waits = told.waits }) }
+    ensures waits { IfOk result (TellsWaits code.now input.now) }
 {
-    if !is_standstill(found.ending) {
-        return Ok(Some(found));
+    let mut told = found;
+    told.moves = moves;
+    if is_standstill(told.ending) {
+        let Some(waits) = waits_of(alloc, kernel, code, input, &told.choices)? else {
+            // It stood still just now: memory ran out in a call.
+            return Err(AllocError);
+        };
+        told.waits = waits;
     }
-    let Some(waits) = waits_of(alloc, kernel, code, input, &found.choices)? else {
-        // It stood still just now: memory ran out in a call.
-        return Err(AllocError);
-    };
-    Ok(Some(Found {
-        ending: found.ending,
-        choices: found.choices,
-        turns: found.turns,
-        waits,
-    }))
+    Ok(told)
 }

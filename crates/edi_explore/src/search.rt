@@ -1,22 +1,27 @@
 //! The search.
 
-ghost use Rattle.std.specs.Prelude.{◌≡◌, ◌+◌, ◌<◌, ◌≤◌, ℕ, true, length, IfErr, IfOk};
+ghost use Rattle.std.specs.Prelude.{◌≡◌, ◌+◌, ◌<◌, ◌≤◌, ℕ, true, length, Some, IsSome, IfErr, IfOk};
+ghost use Rattle.edi_told.specs.Told.{WhereTold};
 ghost use Rattle.edi_unit.specs.Tree.{ProgramUnit};
 ghost use Rattle.edi_follows.specs.Theorem.{CanBeCoded};
-ghost use Rattle.edi_explored.specs.Reached.{AreAll, AreAllBelow};
+ghost use Rattle.edi_explored.specs.Reached.{AreAll, AreAllBelow, AreAllShown, AreAllShownBelow};
 ghost use Rattle.edi_explored.specs.machine.Kernels.{IsUnitCode};
 ghost use Rattle.edi_explore.specs.Expand.{ComesTo, HasExpanded, IsSearch};
-ghost use Rattle.edi_explore.specs.Finding.{Finds, IsBegun};
-ghost use Rattle.edi_explore.specs.Found.{AllTellWaits, AreDistinct, AreNeverBad, AreRecorded, endings_of};
+ghost use Rattle.edi_explore.specs.Fewest.{AreFewest};
+ghost use Rattle.edi_explore.specs.Finding.{Finds, FindsAt, IsBegun};
+ghost use Rattle.edi_explore.specs.Found.{AllTellWaits, AreNeverBad, AreRecorded, endings_of};
 ghost use Rattle.edi_explore.specs.Offline.{offline};
+ghost use Rattle.edi_explore.specs.Shown.{AreDistinct, HasMany, asks_of, shown_endings_of};
 ghost use Rattle.edi_explore.specs.Verdicts.{HasCause, HasFirst, IsAnswer, IsConfirmed, IsCutBy, IsUpTo, or_else, verdict_of, verdict_of_given_up};
+ghost use Rattle.edi_explore.specs.Watched.{IsWatched, SeesLevel};
 
 use crate::ends::{Limits, Report, Verdict};
 use crate::expand::Expanded;
-use crate::finding::{MOST_CHOICES, Search};
+use crate::finding::{MOST_CHOICES, Met, Search};
 use crate::record::run;
 use crate::states::Origin;
 use crate::step::{Followed, GivenUp, settle};
+use crate::watch::Watcher;
 use edi_kernel::{Ending, Kernel};
 use edi_target::Code;
 use std::alloc::{AllocError, Global};
@@ -41,6 +46,7 @@ impl GivenUp {
     {
         match self {
             GivenUp::Full => Verdict::Full(moves),
+            GivenUp::Many => Verdict::Many(moves),
             GivenUp::NoMemory => Verdict::NoMemory(moves),
         }
     }
@@ -54,6 +60,7 @@ impl Verdict {
         match self {
             Verdict::All => other,
             Verdict::Full(moves) => Verdict::Full(moves),
+            Verdict::Many(moves) => Verdict::Many(moves),
             Verdict::Cut(moves) => Verdict::Cut(moves),
             Verdict::Unrecorded(moves) => Verdict::Unrecorded(moves),
             Verdict::NoMemory(moves) => Verdict::NoMemory(moves),
@@ -65,23 +72,24 @@ impl Search {
     /// Follows the first stint, behind the entry of the program.
     fn begin(
         &mut self,
-        alloc: Global,
         kernel: &mut Kernel,
         code: &Code,
         input: &[u8],
         limits: Limits,
     ) -> Result<Expanded, GivenUp>
         requires new { IsBegun input.now self.old }
-        ensures finds { Finds code.now input.now self.old.found.items self.new.found.items }
+        ensures finds { FindsAt code.now input.now limits self.old self.new }
         ensures begins { IfOk result (λ expanded.
-            ComesTo code.now input.now limits.turns self.old self.new expanded (HasFirst code.now input.now limits.turns self.new)) }
+            ComesTo code.now input.now limits self.old self.new expanded (HasFirst code.now input.now limits self.new)) }
         ensures full { IfErr result (λ given_up. given_up ≡ GivenUp.Full → limits.states ≤ length self.new.states.keys.keys) }
+        ensures many { IfErr result (λ given_up. given_up ≡ GivenUp.Many → HasMany limits self.new.found.items) }
         ensures few { length self.new.states.keys.keys ≤ limits.states }
     {
         kernel.start(code);
         let end = kernel.stint(code, &mut self.calls, limits.turns);
         let _whole = kernel.word(0);
         let origin = Origin { state: 0, index: 0 };
+        let alloc = self.calls.alloc;
         let followed = settle(
             alloc,
             &mut self.states,
@@ -96,51 +104,66 @@ impl Search {
             Followed::Failed => Ok(Expanded::Whole),
             Followed::Cut => Ok(Expanded::Cut),
             Followed::Ended(ending) => {
-                let told = self.record(alloc, kernel, code, input, ending, Vec::new(alloc))?;
+                let met = Met {
+                    ending,
+                    shown: self.calls.shown_if(limits.asks())?,
+                };
+                let told = self.record(kernel, code, input, limits, met, Vec::new(alloc))?;
                 Ok(Expanded::by_record(told))
             }
         }
     }
 
-    /// Expands each of the states from this one on that are there before the call.
-    fn level(
+    /// Expands each of the states from this one on that are there before the call. After each the watcher is told how many there are.
+    fn level<W: Watcher>(
         &mut self,
-        alloc: Global,
         kernel: &mut Kernel,
         code: &Code,
         input: &[u8],
         from: usize,
         limits: Limits,
+        watcher: &mut W,
     ) -> Result<Expanded, GivenUp>
-        requires search { IsSearch code.now input.now limits.turns self.old }
+        requires search { IsSearch code.now input.now limits self.old }
         requires few { length self.old.states.keys.keys ≤ limits.states }
-        ensures finds { Finds code.now input.now self.old.found.items self.new.found.items }
-        ensures expands { IfOk result (λ expanded. ComesTo code.now input.now limits.turns self.old self.new expanded
-            ((v : ℕ) → from ≤ v → v < length self.old.states.keys.keys → HasExpanded code.now input.now limits.turns self.new v)) }
+        requires from { from ≤ length self.old.states.keys.keys }
+        ensures finds { FindsAt code.now input.now limits self.old self.new }
+        ensures expands { IfOk result (λ expanded. ComesTo code.now input.now limits self.old self.new expanded
+            ((v : ℕ) → from ≤ v → v < length self.old.states.keys.keys → HasExpanded code.now input.now limits self.new v)) }
+        ensures watches { WhereTold (W.seen watcher.old) (W.seen watcher.new)
+            (SeesLevel result from (length self.old.states.keys.keys) (limits.states + 1)) }
         ensures full { IfErr result (λ given_up. given_up ≡ GivenUp.Full → limits.states ≤ length self.new.states.keys.keys) }
+        ensures many { IfErr result (λ given_up. given_up ≡ GivenUp.Many → HasMany limits self.new.found.items) }
         ensures few { length self.new.states.keys.keys ≤ limits.states }
     {
         let mut expanded = Expanded::Whole;
         for state in from..self.states.len() {
-            expanded = expanded.and(self.expand(alloc, kernel, code, input, state, limits)?);
+            match self.expand(kernel, code, input, state, limits) {
+                Ok(more) => expanded = expanded.and(more),
+                Err(given_up) => return Err(given_up),
+            }
+            watcher.tell(self.states.total());
         }
         Ok(expanded)
     }
 
     /// Expands level after level, each of the states that as many moves lead to, until there is no other.
-    fn levels(
+    fn levels<W: Watcher>(
         &mut self,
-        alloc: Global,
         kernel: &mut Kernel,
         code: &Code,
         input: &[u8],
         limits: Limits,
+        watcher: &mut W,
     ) -> Verdict
-        requires search { IsSearch code.now input.now limits.turns self.old }
+        requires search { IsSearch code.now input.now limits self.old }
         requires few { length self.old.states.keys.keys ≤ limits.states }
-        requires begun { HasFirst code.now input.now limits.turns self.old }
-        ensures finds { Finds code.now input.now self.old.found.items self.new.found.items }
-        ensures answer { IsAnswer code.now input.now limits.states (length self.new.states.keys.keys) self.new.found.items result }
+        requires begun { HasFirst code.now input.now limits self.old }
+        requires fewest { AreFewest code.now input.now limits Verdict.All self.old.found.items }
+        ensures finds { Finds code.now input.now limits self.old.found.items self.new.found.items }
+        ensures answer { IsAnswer code.now input.now limits (length self.new.states.keys.keys) self.new.found.items result }
+        ensures fewest { AreFewest code.now input.now limits result self.new.found.items }
+        ensures watches { WhereTold (W.seen watcher.old) (W.seen watcher.new) (IsWatched result (limits.states + 1) (length self.new.states.keys.keys + 1)) }
         ensures few { length self.new.states.keys.keys ≤ limits.states }
     {
         let mut verdict = Verdict::All;
@@ -150,7 +173,8 @@ impl Search {
             if from == to {
                 return verdict;
             }
-            match self.level(alloc, kernel, code, input, from, limits) {
+            self.moves = depth + 1;
+            match self.level(kernel, code, input, from, limits, watcher) {
                 Ok(expanded) => {
                     verdict = verdict.or(expanded.verdict(depth + 1));
                     from = to;
@@ -162,21 +186,23 @@ impl Search {
     }
 
     /// Follows all choices.
-    fn follow_all(
+    fn follow_all<W: Watcher>(
         &mut self,
-        alloc: Global,
         kernel: &mut Kernel,
         code: &Code,
         input: &[u8],
         limits: Limits,
+        watcher: &mut W,
     ) -> Verdict
         requires new { IsBegun input.now self.old }
-        ensures finds { Finds code.now input.now self.old.found.items self.new.found.items }
-        ensures answer { IsAnswer code.now input.now limits.states (length self.new.states.keys.keys) self.new.found.items result }
+        ensures finds { Finds code.now input.now limits self.old.found.items self.new.found.items }
+        ensures answer { IsAnswer code.now input.now limits (length self.new.states.keys.keys) self.new.found.items result }
+        ensures fewest { AreFewest code.now input.now limits result self.new.found.items }
+        ensures watches { WhereTold (W.seen watcher.old) (W.seen watcher.new) (IsWatched result (limits.states + 1) (length self.new.states.keys.keys + 1)) }
         ensures few { length self.new.states.keys.keys ≤ limits.states }
     {
-        match self.begin(alloc, kernel, code, input, limits) {
-            Ok(Expanded::Whole) => self.levels(alloc, kernel, code, input, limits),
+        match self.begin(kernel, code, input, limits) {
+            Ok(Expanded::Whole) => self.levels(kernel, code, input, limits, watcher),
             Ok(Expanded::Cut) => Verdict::Cut(0),
             Ok(Expanded::Unrecorded) => Verdict::Unrecorded(0),
             Err(given_up) => given_up.verdict(0),
@@ -261,6 +287,7 @@ fn confirmed(
         Verdict::Cut(moves) => confirmed_cut(alloc, kernel, code, input, choices, turns, moves),
         Verdict::All => Verdict::All,
         Verdict::Full(moves) => Verdict::Full(moves),
+        Verdict::Many(moves) => Verdict::Many(moves),
         Verdict::Unrecorded(moves) => Verdict::Unrecorded(moves),
         Verdict::NoMemory(moves) => Verdict::NoMemory(moves),
     }
@@ -268,37 +295,49 @@ fn confirmed(
 
 /// Finds every ending that any choices bring about, for the program of this code with this input and no disk.
 ///
-/// Each ending that is found has choices, which bring it about: `Kernel::run` ended so with them. The verdict says whether these are all
-/// endings, or all of the executions of fewer moves than its number. A move is what a process does from when it is taken until the next one
-/// is taken; an attempt that fails is none. An execution that goes on for ever has no ending, and is cut by each bound on its turns.
+/// Each ending that is found has choices, which bring it about: `Kernel::run` ended so with them, and no execution of fewer moves than are
+/// told ends so. The verdict says whether these are all endings, or all of the executions of fewer moves than its number. A move is what a
+/// process does from when it is taken until the next one is taken; an attempt that fails is none. An execution that goes on for ever has no
+/// ending, and is cut by each bound on its turns. Where output is looked at, an ending with other output is another ending.
 ///
 /// Where the verdict is that a stint was cut, the choices of the report bring that about: the run with them has more turns than a stint may have.
-/// As many states and one more were met where the verdict is that there may be no more; there are never more than these.
+/// As many states and one more were met where the verdict is that there may be no more; there are never more than these. As many endings were
+/// found as may be where the verdict is `Many`; there are never more. After each state the watcher is told how many there are by now.
 ///
 /// The only error is that memory ran out before the search: memory that runs out later is a verdict.
-pub fn explore(
+pub fn explore<W: Watcher>(
     alloc: Global,
     kernel: &mut Kernel,
     code: &Code,
     input: &[u8],
     limits: Limits,
+    watcher: &mut W,
 ) -> Result<Report, AllocError>
     ensures recorded { (unit : ProgramUnit) → CanBeCoded unit → IsUnitCode unit code.now →
         IfOk result (λ report. AreRecorded unit input.now report.found.items) }
     ensures good { (unit : ProgramUnit) → CanBeCoded unit → IsUnitCode unit code.now → IfOk result (λ report. AreNeverBad report.found.items) }
     ensures waits { IfOk result (λ report. AllTellWaits code.now input.now report.found.items) }
-    ensures distinct { IfOk result (λ report. AreDistinct report.found.items) }
+    ensures distinct { IfOk result (λ report. AreDistinct (asks_of limits) report.found.items) }
+    ensures fewest { IfOk result (λ report. AreFewest code.now input.now limits report.verdict report.found.items) }
     ensures all { (unit : ProgramUnit) → CanBeCoded unit → IsUnitCode unit code.now →
         IfOk result (λ report. report.verdict ≡ Verdict.All → AreAll unit (offline input.now) (endings_of report.found.items)) }
     ensures below { (unit : ProgramUnit) → CanBeCoded unit → IsUnitCode unit code.now → (moves : ℕ) →
         IfOk result (λ report. IsUpTo report.verdict moves → AreAllBelow moves unit (offline input.now) (endings_of report.found.items)) }
+    ensures all_shown { IsSome limits.shown → (unit : ProgramUnit) → CanBeCoded unit → IsUnitCode unit code.now →
+        IfOk result (λ report. report.verdict ≡ Verdict.All → AreAllShown unit (offline input.now) (shown_endings_of report.found.items)) }
+    ensures below_shown { IsSome limits.shown → (unit : ProgramUnit) → CanBeCoded unit → IsUnitCode unit code.now → (moves : ℕ) →
+        IfOk result (λ report. IsUpTo report.verdict moves → AreAllShownBelow moves unit (offline input.now) (shown_endings_of report.found.items)) }
     ensures full { (moves : ℕ) → IfOk result (λ report. report.verdict ≡ Verdict.Full moves → limits.states < report.states) }
     ensures few { IfOk result (λ report. report.states ≤ limits.states + 1) }
+    ensures many { (moves : ℕ) → IfOk result (λ report. report.verdict ≡ Verdict.Many moves → HasMany limits report.found.items) }
+    ensures few_found { (most : ℕ) → limits.shown ≡ Some most → IfOk result (λ report. length report.found.items ≤ most) }
+    ensures watches { WhereTold (W.seen watcher.old) (W.seen watcher.new)
+        (λ before now. IfOk result (λ report. IsWatched report.verdict (limits.states + 1) report.states before now)) }
     ensures cause { (unit : ProgramUnit) → CanBeCoded unit → IsUnitCode unit code.now →
         IfOk result (λ report. HasCause limits.turns unit input.now report.verdict report.cut.items) }
 {
     let mut search = Search::new(alloc, input)?;
-    let first = search.follow_all(alloc, kernel, code, input, limits);
+    let first = search.follow_all(kernel, code, input, limits, watcher);
     let verdict = confirmed(alloc, kernel, code, input, &search.cut, limits.turns, first);
     Ok(search.report(verdict))
 }

@@ -5,6 +5,8 @@ ghost use Rattle.edi_kernel.specs.declared.kept.Kept.{Kept};
 ghost use Rattle.edi_kernel.specs.Kernel.{IsKernel};
 ghost use Rattle.edi_explore.specs.declared.offline.Place.{Place};
 ghost use Rattle.edi_kernel.specs.Table.{ready_slots};
+ghost use Rattle.edi_explore.specs.Shown.{asks_of};
+ghost use Rattle.edi_explore.specs.Tables.{shown_at};
 ghost use Rattle.edi_explore.specs.States.{
   AddsParts,
   AreNone,
@@ -21,6 +23,7 @@ ghost use Rattle.edi_explore.specs.States.{
 };
 
 use crate::back::{line_all_up, put_all_back};
+use crate::ends::Limits;
 use crate::offline::{Offline, Place};
 use edi_kernel::{Kept, Kernel};
 use indexmap::IndexSet;
@@ -118,6 +121,18 @@ impl States {
         (self.ends[state - 1], to)
     }
 
+    /// What was shown in a state, where output is looked at. The only error is want of memory.
+    pub(crate) fn shown(&self, alloc: Global, state: usize) -> Result<Vec<u8>, AllocError>
+        requires states { AreStates self.now }
+        requires state { state < length self.now.keys.keys }
+        ensures { IfOk result (λ shown. shown.items ≡ shown_at self.now state) }
+    {
+        let key = &self.keys[state];
+        let place = &self.places[key.place as usize];
+        let shown = Vec::from_slice(alloc, &place.shown)?;
+        Ok(shown)
+    }
+
     /// How many are ready in a state.
     pub(crate) fn ready(&self, state: usize) -> usize
         requires states { AreStates self.now }
@@ -139,7 +154,6 @@ impl States {
         requires states { AreStates self.now }
         requires state { state < length self.now.keys.keys }
         ensures back { OnOk result (PutsStateBack self.now state kernel.new calls.new) }
-        ensures shown { OnOk result (calls.new.shown.items ≡ []) }
         ensures printed { OnOk result (calls.new.printed.items ≡ []) }
         ensures working { OnOk result (calls.new.failed ≡ None) }
         ensures input { OnOk result (calls.new.input ≡ calls.old.input) }
@@ -173,14 +187,20 @@ impl States {
         as_number(number)
     }
 
-    /// The numbers of the parts of what kernel and system are now.
-    fn key_of(&mut self, alloc: Global, kernel: &Kernel, calls: &Offline) -> Result<Key, AllocError>
+    /// The numbers of the parts of what kernel and system are now: with what was shown, if that is asked.
+    fn key_of(
+        &mut self,
+        alloc: Global,
+        kernel: &Kernel,
+        calls: &Offline,
+        asks: bool,
+    ) -> Result<Key, AllocError>
         requires kernel { IsKernel kernel.now }
-        ensures key { IfOk result (λ key. IsKeyOf self.new key kernel.now calls.now) }
+        ensures key { IfOk result (λ key. IsKeyOf asks self.new key kernel.now calls.now) }
         ensures adds { OnOk result (AddsParts self.old self.new) }
         ensures keys { self.new.keys ≡ self.old.keys }
     {
-        let place = self.place_of(calls.keep()?)?;
+        let place = self.place_of(calls.keep(asks)?)?;
         let mut parts = Vec::with_capacity(alloc, 4)?;
         for slot in 0..32 {
             if !kernel.lives(slot) {
@@ -205,27 +225,27 @@ impl States {
         Ok(())
     }
 
-    /// Adds the state that kernel and system are now, if it is new. The answer is whether it is kept: not where it is new and as
-    /// many states are kept as may be.
+    /// Adds the state that kernel and system are now, if it is new: with what was shown, where output is looked at. The answer is whether it
+    /// is kept: not where it is new and as many states are kept as may be.
     pub(crate) fn add(
         &mut self,
         alloc: Global,
         kernel: &Kernel,
         calls: &Offline,
         origin: Origin,
-        most: usize,
+        limits: Limits,
     ) -> Result<bool, AllocError>
         requires kernel { IsKernel kernel.now }
         requires free { kernel.now.taken ≡ None }
         requires states { AreStates self.old }
         requires origin { MayComeFrom self.old origin }
-        requires few { length self.old.keys.keys ≤ most }
-        ensures added { IfOk result (λ kept. kept ≡ true → IsAdded self.old self.new kernel.now calls.now) }
-        ensures full { IfOk result (λ kept. kept ≡ false → most ≤ length self.new.keys.keys) }
-        ensures few { length self.new.keys.keys ≤ most }
+        requires few { length self.old.keys.keys ≤ limits.states }
+        ensures added { IfOk result (λ kept. kept ≡ true → IsAdded (asks_of limits) self.old self.new kernel.now calls.now) }
+        ensures full { IfOk result (λ kept. kept ≡ false → limits.states ≤ length self.new.keys.keys) }
+        ensures few { length self.new.keys.keys ≤ limits.states }
     {
-        let key = self.key_of(alloc, kernel, calls)?;
-        if self.keys.len() >= most && !self.keys.contains(&key) {
+        let key = self.key_of(alloc, kernel, calls, limits.asks())?;
+        if self.keys.len() >= limits.states as usize && !self.keys.contains(&key) {
             return Ok(false);
         }
         let (_, added) = self.keys.insert_full(key)?;

@@ -1,6 +1,7 @@
 //! One stint from a state.
 
 ghost use Rattle.std.specs.Prelude.{◌≡◌, ◌<◌, ◌≤◌, None, false, length, IfErr, IfOk, OnOk};
+ghost use Rattle.edi_explore.specs.Shown.{asks_of};
 ghost use Rattle.edi_kernel.specs.Kernel.{IsKernel, is_over};
 ghost use Rattle.edi_explore.specs.States.{AreStates, MayComeFrom, slots_of};
 ghost use Rattle.edi_explore.specs.Steps.{EndsSo, FollowedAs, FollowsStint, GoesOn};
@@ -30,6 +31,8 @@ pub(crate) enum Followed {
 pub(crate) enum GivenUp {
     /// As many states are kept as may be, and there is one more.
     Full,
+    /// As many endings are found as may be, and there is one more.
+    Many,
     /// Memory ran out.
     NoMemory,
 }
@@ -75,8 +78,9 @@ pub(crate) fn settle(
     requires kernel { IsKernel kernel.now }
     requires free { is_over end ≡ false → kernel.now.taken ≡ None }
     requires few { length states.old.keys.keys ≤ limits.states }
-    ensures follows { IfOk result (λ followed. FollowedAs followed end states.old states.new kernel.now calls.now) }
+    ensures follows { IfOk result (λ followed. FollowedAs (asks_of limits) followed end states.old states.new kernel.now calls.now) }
     ensures full { IfErr result (λ given_up. given_up ≡ GivenUp.Full → limits.states ≤ length states.new.keys.keys) }
+    ensures few_found { IfErr result (λ given_up. given_up ≡ GivenUp.Many → ⊥) }
     ensures few { length states.new.keys.keys ≤ limits.states }
 {
     if let StintEnd::Over { ending, .. } = end {
@@ -85,7 +89,7 @@ pub(crate) fn settle(
     if kernel.marked() > 0 {
         return Ok(Followed::Failed);
     }
-    if !states.add(alloc, kernel, calls, origin, limits.states as usize)? {
+    if !states.add(alloc, kernel, calls, origin, limits)? {
         return Err(GivenUp::Full);
     }
     Ok(Followed::Led)
@@ -129,8 +133,9 @@ pub(crate) fn follow(
     requires index { origin.index < length (slots_of states.old origin.state) }
     requires few { length states.old.keys.keys ≤ limits.states }
     ensures follows { IfOk result (λ followed.
-        FollowsStint code.now limits.turns origin.state origin.index followed states.old states.new kernel.new calls.new) }
+        FollowsStint code.now limits origin.state origin.index followed states.old states.new kernel.new calls.new) }
     ensures full { IfErr result (λ given_up. given_up ≡ GivenUp.Full → limits.states ≤ length states.new.keys.keys) }
+    ensures few_found { IfErr result (λ given_up. given_up ≡ GivenUp.Many → ⊥) }
     ensures few { length states.new.keys.keys ≤ limits.states }
     ensures input { OnOk result (calls.new.input ≡ calls.old.input) }
 {

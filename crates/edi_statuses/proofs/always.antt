@@ -12,6 +12,7 @@ pub mod Sessions
 pub mod Walks
 pub mod Plain
 pub mod Programs
+pub mod Timelines
 pub mod Puts
 pub mod OldDisks
 pub mod Refuted

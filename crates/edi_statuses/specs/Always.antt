@@ -72,6 +72,8 @@ StepsOf P (words.explain file) before = P _ (Fetches before file)
 StepsOf P (words.walk file choices turns) before = P _ (RunSteps before file (words.file choices))
 StepsOf P (words.watch file points_file out o) before = P _ (WatchSteps before file points_file o.choices)
 StepsOf P (words.explore file o) before = P _ (TextSteps before file)
+StepsOf P (words.time file out o) before = P _ (RunSteps before file o.choices)
+StepsOf P (words.time_code file out o) before = P _ (ExecSteps before file o.choices)
 
 -- all of them have gone on
 abbrev pub StepsGo : Command → Outside → Type 0

@@ -6,6 +6,8 @@ use Rattle.edi_utils.specs.Demo.{demo_text}
 use Rattle.edi_utils.specs.Listing.{listing_of}
 use Rattle.edi_words.specs.Words as words
 use Rattle.edi_words.specs.Words.{ChoicesFrom, Command}
+use Rattle.edi_statuses.specs.declared.status.Status.{Status}
+use Rattle.edi_statuses.specs.declared.status.Status.TheVariants as status
 use Rattle.edi_statuses.specs.Outside.{Outside, Lent}
 use Rattle.edi_statuses.specs.Steps.{AfterStep, ◌>>=◌, Fetches, ReadsChoices, FitsDisk}
 use Rattle.edi_statuses.specs.Executions.{Runnable, text, code, BrokeRun}
@@ -16,6 +18,7 @@ use Rattle.edi_statuses.specs.Broken.{ShowsFront, ShowsReportFront, ExplainsFron
 use Rattle.edi_statuses.specs.Broken.{HasBegun, WentOn, RunAsks, ExecAsks, WatchAsks, WatchedLost, WatchedUnkept}
 use Rattle.edi_statuses.specs.Walked.{BrokeWalk}
 use Rattle.edi_statuses.specs.Explored.{ExploredFront, ExploredInPart, ExploredThen, LosesInput, LosesNext, names_of_records}
+use Rattle.edi_statuses.specs.Timelines.{TimedInPart, TimedLost, timeline_names}
 
 -- ---- facts
 
@@ -108,8 +111,8 @@ on_devices fetches record_file = record plain {
 abbrev pub program_run : {A : Type 0} → (file : List ℕ) → (asks : Outside → Type 0) → (steps : Outside → AfterStep A → Type 0)
     → (program : A → Runnable) → (choices : A → Choices) → (bound : ℕ) → (record_file : Option (List ℕ)) → Facts
 program_run file asks steps program choices bound record_file =
-    let broken : Left = λ before after shown kernel.
-    HasBegun (steps before) (λ a. BrokeRun (program a) bound (choices a) before after shown) in
+    let broken : Status → Left = λ s before after shown kernel.
+    HasBegun (steps before) (λ a. BrokeRun s (program a) bound (choices a) before after shown) in
     record (on_devices (file_named file) record_file) {
       asks_drive = asks;
       no_memory = λ before after shown kernel.
@@ -117,10 +120,22 @@ program_run file asks steps program choices bound record_file =
           ⊎ AtRecord record_file (steps before) (λ a. RanUnkept (program a) bound (choices a) before after shown kernel);
       files_failed = λ before after shown kernel.
           AtRecord record_file (steps before) (λ a. RanWhole (program a) bound (choices a) before after shown kernel);
-      drive_failed = broken;
-      input_failed = broken;
-      output_failed = broken;
+      drive_failed = broken status.DriveFault;
+      input_failed = broken status.InputFault;
+      output_failed = broken status.OutputFault;
     }
+
+-- One that runs the program of a file and keeps a timeline of it, after the record. Memory runs out before the first effect, or when a file is to be kept.
+abbrev pub timed_run : {A : Type 0} → (file : List ℕ) → (asks : Outside → Type 0) → (steps : Outside → AfterStep A → Type 0)
+    → (program : A → Runnable) → (choices : A → Choices) → (bound : ℕ) → (out : List ℕ) → (record_file : Option (List ℕ)) → Facts
+timed_run file asks steps program choices bound out record_file = record (program_run file asks steps program choices bound record_file) {
+  keeps = timeline_names out;
+  no_memory = λ before after shown kernel.
+      IsNothing before after shown kernel
+      ⊎ HasBegun (steps before) (λ a. TimedInPart (program a) bound (choices a) out record_file before after shown kernel);
+  files_failed = λ before after shown kernel.
+      HasBegun (steps before) (λ a. TimedLost (program a) bound (choices a) out record_file before after shown kernel);
+}
 
 -- ---- rows by the operand that may be there
 
@@ -253,3 +268,7 @@ facts_of (words.explore file o) = record plain {
   input_failed = λ before after shown kernel. HasBegun (TextSteps before file) (λ a. LosesInput a.1 before after shown kernel);
   output_failed = λ before after shown kernel. HasBegun (TextSteps before file) (λ a. ExploredFront a.0 a.1 o before after shown);
 }
+facts_of (words.time file out o) =
+    timed_run file (λ before. RunAsks before file o.choices) (λ before. RunSteps before file o.choices) (λ a. text a.0) (λ a. a.1) o.turns out o.record_file
+facts_of (words.time_code file out o) =
+    timed_run file (λ before. ExecAsks before file o.choices) (λ before. ExecSteps before file o.choices) (λ a. code a.0) (λ a. a.1) o.turns out o.record_file

@@ -34,7 +34,7 @@ use Rattle.edi_statuses.specs.Executions.{StandsAt, status_of}
 use Rattle.edi_statuses.specs.Walked.{BrokeWalk, HasWalked, Walks}
 use Rattle.edi_statuses.proofs.Told.{same_told, shows_nothing}
 use Rattle.edi_commands.specs.steps.NotMounted.{mount_status}
-use Rattle.edi_commands.specs.run.CodeRan.{object_status}
+use Rattle.edi_statuses.specs.Executions.{object_status}
 use Rattle.edi_commands.specs.run.OnMounted.{DriveAsked, OnMounted}
 use Rattle.edi_commands.specs.run.OnWalked.{end_status, OnWalked, RanWalk, TextWalked}
 use Rattle.edi_commands.proofs.run.Asked.{asked_so, ended_asked}

@@ -5,7 +5,8 @@ ghost use Rattle.edi_told.specs.Told.{WhereTold};
 ghost use Rattle.edi_statuses.specs.Outside.{lent, outside_of};
 ghost use Rattle.edi_statuses.specs.Counts.{counts_of, HasCause, NoneFalls};
 ghost use Rattle.edi_statuses.specs.EachObject.{RunStays, handed, is_at_drive};
-ghost use Rattle.edi_commands.specs.run.CodeRan.{ending_status, object_status, RanCode};
+ghost use Rattle.edi_statuses.specs.Executions.{object_status};
+ghost use Rattle.edi_commands.specs.run.CodeRan.{ending_status, RanCode};
 ghost use Rattle.edi_commands.specs.run.OnMounted.{DriveAsked};
 
 use crate::steps::{end_with_record, mount_status, stopped};

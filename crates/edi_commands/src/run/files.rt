@@ -29,7 +29,7 @@ pub enum Form {
 }
 
 /// As many bytes as decide what a file is.
-fn limit_of(form: Form) -> usize
+pub(crate) fn limit_of(form: Form) -> usize
     ensures exact { result ≡ limit_of form }
 {
     match form {

@@ -91,17 +91,25 @@ new_image_sized n =
 abbrev nothing_found : Findings
 nothing_found = record { endings = []; verdict = verdict.NoMemory 0; states = 0; cut = [] }
 
-finds_nothing : (bytes input : List ℕ) (unit : ProgramUnit) (states turns : ℕ) → IsUnit bytes unit → IsExplorationOf bytes input states turns nothing_found
-finds_nothing bytes input unit states turns is = record {
+finds_nothing : (bytes input : List ℕ) (unit : ProgramUnit) (states turns : ℕ) (shown : Option ℕ) → IsUnit bytes unit
+    → IsExplorationOf bytes input states turns shown nothing_found
+finds_nothing bytes input unit states turns shown is = record {
   reached = λ one h. absurd (omega (arith, h.1));
-  distinct = λ i j a b h k e. absurd (none_there i a h);
+  distinct = λ i j a b h k e same. absurd (none_there i a h);
   says = record {
+    unit = unit;
+    unit_is = is;
+    below = λ bound choices ending end turns drawn order e few. absurd (omega (arith, few));
+  };
+  says_shown = λ asks. record {
     unit = unit;
     unit_is = is;
     below = λ bound choices ending end turns drawn order e few. absurd (omega (arith, few));
   };
   full = tt;
   bounded = omega arith;
+  many = tt;
+  few = λ most e. omega arith;
   cut = tt;
 } where
   none_there : {A : Type 0} (i : ℕ) (a : A) → slice_get [] i ≡ Some a → ⊥
@@ -177,7 +185,7 @@ module _ (files : Contents) (d : Devices) (kernel : KernelLeft) where
   explored_files o = with_kept (records_of o.record_file []) files
 
   abbrev explored_shown : ExploreOptions → Bool → Devices
-  explored_shown o accepts = record (left_of accepts) { shown = d.shown ++ report_text o.record_file nothing_found }
+  explored_shown o accepts = record (left_of accepts) { shown = d.shown ++ report_text (is_some o.shown) o.record_file nothing_found }
 
   takes_some : (accepts : Bool) (o : ExploreOptions) → (accepts ≡ true → length d.input ≤ most_input)
       → TakesAll accepts (taken_of accepts) (told_outside files d) (told_outside (explored_files o) (explored_shown o accepts))
@@ -192,7 +200,7 @@ module _ (files : Contents) (d : Devices) (kernel : KernelLeft) where
     files_after = explored_files o;
     devices_after = explored_shown o accepts;
     sized = λ h. subst (λ blocks. list_all is_block blocks ≡ true) (sym (same_blocks accepts)) h;
-    shown = report_text o.record_file nothing_found;
+    shown = report_text (is_some o.shown) o.record_file nothing_found;
     left = kernel;
     comes = inl (record {
       findings = nothing_found;
@@ -200,7 +208,7 @@ module _ (files : Contents) (d : Devices) (kernel : KernelLeft) where
         input = taken_of accepts;
         takes = subst (λ b. TakesAll b (taken_of accepts) (told_outside files d) (told_outside (explored_files o) (explored_shown o accepts))) (sym named)
             (takes_some accepts o few);
-        is = finds_nothing bytes (taken_of accepts) unit o.states o.turns is;
+        is = finds_nothing bytes (taken_of accepts) unit o.states o.turns o.shown is;
         blocks = same_blocks accepts;
         printed = same_printed accepts;
       };

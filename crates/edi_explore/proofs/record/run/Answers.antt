@@ -15,8 +15,8 @@ returns-clause-exact c = λ unit coded is. record {
   came = λ end same.
       let none : c.in_ok-source.source.drawn ≡ 0 = ap (λ (d : Drawn). d.drawn) c.in_ok-source.ensures in
       let list : c.in_ok-source.source.source ≡ listed c.args.choices.items = ap (λ (d : Drawn). d.source) c.in_ok-source.ensures ∙ ap listed c.deref-2.ensures.value in
-      let s = subst (λ (s : State). SelectedBy unit s c.args.turns c.args.choices.items end c.run-ending.new.self.used) c.in_ok-calls.ensures.system
+      let s = subst (λ (s : State). SelectedBy unit s c.args.turns c.args.choices.items end c.run-ending.new.self.used c.run-ending.new.calls.shown.items) c.in_ok-calls.ensures.system
       (ran unit coded c.args.code.now is (system_of c.in_ok-calls.calls) c.args.turns c.args.choices.items c.in_ok-source.source c.run-ending.new.choices
       none list c.run-ending.result _ _ (system_of c.run-ending.new.calls) (c.run-ending.ensures.exact (omega (arith, none))) end same) in
-      record { outcome = s.0; selects = s.1; ends = s.2; turns = s.3 ∙ sym c.turns_used.ensures };
+      record { outcome = s.0; selects = s.1; ends = s.2; turns = s.3 ∙ sym c.turns_used.ensures; shown = s.4 ∙ sym (ap (λ x. x.items) c.into_shown.ensures) };
 }

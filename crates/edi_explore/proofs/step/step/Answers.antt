@@ -14,7 +14,6 @@ returns-clause-goes c = record {
   back = c.put_back.new.kernel;
   placed = c.put_back.new.calls;
   puts = c.in_ok-put_back.ensures.back;
-  shown = c.in_ok-put_back.ensures.shown;
   printed = c.in_ok-put_back.ensures.printed;
   taken = c.take.new.self;
   takes = c.take.ensures.exact;

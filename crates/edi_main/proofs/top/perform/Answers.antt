@@ -1,7 +1,10 @@
-use Rattle.std.proofs.Common.{false, option_map, refl, rules, sym, true≢false}
+use Rattle.std.proofs.Common.{◌∙◌, Some, ap, false, option_map, refl, rules, sym, true≢false}
 use Rattle.edi_words.specs.Words as words
-use Rattle.edi_words.specs.View.{exploring_of, options_of}
+use Rattle.edi_words.specs.View.{exploring_of, options_of, view}
+use Rattle.edi_words.specs.declared.commands.Command.{Command}
 use Rattle.edi_words.specs.declared.commands.Command.TheVariants as command
+use Rattle.edi_statuses.specs.EachObject.{command_does}
+use Rattle.edi_statuses.specs.Explored.{is_exploration}
 use Rattle.edi_statuses.specs.Outside.{kernel_of}
 use Rattle.edi_statuses.proofs.EachLeft.{same_valid, untouched, untouched_alone, untouched_but_input, untouched_but_kernel, untouched_drive}
 use Rattle.edi_statuses.proofs.Silent.{on_files}
@@ -113,6 +116,30 @@ returns-in-Exec-clause-untouched g c =
     untouched_so c.args.command (command.Exec c.in-Exec.file c.in-Exec.options) c.run_file-in-Exec.result.status c.run_file-in-Exec.result.status _ _ c.in-Exec.is refl
     (untouched _ _ (words.exec c.in-Exec.file.now (options_of c.in-Exec.options)) c.run_file-in-Exec.result.status refl refl refl refl (λ e. e)
     (λ none. absurd (true≢false none)) c.run_file-in-Exec.ensures.early)
+
+pub returns-in-Time-clause-size : goal.returns-in-Time-clause-size
+returns-in-Time-clause-size g c =
+    counts_so c.args.command (command.Time c.in-Time.file c.in-Time.out c.in-Time.options) c.time_file.result.status c.time_file.result.status _ _ _ _
+    c.in-Time.is refl (c.time_file.ensures.size, c.time_file.ensures.fits)
+
+pub returns-in-Time-clause-untouched : goal.returns-in-Time-clause-untouched
+returns-in-Time-clause-untouched g c =
+    untouched_so c.args.command (command.Time c.in-Time.file c.in-Time.out c.in-Time.options) c.time_file.result.status c.time_file.result.status _ _
+    c.in-Time.is refl
+    (untouched _ _ (words.time c.in-Time.file.now c.in-Time.out.now (options_of c.in-Time.options)) c.time_file.result.status refl refl refl refl (λ e. e)
+    (λ none. absurd (true≢false none)) c.time_file.ensures.early)
+
+pub returns-in-TimeCode-clause-size : goal.returns-in-TimeCode-clause-size
+returns-in-TimeCode-clause-size g c =
+    counts_so c.args.command (command.TimeCode c.in-TimeCode.file c.in-TimeCode.out c.in-TimeCode.options) c.time_file-in-TimeCode.result.status c.time_file-in-TimeCode.result.status _ _ _ _
+    c.in-TimeCode.is refl (c.time_file-in-TimeCode.ensures.size, c.time_file-in-TimeCode.ensures.fits)
+
+pub returns-in-TimeCode-clause-untouched : goal.returns-in-TimeCode-clause-untouched
+returns-in-TimeCode-clause-untouched g c =
+    untouched_so c.args.command (command.TimeCode c.in-TimeCode.file c.in-TimeCode.out c.in-TimeCode.options) c.time_file-in-TimeCode.result.status c.time_file-in-TimeCode.result.status _ _
+    c.in-TimeCode.is refl
+    (untouched _ _ (words.time_code c.in-TimeCode.file.now c.in-TimeCode.out.now (options_of c.in-TimeCode.options)) c.time_file-in-TimeCode.result.status refl refl refl refl (λ e. e)
+    (λ none. absurd (true≢false none)) c.time_file-in-TimeCode.ensures.early)
 
 pub returns-in-Watch-clause-size : goal.returns-in-Watch-clause-size
 returns-in-Watch-clause-size g c =
@@ -230,6 +257,10 @@ returns-in-Explore-clause-untouched g c =
     (λ early.
     let none = c.explore_file.ensures.early early in
     (none.0, none.2)))
+
+pub returns-in-Explore-clause-unwatched : goal.returns-in-Explore-clause-unwatched
+returns-in-Explore-clause-unwatched g c = λ other.
+    absurd (true≢false (ap (λ (x : Command). command_does is_exploration (Some (view x))) (sym c.in-Explore.is) ∙ other))
 
 pub returns-in-Run-clause-unmounted : goal.returns-in-Run-clause-unmounted
 returns-in-Run-clause-unmounted g c =

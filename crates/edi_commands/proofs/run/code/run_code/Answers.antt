@@ -1,11 +1,11 @@
 -- The exits of a run of a code.
-use Rattle.std.proofs.Common.{rules, ◌≡◌, ◌∙◌, ◌+◌, ◌<◌, ◌^◌, option_map, IsSome, arith, refl, sym, subst, ap}
+use Rattle.std.proofs.Common.{rules, ◌≡◌, ◌∙◌, ◌+◌, ◌<◌, ◌^◌, option_map, arith, refl, sym, subst, ap}
 use Rattle.edi_kernel.specs.declared.ends.Ending.TheVariants as ending
 use Rattle.edi_statuses.specs.Counts.{Counts, HasCause, counts_of}
 use Rattle.edi_statuses.specs.Executions.{status_of}
 use Rattle.edi_statuses.specs.Outside.{kernel_of}
 use Rattle.edi_commands.specs.steps.NotMounted.{mount_status}
-use Rattle.edi_commands.specs.run.CodeRan.{object_status}
+use Rattle.edi_statuses.specs.Executions.{object_status}
 use Rattle.edi_commands.proofs.run.Asked.{asked_so, ended_asked, failed_asked, record_asked, unmounted_asked}
 use Rattle.edi_commands.proofs.run.Left.{ending_of}
 use Rattle.edi_commands.proofs.run.Counted.{none_falls, record_cause}
@@ -37,12 +37,11 @@ pub returns-in-Some-clause-ran : goal.returns-in-Some-clause-ran
 returns-in-Some-clause-ran g c =
     let l = c.in-Ok.ensures.leaves in
     let few : c.args.choices.now.drawn + c.from.result < 2 ^ 64 = search rules in
-    let there : IsSome c.in-Ok.ran.failed = search rules in
     with_bound c.from.result c.args.turns (search rules) _ _ _ _ _ _ _ _
     (broke c.args.code.now c.from.result c.args.choices.now c.requires.none_drawn c.in-Ok.ran.due _ _
     (left_on _ _ _ c.in-Ok.ensures.mounted l.told l.due)
     (option_map (λ name. name.now) c.args.record_file) c.object_status.result c.in-Some.object _ c.object_status.ensures.exact refl
-    (l.moment (c.in-Ok.ensures.failed.0 there) few))
+    (c.in-Ok.ensures.call c.in-Some.object c.in-Some.is few))
 
 pub returns-in-Some-clause-later : goal.returns-in-Some-clause-later
 returns-in-Some-clause-later g c =

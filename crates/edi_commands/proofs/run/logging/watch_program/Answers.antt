@@ -1,5 +1,5 @@
 -- The exits of a watched run.
-use Rattle.std.proofs.Common.{rules, ◌≡◌, ◌∙◌, ◌+◌, ◌<◌, ◌^◌, option_map, IsSome, arith, refl, sym, subst, ap}
+use Rattle.std.proofs.Common.{rules, ◌≡◌, ◌∙◌, ◌+◌, ◌<◌, ◌^◌, option_map, arith, refl, sym, subst, ap}
 use Rattle.edi_kernel.specs.declared.ends.Ending.TheVariants as ending
 use Rattle.edi_debug.specs.Points.{watched_in}
 use Rattle.edi_statuses.specs.Counts.{Counts, HasCause, counts_of}
@@ -8,7 +8,7 @@ use Rattle.edi_statuses.specs.declared.status.Status.TheVariants as status
 use Rattle.edi_statuses.specs.Outside.{Outside, kernel_of, outside_of}
 use Rattle.edi_statuses.proofs.Silent.{nothing_seen}
 use Rattle.edi_commands.specs.steps.NotMounted.{mount_status}
-use Rattle.edi_commands.specs.run.CodeRan.{object_status}
+use Rattle.edi_statuses.specs.Executions.{object_status}
 use Rattle.edi_commands.proofs.run.Asked.{asked_so, ended_asked, failed_asked, unmounted_asked}
 use Rattle.edi_commands.proofs.run.Left.{ending_of}
 use Rattle.edi_commands.proofs.run.LogKept.{log_asked, log_cause}
@@ -54,12 +54,11 @@ returns-in-Err-clause-later g c =
 pub returns-in-Some-clause-ran : goal.returns-in-Some-clause-ran
 returns-in-Some-clause-ran g c =
     let few : c.args.choices.now.drawn + c.from.result < 2 ^ 64 = search rules in
-    let there : IsSome c.in-Ok-watch_on.ran.failed = search rules in
     with_bound c.from.result c.args.turns (search rules) _ _ _ _ _ _ _ _ _ _
     (failed_so c.args.watched.now (watched_in c.args.points.now) c.from.result c.args.out.now (option_map (λ name. name.now) c.args.record_file) _ _
     c.args.choices.now c.requires.none_drawn c.in-Ok-watch_on.ran.due (left_on _ _ _ c.in-Ok-watch_on.ensures.mounted c.in-Ok-watch_on.ensures.told.0 c.in-Ok-watch_on.ensures.told.1)
     c.object_status.result c.in-Some.object _ c.object_status.ensures.exact refl
-    (λ v. (c.in-Ok-watch_on.ensures.leaves v).moment (c.in-Ok-watch_on.ensures.failed.0 there) few))
+    (λ v. c.in-Ok-watch_on.ensures.call v c.in-Some.object c.in-Some.is few))
 
 pub returns-in-Some-clause-later : goal.returns-in-Some-clause-later
 returns-in-Some-clause-later g c =

@@ -4,7 +4,7 @@ use Rattle.edi_calls.specs.declared.ends.Outside.TheVariants as object
 use Rattle.edi_unit.specs.View.{unit_of}
 use Rattle.edi_walk.specs.declared.walking.WalkEnd.TheVariants as end
 use Rattle.edi_commands.specs.steps.NotMounted.{mount_status}
-use Rattle.edi_commands.specs.run.CodeRan.{object_status}
+use Rattle.edi_statuses.specs.Executions.{object_status}
 use Rattle.edi_commands.proofs.run.Asked.{asked_so, failed_asked, unmounted_asked}
 use Rattle.edi_commands.proofs.run.Mounting.{left_on}
 use Rattle.edi_commands.proofs.run.Past.{failed_past, never_at, past_so, walked_past}

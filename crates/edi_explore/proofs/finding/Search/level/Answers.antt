@@ -1,20 +1,26 @@
 -- State after state is expanded.
-use Rattle.std.proofs.Common.{sym, ◌∙◌, arith}
+use Rattle.std.proofs.Common.{◌≡◌, ◌+◌, ◌++◌, ◌∷◌, [], List, ℕ, length, refl, sym, ◌∙◌, arith}
+use Rattle.edi_told.proofs.Told.{WhereTold-map, WhereTold-then}
+use Rattle.edi_explore.specs.Watched.{Sees, SeesLevel}
 use Rattle.edi_explore.proofs.Expanding.{further_on, further_same, level_more}
-use Rattle.edi_explore.proofs.Findings.{finds_none, finds_on}
+use Rattle.edi_explore.proofs.Findings.{found_none, found_on}
 use Rattle.edi_explore.proofs.Table.{longer}
+use Rattle.edi_explore.proofs.Watching.{sees_none, sees_one, told_same}
 use Rattle.edi_explore.proofs.finding.Search.level.Goals as goal
 
 pub loop-state-init : goal.loop-state-init
-loop-state-init c = record {
-  finds = finds_none c.args.code.now c.args.input.now c.args.self.now.found.items;
-  further = further_same c.args.code.now c.args.input.now c.args.limits.turns c.args.self.now c.requires.search;
+loop-state-init g c = record {
+  finds = found_none c.args.code.now c.args.input.now c.args.limits c.args.self.now c.args.self.now refl refl;
+  further = further_same c.args.code.now c.args.input.now c.args.limits c.args.self.now c.requires.search;
   few = c.requires.few;
   so = λ e v low high. absurd (omega (arith, low, high));
+  watches =
+      told_same (λ (x y : List ℕ). (s : Sees c.args.from (c.args.limits.states + 1) x y) × (c.args.from + length s.more ≡ c.args.from))
+      (g.W.Watcher.seen c.args.watcher.now) (λ x. let s = sees_none c.args.from (c.args.limits.states + 1) x in (s.0, omega (arith, s.1)));
 }
 
 pub expand-requires-clause-state : goal.expand-requires-clause-state
-expand-requires-clause-state c =
+expand-requires-clause-state g c =
     omega (
       arith,
       c.loop-state-test.true,
@@ -23,30 +29,55 @@ expand-requires-clause-state c =
     )
 
 pub loop-state-preserved : goal.loop-state-preserved
-loop-state-preserved c =
+loop-state-preserved g c =
     let code = c.args.code.now in
     let input = c.args.input.now in
-    let turns = c.args.limits.turns in
+    let limits = c.args.limits in
     let a = c.loop-state.self in
     let b = c.expand.new.self in
-    let came = c.in_ok-expand.ensures.expands in
+    let came = c.in-Ok.ensures.expands in
+    let far = longer a.states b.states input c.loop-state.invariant.further.search.states came.further.grows in
+    let long = longer c.args.self.now.states a.states input c.requires.search.states c.loop-state.invariant.further.grows in
     record {
-      finds = finds_on code input c.args.self.now.found.items a.found.items b.found.items c.loop-state.invariant.finds c.in_ok-expand.ensures.finds;
-      further = further_on code input turns c.args.self.now a b c.loop-state.invariant.further came.further;
+      finds = found_on code input limits c.args.self.now a b c.loop-state.invariant.finds c.in-Ok.ensures.finds;
+      further = further_on code input limits c.args.self.now a b c.loop-state.invariant.further came.further;
       few = c.expand.ensures.few;
       so = λ whole v low high.
-          level_more code input turns c.args.self.now a b c.args.from c.loop-state.state c.loop-state.expanded c.in_ok-expand.field-0
+          level_more code input limits c.args.self.now a b c.args.from c.loop-state.state c.loop-state.expanded c.in-Ok.more
           c.loop-state.invariant.further (omega (arith, c.loop-state-test.true, c.len-state-end.ensures)) c.requires.search c.loop-state.invariant.so
-          c.in_ok-expand.ensures.finds.more came (sym c.and-expanded.ensures ∙ whole) v low high;
+          c.in-Ok.ensures.finds.finds.more came (sym c.and-expanded.ensures ∙ whole) v low high;
+      watches =
+          WhereTold-then (λ x y. (s : Sees c.args.from (limits.states + 1) x y) × (c.args.from + length s.more ≡ c.loop-state.state))
+          (λ y z. z ≡ y ++ c.total.result ∷ []) (λ x z. (s : Sees c.args.from (limits.states + 1) x z) × (c.args.from + length s.more ≡ c.loop-state.state + 1))
+          (g.W.Watcher.seen c.args.watcher.now) (g.W.Watcher.seen c.loop-state.watcher) (g.W.Watcher.seen c.tell.new.self)
+          (λ x y z s is.
+          let t =
+          sees_one c.args.from (limits.states + 1) c.total.result x y z s.0 is (omega (arith, c.total.ensures, c.expand.ensures.few))
+          (omega (arith, s.1, c.total.ensures, far, long, c.loop-state-test.true, c.len-state-end.ensures)) in
+          (t.0, omega (arith, t.1, s.1))) c.loop-state.invariant.watches c.tell.ensures;
     }
 
-pub returns-in_err-expand-clause-finds : goal.returns-in_err-expand-clause-finds
-returns-in_err-expand-clause-finds c =
-    finds_on c.args.code.now c.args.input.now c.args.self.now.found.items c.loop-state.self.found.items c.expand.new.self.found.items
+pub returns-in-Err-clause-finds : goal.returns-in-Err-clause-finds
+returns-in-Err-clause-finds g c =
+    found_on c.args.code.now c.args.input.now c.args.limits c.args.self.now c.loop-state.self c.expand.new.self
     c.loop-state.invariant.finds c.expand.ensures.finds
 
+pub returns-in-Err-clause-watches : goal.returns-in-Err-clause-watches
+returns-in-Err-clause-watches g c =
+    WhereTold-map (λ x y. (s : Sees c.args.from (c.args.limits.states + 1) x y) × (c.args.from + length s.more ≡ c.loop-state.state))
+    (SeesLevel _ c.args.from (length c.args.self.now.states.keys.keys) (c.args.limits.states + 1)) (g.W.Watcher.seen c.args.watcher.now)
+    (g.W.Watcher.seen c.loop-state.watcher) (λ x y s. record { sees = s.0; whole = tt }) c.loop-state.invariant.watches
+
+pub returns-clause-watches : goal.returns-clause-watches
+returns-clause-watches g c =
+    WhereTold-map (λ x y. (s : Sees c.args.from (c.args.limits.states + 1) x y) × (c.args.from + length s.more ≡ c.loop-state.state))
+    (SeesLevel _ c.args.from (length c.args.self.now.states.keys.keys) (c.args.limits.states + 1)) (g.W.Watcher.seen c.args.watcher.now)
+    (g.W.Watcher.seen c.loop-state.watcher)
+    (λ x y s. record { sees = s.0; whole = omega (arith, s.1, c.loop-state-test.false, c.len-state-end.ensures, c.requires.from) })
+    c.loop-state.invariant.watches
+
 pub returns-clause-expands : goal.returns-clause-expands
-returns-clause-expands c = record {
+returns-clause-expands g c = record {
   further = c.loop-state.invariant.further;
   so = λ whole v low high. c.loop-state.invariant.so whole v low (omega (arith, high, c.loop-state-test.false, c.len-state-end.ensures));
 }

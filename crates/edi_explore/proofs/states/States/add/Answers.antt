@@ -1,8 +1,10 @@
 -- The state was kept already, or it is the next one.
-use Rattle.std.proofs.Common.{◌≡◌, ◌++◌, ◌∷◌, [], List, Bool, true, false, not, length, sym, ap, ◌∙◌, refl}
+use Rattle.std.proofs.Common.{◌≡◌, ◌++◌, ◌∷◌, [], List, Bool, true, false, not, length, sym, ap, ◌∙◌, refl, subst}
 use Rattle.std.specs.Prelude.{if◌then◌else◌}
 use Rattle.indexmap.specs.IndexSet.{contains}
 use Rattle.edi_explore.specs.declared.states.States.{States}
+use Rattle.edi_explore.specs.Shown.{asks_of}
+use Rattle.edi_explore.specs.States.{IsKeyOf}
 use Rattle.edi_explore.specs.contracts.states.KeyPartialEq.TheImpl as key
 use Rattle.edi_explore.proofs.Adding.{added_again, added_new}
 use Rattle.edi_explore.proofs.Equal.{key_same}
@@ -20,8 +22,8 @@ pub returns-then-not-added-clause-added : goal.returns-then-not-added-clause-add
 returns-then-not-added-clause-added c = λ _.
     let mid = c.key_of.new.self in
     let stored = c.in_ok-added.ensures.stored in
-    added_again c.args.self.now mid (record mid { keys = c.insert_full.new.self }) c.in_ok-key.key stored.0 c.in_ok-added.field-0-0 c.args.kernel.now c.args.calls.now
-    c.requires.states c.in_ok-key.ensures.adds c.in_ok-key.ensures.key refl
+    added_again (asks_of c.args.limits) c.args.self.now mid (record mid { keys = c.insert_full.new.self }) c.in_ok-key.key stored.0 c.in_ok-added.field-0-0 c.args.kernel.now c.args.calls.now
+    c.requires.states c.in_ok-key.ensures.adds (subst (λ b. IsKeyOf b mid c.in_ok-key.key c.args.kernel.now c.args.calls.now) c.asks.ensures c.in_ok-key.ensures.key) refl
     (c.in_ok-added.ensures.keys
     ∙ stay (contains (key.ghosts).eq mid.keys c.in_ok-key.key) mid.keys.keys (mid.keys.keys ++ c.in_ok-key.key ∷ [])
     (sym c.in_ok-added.ensures.added ∙ c.if-not-added.true))
@@ -31,9 +33,9 @@ pub returns-clause-added : goal.returns-clause-added
 returns-clause-added c = λ _.
     let mid = c.key_of.new.self in
     let rest = c.in_ok-note_order.ensures.rest in
-    added_new c.args.self.now mid
+    added_new (asks_of c.args.limits) c.args.self.now mid
     (record c.note_order.new.self { origins = c.push.new.self; ends = c.push-2.new.self }) c.in_ok-key.key c.args.kernel.now c.args.calls.now
-    c.requires.states c.in_ok-key.ensures.adds c.requires.kernel c.in_ok-key.ensures.key
+    c.requires.states c.in_ok-key.ensures.adds c.requires.kernel (subst (λ b. IsKeyOf b mid c.in_ok-key.key c.args.kernel.now c.args.calls.now) c.asks.ensures c.in_ok-key.ensures.key)
     (ap (λ (x : States). x.processes) rest) (ap (λ (x : States). x.places) rest)
     (ap (λ (x : States). x.keys.keys) rest ∙ c.in_ok-added.ensures.keys
     ∙ grow (contains (key.ghosts).eq mid.keys c.in_ok-key.key) mid.keys.keys (mid.keys.keys ++ c.in_ok-key.key ∷ [])

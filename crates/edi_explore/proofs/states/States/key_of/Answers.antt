@@ -1,9 +1,9 @@
 -- The parts of the live processes, slot after slot.
-use Rattle.std.proofs.Common.{◌+◌, List, ℕ, sym, ap, subst, ◌∙◌}
+use Rattle.std.proofs.Common.{◌+◌, List, ℕ, sym, ap, subst, ◌∙◌, arith}
 use Rattle.edi_explore.specs.declared.states.States.{States}
 use Rattle.edi_explore.specs.States.{AddsParts, ArePartsBelow}
 use Rattle.edi_explore.proofs.Growing.{follows_on, stays_at}
-use Rattle.edi_explore.proofs.Keying.{parts_more, parts_skip}
+use Rattle.edi_explore.proofs.Keying.{parts_key, parts_more, parts_none, parts_skip, same_place}
 use Rattle.edi_explore.proofs.states.States.key_of.Goals as goal
 
 adds_on : (a b c : States) → AddsParts a b → AddsParts b c → AddsParts a c
@@ -12,6 +12,20 @@ adds_on a b c f g = record {
   places = follows_on a.places.keys b.places.keys c.places.keys f.places g.places;
   rest = g.rest ∙ ap (λ (x : States). record x { processes = c.processes; places = c.places }) f.rest;
 }
+
+pub loop-slot-init : goal.loop-slot-init
+loop-slot-init c =
+    let there = c.in_ok-place.ensures.there in
+    record {
+      parts = parts_none c.place_of.new.self.processes.keys c.args.kernel.now;
+      adds = c.in_ok-place.ensures.adds;
+      place = (there.0, there.1, same_place c.args.asks c.args.calls.now c.in_ok-keep.field-0 there.0 c.in_ok-keep.ensures there.2);
+    }
+
+pub returns-clause-key : goal.returns-clause-key
+returns-clause-key c =
+    parts_key c.args.asks c.loop-slot.self (record { place = c.loop-slot.place; parts = c.loop-slot.parts }) c.args.kernel.now c.args.calls.now c.loop-slot.slot
+    c.loop-slot.invariant.parts (omega (arith, c.loop-slot-test.false)) c.loop-slot.invariant.place
 
 pub loop-slot-preserved-then-not-lives : goal.loop-slot-preserved-then-not-lives
 loop-slot-preserved-then-not-lives c = record {

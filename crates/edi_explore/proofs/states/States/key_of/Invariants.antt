@@ -10,5 +10,5 @@ abbrev pub invariant-loop-slot : goal.invariant-loop-slot
 invariant-loop-slot l = record {
   parts : ArePartsBelow l.slot l.self.processes.keys l.parts.items l.kernel;
   adds : AddsParts l.fn.self l.self;
-  place : (place : Place) × (slice_get l.self.places.keys l.place ≡ Some place) × IsPlaceOf l.calls place;
+  place : (place : Place) × (slice_get l.self.places.keys l.place ≡ Some place) × IsPlaceOf l.asks l.calls place;
 }
