@@ -24,7 +24,7 @@ use Rattle.edi_statuses.proofs.Terminal.{record_later, does_later, list_later, s
 use Rattle.edi_statuses.proofs.Demonstrated.{demonstrates_later, own_unkept, own_whole, broke_demo_later}
 use Rattle.edi_statuses.proofs.Watched.{watches_later, watched_wants, watched_lost, watched_broke}
 use Rattle.edi_statuses.proofs.Timed.{timed_later_by}
-use Rattle.edi_statuses.proofs.Walked.{walks_later, walked_wants, walked_broke}
+use Rattle.edi_statuses.proofs.Walked.{walks_later, walked_failed, walked_wants}
 use Rattle.edi_statuses.proofs.Explored.{explored_cut, explored_lost, explored_took, explored_wants, explores_later}
 use Rattle.edi_statuses.specs.Explored.{ExploresText}
 use Rattle.edi_statuses.specs.Walked.{Walks}
@@ -138,16 +138,16 @@ module _ (b m : Outside) (y : Option (List ℕ)) (still : StillTold m.shown y) w
 
   walk_is : (file choices : List ℕ) (turns : ℕ) (shown : List ℕ) (kernel : Lent) → Later (words.walk file choices turns) shown kernel
   walk_is file choices turns shown kernel =
-      let broke = walked_broke b m y still file choices turns shown kernel in
+      let failed = walked_failed b m y still file choices turns shown kernel in
       record {
         comes = λ s. does_later b m y still (RunSteps before_ file (words.file choices)) (RunSteps seen_later file (words.file choices))
             (λ a. Walks a.0 turns a.1) (λ a. Walks a.0 turns a.1) s shown kernel (run_later b m y still file (words.file choices))
             (λ a. walks_later b m y still a.0 turns a.1 s shown kernel);
         wants = walked_wants b m y still file choices turns shown kernel;
         files = λ h. absurd h;
-        drive = broke;
-        input = broke;
-        output = broke;
+        drive = failed status.DriveFault;
+        input = failed status.InputFault;
+        output = failed status.OutputFault;
       }
 
   demo_is : (n : ℕ) (options : Options) (shown : List ℕ) (kernel : Lent) → Later (words.demo n options) shown kernel

@@ -306,7 +306,7 @@ module _ (b m : Outside) (y : Option (List ℕ)) (still : StillTold m.shown y) w
   at_silent : (state : State) (shown : List ℕ) → Silent (λ d e. DevicesAreAt state d e shown)
   at_silent state shown d e bytes h = record { input = h.input; shown_ = h.shown_; printed = h.printed; disk = h.disk; count = h.count }
 
-  failed_silent : (s : Status) (Calls : Devices → State → State → Type 0) (shown : List ℕ) → Silent (λ d e. FailedAt s (Calls d) d e shown)
+  pub failed_silent : (s : Status) (Calls : Devices → State → State → Type 0) (shown : List ℕ) → Silent (λ d e. FailedAt s (Calls d) d e shown)
   failed_silent s Calls shown d e bytes h = record {
     failed = h.failed;
     status_is = h.status_is;

@@ -16,7 +16,7 @@ use Rattle.edi_statuses.specs.Commands.{IsNothing, OnItsOwn, RunSteps, ExecSteps
 use Rattle.edi_statuses.specs.Broken.{RanWhole, RanUnkept, AtRecord, HasNotBegun, ChangesDrive, ArePutInPart, IsOpen, BrokeDemo}
 use Rattle.edi_statuses.specs.Broken.{ShowsFront, ShowsReportFront, ExplainsFront}
 use Rattle.edi_statuses.specs.Broken.{HasBegun, WentOn, RunAsks, ExecAsks, WatchAsks, WatchedLost, WatchedUnkept}
-use Rattle.edi_statuses.specs.Walked.{BrokeWalk}
+use Rattle.edi_statuses.specs.Walked.{BrokeWalk, FailedWalk}
 use Rattle.edi_statuses.specs.Explored.{ExploredFront, ExploredInPart, ExploredThen, LosesInput, LosesNext, names_of_records}
 use Rattle.edi_statuses.specs.Timelines.{TimedInPart, TimedLost, timeline_names}
 
@@ -232,15 +232,17 @@ facts_of (words.explain file) = record plain {
   output_failed = λ before after shown kernel. HasBegun (Fetches before file) (λ bytes. ExplainsFront bytes before after shown kernel);
 }
 facts_of (words.walk file choices turns) =
-    let broken : Left = λ before after shown kernel.
-    HasBegun (RunSteps before file (words.file choices)) (λ a. BrokeWalk a.0 turns a.1 before after shown kernel) in
+    let failed : Status → Left = λ s before after shown kernel.
+    HasBegun (RunSteps before file (words.file choices)) (λ a. FailedWalk s a.0 turns a.1 before after shown kernel) in
     record (on_devices (file_named file) None) {
       kernel = false;
       asks_drive = λ before. RunAsks before file (words.file choices);
-      no_memory = λ before after shown kernel. IsNothing before after shown kernel ⊎ broken before after shown kernel;
-      drive_failed = broken;
-      input_failed = broken;
-      output_failed = broken;
+      no_memory = λ before after shown kernel.
+          IsNothing before after shown kernel
+          ⊎ HasBegun (RunSteps before file (words.file choices)) (λ a. BrokeWalk a.0 turns a.1 before after shown kernel);
+      drive_failed = failed status.DriveFault;
+      input_failed = failed status.InputFault;
+      output_failed = failed status.OutputFault;
     }
 facts_of (words.watch file points_file out o) =
     record (program_run file (λ before. WatchAsks before file points_file o.choices) (λ before. WatchSteps before file points_file o.choices) (λ a. text a.0) (λ a. a.1)

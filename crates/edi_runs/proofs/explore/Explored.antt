@@ -119,7 +119,8 @@ distinct asks fs told d i j a b p q e shown =
     let s = told x.0 (contains_at fs i x.0 x.1) in
     let t = told y.0 (contains_at fs j y.0 y.1) in
     let same : meant x.0.ending ≡ meant y.0.ending = ap (λ (r : Reached). r.ending) x.2 ∙ e ∙ sym (ap (λ (r : Reached). r.ending) y.2) in
-    d i j x.0 y.0 x.1 y.1 (sym (same_meant x.0.ending y.0.ending s.0 t.0 s.1 t.1 same), same_shown asks a b x.0 y.0 x.2 y.2 shown)
+    d i j x.0 y.0 x.1 y.1
+    (record { ending = sym (same_meant x.0.ending y.0.ending s.0 t.0 s.1 t.1 same); shown = same_shown asks a b x.0 y.0 x.2 y.2 shown })
 
 -- ---- a report
 

@@ -1,6 +1,6 @@
 //! A text that is explored.
 
-ghost use Rattle.std.specs.Prelude.{◌≡◌, List, ℕ, IfOk};
+ghost use Rattle.std.specs.Prelude.{◌≡◌, ◌+◌, List, ℕ, IfOk};
 ghost use Rattle.edi_unit.specs.Tree.{ProgramUnit};
 ghost use Rattle.edi_scheme.specs.Laws.{parts_of};
 ghost use Rattle.edi_told.specs.Told.{WhereTold};
@@ -33,7 +33,7 @@ pub fn explore_text<W: Watcher>(
     ensures explored { (text : List ℕ) (unit : ProgramUnit) → IsFrontOf text unit → code.now ≡ parts_of unit →
         IfOk result (λ report. IsExplorationOf text input.now limits.states limits.turns limits.shown (findings_of report)) }
     ensures watches { WhereTold (W.seen watcher.old) (W.seen watcher.new)
-        (λ before now. IfOk result (λ report. IsWatched report.verdict report.states before now)) }
+        (λ before now. IfOk result (λ report. IsWatched report.verdict (limits.states + 1) report.states before now)) }
 {
     let report = explore(alloc, kernel, code, input, limits, watcher)?;
     Ok(report)

@@ -64,6 +64,7 @@ module _ (c : Command) (files : Contents) (d : Devices) (kernel : KernelLeft) (p
         decisive = decisive run.ending;
         files_after = with_kept kept files;
         devices_after = devices_then c files d kernel program bound choices run;
+        sized = λ h. run.gone.image.image.sized;
         shown = shown;
         left = run.left;
         comes = (

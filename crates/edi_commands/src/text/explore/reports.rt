@@ -1,6 +1,6 @@
 //! What is found of a program, and the lines that tell it.
 
-ghost use Rattle.std.specs.Prelude.{List, ℕ, IfOk, option_map};
+ghost use Rattle.std.specs.Prelude.{◌+◌, List, ℕ, IfOk, option_map};
 ghost use Rattle.edi_told.specs.Told.{WhereTold};
 ghost use Rattle.edi_unit.specs.Tree.{ProgramUnit};
 ghost use Rattle.edi_explore.specs.Watched.{IsWatched};
@@ -33,7 +33,7 @@ pub(crate) fn explore_program<W: Watcher>(
     ensures finds { (text : List ℕ) (unit : ProgramUnit) → IsExplorable text unit program.now →
         IfOk result (λ e. IsExplored text input.now limits.states limits.turns limits.shown (option_map (λ name. name.now) record_file.entry) e) }
     ensures watches { WhereTold (W.seen watcher.old) (W.seen watcher.new)
-        (λ before now. IfOk result (λ e. IsWatched e.report.verdict e.report.states before now)) }
+        (λ before now. IfOk result (λ e. IsWatched e.report.verdict (limits.states + 1) e.report.states before now)) }
 {
     let report = explore_text(alloc, kernel, &program.code, input, limits, watcher)?;
     let lines = report_text(alloc, &report, limits.shown.is_some(), record_file)?;

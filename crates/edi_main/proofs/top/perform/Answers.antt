@@ -338,3 +338,13 @@ returns-in-NewDisk-clause-unmounted g c =
     unmounted_so c.args.command (command.NewDisk c.in-NewDisk.blocks c.in-NewDisk.old) c.new_by.result c.silent-in-NewDisk.result.status
     _ _ c.in-NewDisk.is c.silent-in-NewDisk.ensures.status
     (unmounted_never (words.newdisk c.in-NewDisk.blocks (option_map (λ name. name.now) c.in-NewDisk.old)) c.new_by.result _ _ refl refl)
+
+pub returns-in-Time-clause-unmounted : goal.returns-in-Time-clause-unmounted
+returns-in-Time-clause-unmounted g c =
+    unmounted_so c.args.command (command.Time c.in-Time.file c.in-Time.out c.in-Time.options) c.time_file.result.status c.time_file.result.status _ _ c.in-Time.is refl
+    (unmounted_last (words.time c.in-Time.file.now c.in-Time.out.now (options_of c.in-Time.options)) c.time_file.result.status _ _ refl c.time_file.ensures.unmounted)
+
+pub returns-in-TimeCode-clause-unmounted : goal.returns-in-TimeCode-clause-unmounted
+returns-in-TimeCode-clause-unmounted g c =
+    unmounted_so c.args.command (command.TimeCode c.in-TimeCode.file c.in-TimeCode.out c.in-TimeCode.options) c.time_file-in-TimeCode.result.status c.time_file-in-TimeCode.result.status _ _ c.in-TimeCode.is refl
+    (unmounted_last (words.time_code c.in-TimeCode.file.now c.in-TimeCode.out.now (options_of c.in-TimeCode.options)) c.time_file-in-TimeCode.result.status _ _ refl c.time_file-in-TimeCode.ensures.unmounted)
