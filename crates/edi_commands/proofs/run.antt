@@ -11,8 +11,12 @@ pub mod LogKept
 pub mod Meaning
 pub mod Mounting
 pub mod OfFiles
+pub mod Past
 pub mod PointsRead
 pub mod Shown
+pub mod TimedEnds
+pub mod TimedExits
+pub mod TimedKept
 pub mod Told
 pub mod WalkEnds
 pub mod WalkExits

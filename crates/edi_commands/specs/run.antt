@@ -3,6 +3,7 @@ pub mod CodeRan
 pub mod Demonstrated
 pub mod FileSteps
 pub mod OnMounted
+pub mod OnTimed
 pub mod OnWalked
 pub mod OnWatched
 pub mod RunMeans

@@ -20,6 +20,7 @@ use Rattle.edi_texts.specs.Length.{extent_of, symbol_count}
 use Rattle.edi_texts.specs.Run.{IsCodeFor}
 use Rattle.edi_texts.proofs.Bounded.{accepted_texts_are_sound, symbols_bounded}
 use Rattle.edi_texts.proofs.Executions.{code_for}
+use Rattle.edi_compile.proofs.Calls.{calls_to_meaning, calls_to_code}
 use Rattle.edi_compile.specs.Compiled.{IsShort}
 use Rattle.edi_compile.specs.Meant.{DoesAsMeant, IsPrivateCode, SoundUnitsCanBeCoded, TextsArePrivate, TextsCanBeCoded, TextsDoAsMeant}
 
@@ -30,6 +31,10 @@ does_as_meant unit can = record {
   sound = code_is_sound unit can.fits can.parts can.short;
   same = λ system bound choices outcome. let both = same_outcomes unit can system bound choices outcome in (both.1, both.0);
   through = λ system bound choices moment. let both = same_moments unit can system bound choices moment in (both.1, both.0);
+  calls = λ system bound choices before next. (
+    λ h. calls_to_meaning unit can system bound choices before next h,
+    λ h. calls_to_code unit can system bound choices before next h,
+  );
   is_private = code_private unit can;
 }
 
@@ -48,6 +53,7 @@ pub made_for : (text : List ℕ) (unit : ProgramUnit) → IsUnit text unit → C
 made_for text unit is can short =
     let does = does_as_meant unit can in
     code_for text unit (parts_of unit) is does.sound short (λ system. does.same (fresh system)) (λ system. does.through (fresh system))
+    (λ system. does.calls (fresh system))
 
 pub sound_units_can_be_coded : SoundUnitsCanBeCoded
 sound_units_can_be_coded tree unit sound resolved = record {

@@ -3,6 +3,7 @@ use Rattle.std.proofs.Common.{◌≡◌, ℕ, zero, suc, ◌-◌, ◌<◌, ◌�
 use Rattle.std.proofs.Common.{arith}
 use Rattle.edi_told.specs.Told.{WhereTold}
 use Rattle.edi_told.proofs.Told.{WhereTold-map, WhereTold-then}
+use Rattle.edi_calls.specs.declared.ends.Outside.{Outside}
 use Rattle.edi_calls.specs.Names.{Name}
 use Rattle.edi_calls.specs.Outcome as outcome
 use Rattle.edi_calls.specs.Ready.{stays}
@@ -23,8 +24,8 @@ use Rattle.edi_kernel.specs.declared.ends.StintEnd.{StintEnd}
 use Rattle.edi_kernel.specs.declared.ends.StintEnd.TheVariants as stint_end
 use Rattle.edi_kernel.specs.declared.state.KernelState.{KernelState}
 use Rattle.edi_kernel.specs.declared.table.Table.{Table}
-use Rattle.edi_kernel.specs.Kernel.{Holds, GoesTo, StandsAfter, used_in, ended_by, is_over}
-use Rattle.edi_kernel.specs.Runs.{IsAt, IsAtBy, Proceeds, Started, RunsAs}
+use Rattle.edi_kernel.specs.Kernel.{BreaksBy, Holds, GoesTo, StandsAfter, used_in, ended_by, fault_of, is_over}
+use Rattle.edi_kernel.specs.Runs.{FaultsBy, IsAt, IsAtBy, Proceeds, Started, RunsAs}
 use Rattle.edi_kernel.proofs.Starting.{Enters, NeverEnters, enters, never_enters}
 use Rattle.edi_code.specs.declared.mapped.Mapped.{Mapped}
 use Rattle.edi_code.specs.Mapped.{IsMapped}
@@ -36,10 +37,10 @@ use Rattle.edi_debug.specs.stops.Kept.{Kept, after_lines}
 use Rattle.edi_debug.specs.stops.Stops.{Watched}
 use Rattle.edi_debug.specs.stops.Seen.{PointsFit}
 use Rattle.edi_debug.specs.stops.Watching.{run_lines, LogsAll}
-use Rattle.edi_debug.specs.stops.Underway.{Going, Ended, Watches}
+use Rattle.edi_debug.specs.stops.Underway.{AsksFailed, Going, Ended, Watches}
 use Rattle.edi_debug.proofs.Files.{points_fit, names_are_short}
 use Rattle.edi_debug.proofs.stops.Stinted.{begins}
-use Rattle.edi_debug.proofs.stops.Rounds.{round_over, round_on}
+use Rattle.edi_debug.proofs.stops.Rounds.{round_asks, round_over, round_on}
 
 pub not_over : (end : StintEnd) → ended_by end ≡ None → is_over end ≡ false
 not_over (stint_end.Over used x) e = absurd (cc)
@@ -72,6 +73,13 @@ module _ (mapped : Mapped) (points : List Watched) (bound : ℕ) where
       (unit : ProgramUnit) → IsMapped unit mapped → PointsFit unit points → (s : State) (first : Drawn) (start : Kept) → first.source ≡ now.source →
       Going unit points s bound first start old x now before → Watches unit points s bound first start result new y next after
 
+  -- where it ends the run by a fault, the call that failed uses the object that has failed
+  abbrev pub AnyFault : (failed : Option Outside → Type 0) → Option Ending → (old new : KernelState) → (now next : Drawn) → (before : Kept) → State → State
+      → Type 0
+  AnyFault failed result old new now next before x y =
+      (unit : ProgramUnit) → IsMapped unit mapped → (s : State) (first : Drawn) (start : Kept) → first.source ≡ now.source →
+      Going unit points s bound first start old x now before → AsksFailed unit points s bound first start failed result new y next
+
 module _ (mapped : Mapped) (points : List Watched) (bound : ℕ) (code : CodeParts) (is_code : (unit : ProgramUnit) → IsMapped unit mapped → code ≡ parts_of unit)
   where
     abbrev Logs : KernelState → (before after : Kept) → Type 0
@@ -100,6 +108,34 @@ module _ (mapped : Mapped) (points : List Watched) (bound : ℕ) (code : CodePar
           round_on unit points s bound first start end result old k next a b now later before after code left taken ready t is (is_code unit m) all turns small
           (logs unit m fits) stands source used entering proceeds goes w) h
 
+      abbrev AnyBreak : (failed : Option Outside → Type 0) → State → State → Type 0
+      AnyBreak failed x y = (m : Machine) (p : Name) (others : List Name) → IsAt code old x left m p others → BreaksBy failed code.words end left y m p others
+
+      pub asks_over : (failed : Option Outside → Type 0) (x : Ending) → ended_by end ≡ Some x → WhereTold o n (AnyBreak failed)
+          → WhereTold o n (AnyFault mapped points bound failed (Some x) old k now now before)
+      asks_over failed x is h =
+          WhereTold-map (AnyBreak failed) (AnyFault mapped points bound failed (Some x) old k now now before) o n
+          (λ a b breaks unit m s first start source w.
+          round_asks unit points s bound first start failed end x old k a b now before code left is (is_code unit m) all turns small breaks w) h
+
+      -- a choice, and what was found where nobody is ready, are no fault
+      pub asks_on : (failed : Option Outside → Type 0) (result : Option Ending) (next : KernelState) (later : Drawn) → fault_of result ≡ None
+          → WhereTold o n (AnyBreak failed) → WhereTold o n (AnyFault mapped points bound failed result old next now later before)
+      asks_on failed result next later none h =
+          WhereTold-map (AnyBreak failed) (AnyFault mapped points bound failed result old next now later before) o n
+          (λ a b breaks unit m s first start source w. go unit s first start b result none) h
+        where
+          go : (unit : ProgramUnit) (s : State) (first : Drawn) (start : Kept) (b : State) (r : Option Ending) → fault_of r ≡ None
+              → AsksFailed unit points s bound first start failed r next b later
+          go unit s first start b None none = tt
+          go unit s first start b (Some ending.Fault) none = absurd (cc)
+          go unit s first start b (Some ending.Done) none = tt
+          go unit s first start b (Some (ending.Halted line)) none = tt
+          go unit s first start b (Some (ending.Failed cause line)) none = tt
+          go unit s first start b (Some ending.Turns) none = tt
+          go unit s first start b (Some ending.Standstill) none = tt
+          go unit s first start b (Some (ending.Bad at)) none = tt
+
 -- ---- a whole run
 
 module _ (tree : text.Program) (sound : Sound tree) (mapped : Mapped) (points : Points) (are : ArePoints tree points) (bound : ℕ) (first : Drawn) (start : Kept) where
@@ -111,6 +147,10 @@ module _ (tree : text.Program) (sound : Sound tree) (mapped : Mapped) (points : 
   EndedSo e k now log s x =
       (unit : ProgramUnit) → Resolved tree unit → IsMapped unit mapped → Ended unit (watched_in points) s bound first start e k x now log
 
+  abbrev pub AskedSo : (failed : Option Outside → Type 0) → Ending → KernelState → Drawn → State → State → Type 0
+  AskedSo failed e k now s x =
+      (unit : ProgramUnit) → Resolved tree unit → IsMapped unit mapped → FaultsBy failed (parts_of unit) s bound first e k.used x now
+
   fit : (unit : ProgramUnit) → Resolved tree unit → PointsFit unit (watched_in points)
   fit unit resolved = points_fit tree unit sound resolved are.0 (watched_in points) are.1
 
@@ -119,6 +159,11 @@ module _ (tree : text.Program) (sound : Sound tree) (mapped : Mapped) (points : 
         → WhereTold a c (GoingOn new next after)
     watched_more h g =
         WhereTold-then _ _ _ a b c (λ s x y w round unit resolved m. round unit m (fit unit resolved) s first start (sym source) (w unit resolved m)) h g
+
+    pub watched_asks : (failed : Option Outside → Type 0) (e : Ending) → WhereTold a b (GoingOn old now before)
+        → WhereTold b c (AnyFault mapped (watched_in points) bound failed (Some e) old new now next before) → WhereTold a c (AskedSo failed e new next)
+    watched_asks failed e h g =
+        WhereTold-then _ _ _ a b c (λ s x y w round unit resolved m. round unit m s first start (sym source) (w unit resolved m)) h g
 
     pub watched_ends : (e : Ending) → WhereTold a b (GoingOn old now before)
         → WhereTold b c (AnyRound mapped (watched_in points) bound (Some e) old new now next before after) → WhereTold a c (EndedSo e new next after)
@@ -152,6 +197,9 @@ module _ (tree : text.Program) (sound : Sound tree) (mapped : Mapped) (points : 
               underway = begins (fetch (code_of unit)) first.source 0 unit.calls s bound first.drawn x.machine turn;
               logs = refl;
             }
+
+    pub nothing_asked : (failed : Option Outside → Type 0) → WhereTold o o (AskedSo failed ending.Turns k first)
+    nothing_asked failed = where_same o (AskedSo failed ending.Turns k first) (λ s unit resolved m. tt)
 
     pub watched_never : bound ≡ 0 → WhereTold o o (EndedSo ending.Turns k first start)
     watched_never none = where_same o (EndedSo ending.Turns k first start) never

@@ -14,7 +14,8 @@ ghost use Rattle.edi_target.specs.Memory as memory;
 ghost use Rattle.edi_target.specs.Mach.{Machine};
 ghost use Rattle.edi_kernel.specs.Stretch.{Blamed};
 ghost use Rattle.edi_kernel.specs.Kernel.{Holds, ended_by, fault_of};
-ghost use Rattle.edi_kernel.specs.Runs.{Proceeds};
+ghost use Rattle.edi_kernel.specs.Runs.{FaultsBy, Proceeds};
+ghost use Rattle.edi_scheme.specs.Laws.{parts_of};
 ghost use Rattle.edi_scheme.specs.Awaits.{await_address};
 ghost use Rattle.edi_code.specs.Mapped.{IsMapped};
 ghost use Rattle.edi_debug.specs.stops.Kept.{Kept, after_lines};
@@ -23,7 +24,7 @@ ghost use Rattle.edi_debug.specs.stops.Near as near_spec;
 ghost use Rattle.edi_debug.specs.stops.Near.{TellsPoints};
 ghost use Rattle.edi_debug.specs.stops.Seen.{IsElementaryVariable, PointsFit, SightFits};
 ghost use Rattle.edi_debug.specs.stops.Watching as spec;
-ghost use Rattle.edi_debug.specs.stops.Underway.{Ended, Going, Watches};
+ghost use Rattle.edi_debug.specs.stops.Underway.{AsksFailed, Ended, Going, Watches};
 ghost use Rattle.edi_debug.specs.Points.{AreNamed, ArePoints, watched, watched_in};
 ghost use Rattle.edi_debug.specs.Looking.{arrived_now, stop_now};
 ghost use Rattle.edi_debug.specs.Kept.{Grows};
@@ -258,6 +259,11 @@ fn watch_round<C: Calls>(
         (s : State) (first : Drawn) (start : Kept) → first.source ≡ choices.old.source →
         Going unit (watched_in stops.now.points.now) s bound first start kernel.old x choices.old log.old →
         Watches unit (watched_in stops.now.points.now) s bound first start result kernel.new y choices.new log.new) }
+    // The system call that failed uses the object that has failed.
+    ensures asked { WhereTold (C.state calls.old) (C.state calls.new) (λ x y. (unit : ProgramUnit) → IsMapped unit stops.now.mapped.now →
+        (s : State) (first : Drawn) (start : Kept) → first.source ≡ choices.old.source →
+        Going unit (watched_in stops.now.points.now) s bound first start kernel.old x choices.old log.old →
+        AsksFailed unit (watched_in stops.now.points.now) s bound first start (C.failed calls.new) result kernel.new y choices.new) }
     ensures taken { result ≡ None → IsSome kernel.new.taken }
     ensures used { kernel.new.used ≤ bound }
     ensures spent { result ≡ None → kernel.old.used < kernel.new.used }
@@ -301,6 +307,10 @@ pub fn watch<C: Calls>(
     ensures exact { choices.old.drawn + bound < 2 ^ 64 → WhereTold (C.state calls.old) (C.state calls.new) (λ s t.
         (unit : ProgramUnit) → Resolved (program_of tree.now) unit → IsMapped unit mapped.now →
         Ended unit (watched_in points.now) s bound choices.old log.old result kernel.new t choices.new log.new) }
+    // The system call that failed uses the object that has failed.
+    ensures asked { choices.old.drawn + bound < 2 ^ 64 → WhereTold (C.state calls.old) (C.state calls.new) (λ s t.
+        (unit : ProgramUnit) → Resolved (program_of tree.now) unit → IsMapped unit mapped.now →
+        FaultsBy (C.failed calls.new) (parts_of unit) s bound choices.old result kernel.new.used t choices.new) }
     ensures used { kernel.new.used ≤ bound }
     ensures source { choices.new.source ≡ choices.old.source }
     ensures drawn { choices.new.drawn ≤ choices.old.drawn + bound }

@@ -6,16 +6,16 @@ use Rattle.edi_calls.specs.State.{State}
 use Rattle.edi_kernel.specs.declared.ends.Ending.{Ending}
 use Rattle.edi_kernel.specs.declared.ends.Ending.TheVariants as ending
 use Rattle.edi_kernel.specs.Kernel.{fault_of}
-use Rattle.edi_kernel.specs.Runs.{FailsIn, RunsTo}
+use Rattle.edi_kernel.specs.Runs.{FailsIn, FailsInBy, FaultsBy, RunsTo}
 use Rattle.edi_kernel.specs.Stretch.{Blamed}
-use Rattle.edi_kernel.proofs.Passed.{fault_is_moment}
+use Rattle.edi_kernel.proofs.Passed.{fault_is_call, fault_is_moment}
 use Rattle.edi_system.specs.AsCalls.{references_in, HasFailed}
 use Rattle.edi_system.specs.Ends.{Blames, Keeps}
 use Rattle.edi_system.specs.State.{failed_in, faults_of, IsReady}
 use Rattle.edi_system.specs.declared.system.System.{System}
 use Rattle.edi_target.specs.Check.{CodeParts}
 use Rattle.edi_trace.specs.Drawn.{Drawn}
-use Rattle.edi_execute.specs.Execution.{is_fault_ending, IsAtMoment}
+use Rattle.edi_execute.specs.Execution.{is_fault_ending, IsAtCall, IsAtMoment}
 
 -- after a fault the system is at a state through which the run comes
 pub at_moment : (code : CodeParts) (system : State) (bound : ℕ) (old : Drawn) (e : Ending) (words : List ℕ) (used : ℕ) (now : State) (new : Drawn)
@@ -25,6 +25,16 @@ at_moment code system bound old e words used now new fault runs =
     let fails : FailsIn code system bound old used now new = subst (λ k. RunsTo code system bound old k words used now new) fault runs in
     let at = fault_is_moment code system bound old new used now fails in
     record { moment = at.0; comes = at.1; same = at.2 }
+
+-- it is at the call that this object has failed
+pub at_call : {D S T P : Type 0} (contents : D → Option (List (List ℕ))) (count : D → ℕ) (calls : System D S T P) (code : CodeParts) (system : State)
+    (bound : ℕ) (old : Drawn) (e : Ending) (used : ℕ) (now : State) (new : Drawn) (outside : Outside) → e ≡ ending.Fault → failed_in calls ≡ Some outside
+    → FaultsBy (λ o. HasFailed contents count calls o) code system bound old e used now new → IsAtCall code system bound old outside now
+at_call contents count calls code system bound old e used now new outside fault is faults =
+    let by : FailsInBy (λ o. HasFailed contents count calls o) code system bound old used now new =
+    subst (λ k. FaultsBy (λ o. HasFailed contents count calls o) code system bound old k used now new) fault faults in
+    let failed : HasFailed contents count calls (Some outside) = record { is = is; ready = λ none. absurd (cc) } in
+    fault_is_call code system bound old new used now by.0 outside (by.1 outside failed)
 
 -- ---- the object that has failed
 

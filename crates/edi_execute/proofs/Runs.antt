@@ -1,9 +1,10 @@
 -- What a run leaves of the objects, from what it leaves of the system over them.
-use Rattle.std.proofs.Common.{◌≡◌, ℕ, ◌+◌, ◌<◌, ◌^◌, Bool, false, List, [], ◌∷◌, length, drop, Option, Some, None, ◌≤◌, arith, refl, sym, ap, subst, ◌∙◌}
+use Rattle.std.proofs.Common.{◌≡◌, ℕ, ◌+◌, ◌<◌, ◌^◌, Bool, false, List, [], ◌∷◌, length, drop, Option, Some, None, ◌≤◌, inl, inr, arith, refl, sym, ap, subst, ◌∙◌}
 use Rattle.std.specs.Prelude.{IfSome}
 use Rattle.edi_told.specs.Told.{WhereTold}
 use Rattle.edi_calls.specs.declared.ends.Outside.{Outside}
 use Rattle.edi_calls.specs.declared.ends.Outside.TheVariants as outside
+use Rattle.edi_calls.specs.Laws.{IsSameOutside}
 use Rattle.edi_calls.specs.State.{State, fresh}
 use Rattle.edi_image.specs.Image.{mount_fault_of}
 use Rattle.edi_kernel.specs.declared.ends.Ending.TheVariants as ending
@@ -17,8 +18,9 @@ use Rattle.edi_system.specs.declared.system.System.{System}
 use Rattle.edi_target.specs.Check.{CodeParts}
 use Rattle.edi_trace.specs.Drawn.{Drawn}
 use Rattle.edi_execute.specs.declared.run.Ran.{Ran}
-use Rattle.edi_execute.specs.Execution.{IsAtMoment}
-use Rattle.edi_execute.specs.Objects.{Contents, HasRun, NoneFalls, Objects, RunLeaves, StandsAtMoment, contents_of, contents_with, faults_in, system_on}
+use Rattle.edi_execute.specs.Execution.{IsAtCall, IsAtMoment}
+use Rattle.edi_execute.specs.Objects.{Contents, HasRun, NoneFalls, Objects, RunLeaves, Show, StandsAtCall, StandsAtMoment, contents_of, contents_with}
+use Rattle.edi_execute.specs.Objects.{faults_in, system_on}
 
 -- what is told of four objects together, seen otherwise
 pub told_otherwise : {A B C E X Y : Type 0} (make make' : A → B → C → E → X) (other : A → B → C → E → Y) (a a' : Option A) (b b' : Option B) (c c' : Option C)
@@ -74,19 +76,40 @@ drop_all : (xs : List ℕ) → drop (length xs) xs ≡ []
 drop_all [] = refl
 drop_all (x ∷ xs) = drop_all xs
 
+-- the objects have what a state has, where the system is at it but for the found file and the buffer
+shows_of : (state now : State) (y : Contents) → IsSameOutside state now → y.input ≡ now.input → y.shown ≡ now.shown → y.printed ≡ now.printed
+    → system_on y ≡ fresh now → Show state y
+shows_of state now y same input shown printed rest = record {
+  input = input ∙ same.input;
+  shown = shown ∙ same.shown;
+  printed = printed ∙ same.printed;
+  slots = ap (λ (s : State). s.slots) rest ∙ same.slots;
+  blocks = ap (λ (s : State). s.blocks) rest ∙ same.blocks;
+}
+
 -- after a fault the objects have what a state has through which the run comes
 moment_is : (code : CodeParts) (bound : ℕ) (old : Drawn) (x : Contents) (now : State) (y : Contents) → IsAtMoment code (system_on x) bound old now
     → y.input ≡ now.input → y.shown ≡ now.shown → y.printed ≡ now.printed → system_on y ≡ fresh now → StandsAtMoment code bound old x y
 moment_is code bound old x now y at input shown printed rest = record {
   moment = at.moment;
   comes = at.comes;
-  shows = record {
-    input = input ∙ at.same.input;
-    shown = shown ∙ at.same.shown;
-    printed = printed ∙ at.same.printed;
-    slots = ap (λ (s : State). s.slots) rest ∙ at.same.slots;
-    blocks = ap (λ (s : State). s.blocks) rest ∙ at.same.blocks;
-  };
+  shows = shows_of at.moment now y at.same input shown printed rest;
+}
+
+-- and of the two states of the call that failed
+call_is : (code : CodeParts) (bound : ℕ) (old : Drawn) (outside : Outside) (x : Contents) (now : State) (y : Contents)
+    → IsAtCall code (system_on x) bound old outside now
+    → y.input ≡ now.input → y.shown ≡ now.shown → y.printed ≡ now.printed → system_on y ≡ fresh now → StandsAtCall code bound old outside x y
+call_is code bound old outside x now y at input shown printed rest = record {
+  from = at.1.before;
+  next = at.1.next;
+  calls = (at.0, at.1.follows);
+  asks = at.1.asks;
+  shows =
+      elim at.1.at [
+        | inl same ↦ inl (shows_of at.1.before now y same input shown printed rest)
+        | inr same ↦ inr (shows_of at.1.next now y same input shown printed rest)
+      ];
 }
 
 module _ {D S T P : Type 0} (contents : D → Option (List (List ℕ))) (left : S → Option (List ℕ)) (shown : T → Option (List ℕ)) (printed : P → Option (List ℕ))
@@ -174,6 +197,17 @@ module _ {D S T P : Type 0} (contents : D → Option (List (List ℕ))) (left : 
           let last : IfSome (Some now) (λ bytes. IsDueFrom (length taken) bytes (due_in after)) =
           subst (λ x. IfSome x (λ bytes. IsDueFrom (length taken) bytes (due_in after))) e' (keeps (length taken) first) in
           is ∙ last.is
+
+  -- after a fault, that of the call that failed
+  pub call_leaves : (code : CodeParts) (bound : ℕ) (old : Drawn) (outside : Outside)
+      → WhereTold (state_of contents left shown printed before) (state_of contents left shown printed after)
+      (λ s t. IsAtCall code (fresh s) bound old outside t)
+      → WhereTold (contents_of contents left shown printed o) (contents_of contents left shown printed o') (StandsAtCall code bound old outside)
+  call_leaves code bound old outside told =
+      on_objects (λ s t. IsAtCall code (fresh s) bound old outside t) (StandsAtCall code bound old outside)
+      (λ x x' y y' z z' w w' is. call_is code bound old outside (contents_with x y z w) (state_with after x' y' z' w') (contents_with x' y' z' w') is refl refl
+      refl refl)
+      told
 
   -- all of it
   pub run_leaves : (code : CodeParts) (bound : ℕ) (old : Drawn) (ran : Ran) (words : List ℕ) (used : ℕ) (new : Drawn) → SystemBegins before

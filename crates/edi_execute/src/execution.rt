@@ -2,6 +2,7 @@
 
 ghost use Rattle.std.specs.Prelude.{◌≡◌, ◌≤◌, ◌<◌, ◌+◌, ◌^◌, ◌↔◌, false, IsSome, Some};
 ghost use Rattle.edi_told.specs.Told.{WhereTold};
+ghost use Rattle.edi_calls.specs.declared.ends.Outside.{Outside};
 ghost use Rattle.edi_calls.specs.State.{fresh};
 ghost use Rattle.edi_kernel.specs.Kernel.{StandsAtEnd};
 ghost use Rattle.edi_kernel.specs.Runs.{RunsTo};
@@ -9,7 +10,7 @@ ghost use Rattle.edi_system.specs.AsCalls.{KeepsDue};
 ghost use Rattle.edi_system.specs.Ends.{Keeps};
 ghost use Rattle.edi_system.specs.Parts.{KeepsTold};
 ghost use Rattle.edi_system.specs.State.{drive_in, failed_in, state_of, IsReady};
-ghost use Rattle.edi_execute.specs.Execution.{is_fault_ending, IsAtMoment};
+ghost use Rattle.edi_execute.specs.Execution.{is_fault_ending, IsAtCall, IsAtMoment};
 
 use edi_host::{Drive, Sink, Source};
 use edi_kernel::{Ending, Kernel};
@@ -29,13 +30,17 @@ pub fn execute<D: Drive, S: Source, T: Sink, P: Sink>(
 ) -> Ending
     requires ready { IsReady D.contents D.count system.old }
     // Where the objects tell what they hold, the run is that of the machine's definition, and they hold afterwards what it leaves
-    // (`exact`), after `Fault` what a state has through which it comes (`moment`).
+    // (`exact`), after `Fault` what a state has through which it comes (`moment`): the one before the call that failed, or the one
+    // that this call was to leave; and the call uses the object that has failed (`call`).
     ensures exact { choices.old.drawn + bound < 2 ^ 64 → WhereTold (state_of D.contents S.left T.taken P.taken system.old)
         (state_of D.contents S.left T.taken P.taken system.new)
         (λ before after. RunsTo code.now (fresh before) bound choices.old result kernel.new.store kernel.new.used after choices.new) }
     ensures moment { result ≡ Ending.Fault → choices.old.drawn + bound < 2 ^ 64 → WhereTold (state_of D.contents S.left T.taken P.taken system.old)
         (state_of D.contents S.left T.taken P.taken system.new)
         (λ before after. IsAtMoment code.now (fresh before) bound choices.old after) }
+    ensures call { (outside : Outside) → failed_in system.new ≡ Some outside → choices.old.drawn + bound < 2 ^ 64
+        → WhereTold (state_of D.contents S.left T.taken P.taken system.old) (state_of D.contents S.left T.taken P.taken system.new)
+        (λ before after. IsAtCall code.now (fresh before) bound choices.old outside after) }
     // An object has failed exactly where the ending says so, and its count rose.
     ensures failed { IsSome (failed_in system.new) ↔ (result ≡ Ending.Fault) }
     ensures ready { is_fault_ending result ≡ false → IsReady D.contents D.count system.new }

@@ -1,14 +1,15 @@
 //! A run of code on four objects.
 
-ghost use Rattle.std.specs.Prelude.{◌≡◌, ◌≤◌, ◌<◌, ◌+◌, ◌↔◌, IfErr, IfOk, None, Some, IsSome};
+ghost use Rattle.std.specs.Prelude.{◌≡◌, ◌≤◌, ◌<◌, ◌+◌, ◌^◌, ◌↔◌, IfErr, IfOk, None, Some, IsSome};
 ghost use Rattle.edi_told.specs.Faults.{CountRose};
 ghost use Rattle.edi_told.specs.Told.{WhereTold};
+ghost use Rattle.edi_calls.specs.declared.ends.Outside.{Outside};
 ghost use Rattle.edi_catalog.specs.Counted.{IsOfCount};
 ghost use Rattle.edi_image.specs.Image.{mount_fault_of};
 ghost use Rattle.edi_image.specs.Finds.{IsFirst};
 ghost use Rattle.edi_kernel.specs.Kernel.{StandsAtEnd};
 ghost use Rattle.edi_system.specs.Parts.{IsValid};
-ghost use Rattle.edi_execute.specs.Objects.{FailedIs, NoneFalls, RunLeaves, faults_in, objects};
+ghost use Rattle.edi_execute.specs.Objects.{FailedIs, NoneFalls, RunLeaves, StandsAtCall, contents_of, faults_in, objects};
 
 use crate::execution::execute;
 use edi_calls::Outside;
@@ -52,6 +53,12 @@ pub fn run_on<D: Drive, S: Source, T: Sink, P: Sink>(
     // has taken in this call is no line feed (`due`).
     ensures leaves { IfOk result (λ ran. RunLeaves D.contents S.left T.taken P.taken code.now bound choices.old ran kernel.new.store kernel.new.used choices.new
         (objects drive.old input.old terminal.old printer.old) (objects drive.new input.new terminal.new printer.new)) }
+    // After `Fault` this is the state before the call that failed, or the one that this call was to leave; and the call uses the object
+    // that has failed.
+    ensures call { IfOk result (λ ran. (outside : Outside) → ran.failed ≡ Some outside → choices.old.drawn + bound < 2 ^ 64
+        → WhereTold (contents_of D.contents S.left T.taken P.taken (objects drive.old input.old terminal.old printer.old))
+        (contents_of D.contents S.left T.taken P.taken (objects drive.new input.new terminal.new printer.new))
+        (StandsAtCall code.now bound choices.old outside)) }
     ensures valid { IfOk result (λ ran. IsValid (D.contents drive.new)) }
     // The drive has as many blocks as before, whatever the answer.
     ensures size { D.count drive.new ≡ D.count drive.old }

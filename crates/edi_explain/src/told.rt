@@ -2,6 +2,7 @@
 
 mod advice;
 mod explained;
+mod foreign;
 mod groups;
 pub mod laws;
 mod lexical;

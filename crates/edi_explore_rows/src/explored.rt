@@ -2,7 +2,7 @@
 
 use crate::texts::{ECHO, EITHER, FOREVER, LETTER, LOST, MONITOR, PETERSON, STANDS, WAITS};
 use edi_compile::compile;
-use edi_explore::{Limits, Report, Verdict, explore};
+use edi_explore::{Limits, Report, Verdict, Watcher, explore};
 use edi_kernel::{Ending, Kernel};
 use edi_memory::MemoryCalls;
 use edi_target::Code;
@@ -14,7 +14,29 @@ use std::process::Abort;
 pub(crate) const WIDE: Limits = Limits {
     states: 1_000,
     turns: 1_000,
+    shown: None,
 };
+
+/// A watcher that counts what it is told, and keeps the last number.
+#[derive(Clone, Copy)]
+pub(crate) struct Heard {
+    pub(crate) times: usize,
+    pub(crate) last: usize,
+}
+
+impl Watcher for Heard {
+    ghost use Rattle.std.specs.Prelude.{None};
+
+    ghost seen = { λ s. None };
+
+    fn tell(&mut self, states: usize) {
+        self.times = self.times.wrapping_add(1);
+        self.last = states;
+    }
+}
+
+/// A watcher that has heard nothing.
+pub(crate) const SILENCE: Heard = Heard { times: 0, last: 0 };
 
 // The code of a text.
 pub(crate) fn code_of(rt: &impl Abort, alloc: Global, text: &str) -> Code {
@@ -34,7 +56,16 @@ pub(crate) fn explored(
 ) -> Report {
     let code = code_of(rt, alloc, text);
     let mut kernel = Kernel::new(alloc).expect(rt, "memory");
-    explore(alloc, &mut kernel, &code, input.as_bytes(), limits).expect(rt, "memory")
+    let mut heard = SILENCE;
+    explore(
+        alloc,
+        &mut kernel,
+        &code,
+        input.as_bytes(),
+        limits,
+        &mut heard,
+    )
+    .expect(rt, "memory")
 }
 
 // Whether an ending is one of those that are reported.
@@ -120,6 +151,7 @@ fn limits_are_told(rt: HostRuntime) {
     let one = Limits {
         states: 1,
         turns: 1_000,
+        shown: None,
     };
     let report = explored(&rt, alloc, LOST, "", one);
     assert!(rt; report.verdict == Verdict::Full(1));

@@ -4,6 +4,8 @@
 #[cfg(test)]
 mod explored;
 #[cfg(test)]
+mod outputs;
+#[cfg(test)]
 mod shown;
 #[cfg(test)]
 mod texts;

@@ -1,6 +1,6 @@
 //! What is shown of explorations; their inputs, and the names of their files.
 
-use crate::explored::{WIDE, code_of, explored};
+use crate::explored::{SILENCE, WIDE, code_of, explored};
 use crate::texts::{ECHO, EITHER, FOREVER, LETTER, LOST, STANDS, WAITS};
 use edi_compile::front;
 use edi_host::{KeepEnd, MemoryFiles, MemorySource};
@@ -24,10 +24,17 @@ fn shows(
 ) -> bool {
     let code = code_of(rt, alloc, text);
     let mut kernel = Kernel::new(alloc).expect(rt, "memory");
-    let report = explore_text(alloc, &mut kernel, &code, input.as_bytes(), WIDE).expect(
-        rt, "memory",
-    );
-    let shown = report_text(alloc, &report, None).expect(rt, "memory");
+    let mut heard = SILENCE;
+    let report = explore_text(
+        alloc,
+        &mut kernel,
+        &code,
+        input.as_bytes(),
+        WIDE,
+        &mut heard,
+    )
+    .expect(rt, "memory");
+    let shown = report_text(alloc, &report, false, None).expect(rt, "memory");
     shown.as_slice() == lines.as_bytes() && sum_up(&report) == summary
 }
 

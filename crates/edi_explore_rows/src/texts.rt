@@ -130,3 +130,8 @@ begin
     accept(c)
   end
 end";
+
+/// Each branch shows its letter.
+pub(crate) const BOTH: &str = "proc main(proc display(value: char))
+begin cobegin 1 do when true do display('a') end also 2 do when true do display('b') end end end
+";

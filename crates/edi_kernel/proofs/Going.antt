@@ -1,11 +1,13 @@
 -- A stint of the kernel is one of the machine.
 use Rattle.std.proofs.Common.{◌≡◌, ℕ, zero, suc, ◌+◌, ◌-◌, ◌<◌, ◌≤◌, inl, inr, Bool, true, false, ◌&&◌, nat_lt, ◌*◌, List, [], ◌∷◌, ◌++◌, length, map}
-use Rattle.std.proofs.Common.{Some, None, refl, sym, ◌∙◌, ap, arith, subst, nat_eq, if◌then◌else◌, eq-eqb}
+use Rattle.std.proofs.Common.{Option, Some, None, refl, sym, ◌∙◌, ap, arith, subst, nat_eq, if◌then◌else◌, eq-eqb}
 use Rattle.std.specs.Prelude.{◌==◌}
 use Rattle.std.specs.Option.{option_map}
 use Rattle.std.proofs.lemmas.Bool.{cases_eq, ne_eqb, eqb-false}
 use Rattle.edi_calls.specs.State.{State}
 use Rattle.edi_calls.specs.Calls.{call}
+use Rattle.edi_calls.specs.declared.ends.Outside.{Outside}
+use Rattle.edi_calls.specs.Ends.{IsUsed}
 use Rattle.edi_calls.specs.Names.{Name, same}
 use Rattle.edi_calls.specs.Outcome as outcome
 use Rattle.edi_calls.specs.Ready.{child, children, all_marked, joins}
@@ -22,9 +24,9 @@ use Rattle.edi_ring.proofs.Homes.{length-le-nodes}
 use Rattle.edi_machine.specs.declared.activity.Activity.{Activity}
 use Rattle.edi_machine.specs.declared.ends.TurnKind.{TurnKind}
 use Rattle.edi_machine.specs.declared.ends.TurnKind.TheVariants as kind
-use Rattle.edi_machine.specs.Activities.{IsOrdered}
+use Rattle.edi_machine.specs.Activities.{IsOrdered, local_of}
 use Rattle.edi_machine.specs.Starts.{branches_at}
-use Rattle.edi_machine.specs.Steps.{Tears, effect_of}
+use Rattle.edi_machine.specs.Steps.{Tears, UsesFailed, effect_of}
 use Rattle.edi_kernel.specs.declared.ends.Ending.{Ending}
 use Rattle.edi_kernel.specs.declared.ends.Ending.TheVariants as ending
 use Rattle.edi_kernel.specs.declared.ends.StintEnd.{StintEnd}
@@ -39,12 +41,12 @@ use Rattle.edi_kernel.specs.declared.table.Table.{Table}
 use Rattle.edi_kernel.specs.Table.{PutsProcess, Removed, at_its_when, waiting_for, process_at, marks_with, marked_with, unmarked, ready_slots, free_slots}
 use Rattle.edi_kernel.specs.Table.{is_live, is_waiting, resumed, with_process}
 use Rattle.edi_kernel.specs.TableIsMachine.{IsTable, IsTaken, IsBetween, Naming, Awaits, Born, TableIsMachine, is_child_of, entry_of, children_of}
-use Rattle.edi_kernel.specs.Stretch.{Paused, going, pausing, stopping, stretch, running_in, walked, Pauses, Breaks, Stretches, Allows}
+use Rattle.edi_kernel.specs.Stretch.{Paused, going, pausing, stopping, stretch, running_in, walked, Pauses, Breaks, Stretches, Allows, AsksFailed}
 use Rattle.edi_kernel.specs.Stints as stints
 use Rattle.edi_kernel.specs.Stints.{stint, stint_after}
 use Rattle.edi_kernel.specs.Forks.{HaveBegun, share_in}
 use Rattle.edi_kernel.specs.Kernel.{Holds, StandsAfter, IsKernel, IsTakenIn, EndsRun, BreaksOff, StandsArrived, attempt_end, HandlesTurn}
-use Rattle.edi_kernel.specs.Kernel.{EndsAs, Handles, KeepsWords}
+use Rattle.edi_kernel.specs.Kernel.{BreaksBy, EndsAs, Handles, KeepsWords}
 use Rattle.edi_kernel.specs.Named.{HoldsBy, IsBorn, NamesGrow, SlotsStay, EndsBy, GoesBy}
 use Rattle.edi_calls.proofs.Names.{child_not_first, same_ends}
 use Rattle.edi_kernel.proofs.Counts.{marked_few, map-append, where_same}
@@ -693,6 +695,40 @@ module _ (words : List ℕ) (old mid new : KernelState) (slot left left1 used : 
         (ap (λ l. walked (fetch words) l (is_first p) h.steps start false) (sym is_live_count) ∙ ap (λ b. walked (fetch words) live b h.steps start false)
         (sym first) ∙ h.reached))
 
+    -- the call that failed uses what has failed
+    module _ (failed : Option Outside → Type 0) where
+      abbrev By : StintEnd → Type 0
+      By end = BreaksBy failed words end left t m p others
+
+      broken_by : (h : Breaks words live (slot == 0) start false now) → UsesFailed (effect_of words live (slot == 0) now.local) failed
+          → (b : BreaksOff words (left - used) t m p others) × IsUsed b.fails.number failed
+      unfolding broken broken_at
+      broken_by h u =
+          (broken h, subst (λ x. UsesFailed x failed) (ap (λ l. effect_of words live (slot == 0) l) h.torn.same ∙ h.torn.effect) u)
+
+      attempted : (b : Bool) → By (attempt_end b used)
+      attempted true = tt
+      attempted false = tt
+
+      pub breaks : (pause : Pause) (result : StintEnd) → Stretches words live (slot == 0) start false pause now cleared
+          → AsksFailed (Some pause) words live (slot == 0) now.local failed → Handles pause words slot used a mid new result → By result
+      breaks (pause.Over ending.Fault) result h u d = subst By (sym d.2) (broken_by h u)
+      breaks (pause.Over ending.Done) result h u d = subst By (sym d.2) tt
+      breaks (pause.Over (ending.Halted at)) result h u d = subst By (sym d.2) tt
+      breaks (pause.Over (ending.Failed cause at)) result h u d = subst By (sym d.2) tt
+      breaks (pause.Over ending.Turns) result h u d = subst By (sym d.2) tt
+      breaks (pause.Over ending.Standstill) result h u d = subst By (sym d.2) tt
+      breaks (pause.Over (ending.Bad at)) result h u d = subst By (sym d.2) tt
+      breaks (pause.At (kind.Again true)) result h u d = subst By (sym d.2) (attempted (marks_with mid.table slot == length (ready_slots new.table)))
+      breaks (pause.At (kind.Again false)) result h u d = subst By (sym d.2) tt
+      breaks (pause.At (kind.Fork at)) result h u d = subst By (sym d.1) tt
+      breaks (pause.At kind.Exit) result h u d = subst By (sym d.2) tt
+      breaks (pause.At kind.Enter) result h u d = subst By (sym d.2) tt
+      breaks (pause.At kind.End) result h u d = subst By (sym d.2) tt
+      breaks (pause.At kind.Loop) result h u d = subst By (sym d.2) tt
+      breaks (pause.At kind.Arrive) result h u d = subst By (sym d.2) tt
+      breaks (pause.At kind.ProgramEnd) result h u d = subst By (sym d.2) tt
+
     pub goes : (pause : Pause) (result : StintEnd) (l : Local) → Stretches words live (slot == 0) start false pause now cleared
         → Allows (Some pause) words live (slot == 0) l →
         Handles pause words slot used a mid new result → GoesBy words result left old n new t m p others
@@ -747,6 +783,28 @@ module _ (words : List ℕ) (old mid new : KernelState) (slot left left1 : ℕ) 
         arrived = arrived_ordered result slot ready new.table new.arrived h.0 m_is.taken.inside standing;
       }
 
+  given_at : (s t : State) (m : Machine) (p : Name) (others : List Name) (h : Holds old m (Some p) others) → m.system ≡ s → m.turns ≡ left
+      → Given words old mid new slot left left1 (left - left1) s t h.naming m a cleared
+  given_at s t m p others h system turns = record {
+    table = kernel.table;
+    taken = taken_at old slot kernel taken;
+    stands = h.stands;
+    memory = h.memory;
+    system = system;
+    turns = turns;
+    mid_table = m_is.is;
+    slot_is = taken;
+    none_taken = none;
+    spent = omega (arith, less);
+    ordered = ordered;
+  }
+
+  name_is : (m : Machine) (p : Name) (others : List Name) (h : Holds old m (Some p) others) → p ≡ h.naming.name slot
+  name_is m p others h = some (h.is_taken ∙ ap (option_map h.naming.name) taken)
+    where
+      some : {x y : Name} → Some x ≡ Some y → x ≡ y
+      some e = cc
+
   pub goes_all : (s t : State) → Stretches words (32 - length (free_slots old.table)) (slot == 0)
       (running_in old.store (resumed (process_at old.table slot)) s left) false pause (running_in mid.store a t left1) cleared →
       (m : Machine) (p : Name) (others : List Name) (n : Naming) → HoldsBy n old m (Some p) others → m.system ≡ s → m.turns ≡ left →
@@ -755,24 +813,20 @@ module _ (words : List ℕ) (old mid new : KernelState) (slot left left1 : ℕ) 
       subst (λ y. GoesBy words result left old y new t m p others) by.by
       (subst (λ q. GoesBy words result left old by.holds.naming new t m q others) (sym p_is)
       (subst (λ qs. GoesBy words result left old by.holds.naming new t m (by.holds.naming.name slot) qs) (sym by.holds.is_ready)
-      (goes words old mid new slot left left1 (left - left1) s t by.holds.naming m a cleared
-      (record {
-        table = kernel.table;
-        taken = taken_at old slot kernel taken;
-        stands = by.holds.stands;
-        memory = by.holds.memory;
-        system = system;
-        turns = turns;
-        mid_table = m_is.is;
-        slot_is = taken;
-        none_taken = none;
-        spent = omega (arith, less);
-        ordered = ordered;
-      })
+      (goes words old mid new slot left left1 (left - left1) s t by.holds.naming m a cleared (given_at s t m p others by.holds system turns)
       pause result l h allowed handles)))
     where
       p_is : p ≡ by.holds.naming.name slot
-      p_is = some (by.holds.is_taken ∙ ap (option_map by.holds.naming.name) taken)
-        where
-          some : {x y : Name} → Some x ≡ Some y → x ≡ y
-          some e = cc
+      p_is = name_is m p others by.holds
+
+  pub breaks_all : (failed : Option Outside → Type 0)
+      → AsksFailed (Some pause) words (32 - length (free_slots old.table)) (slot == 0) (local_of mid.store a) failed →
+      (s t : State) → Stretches words (32 - length (free_slots old.table)) (slot == 0)
+      (running_in old.store (resumed (process_at old.table slot)) s left) false pause (running_in mid.store a t left1) cleared →
+      (m : Machine) (p : Name) (others : List Name) → Holds old m (Some p) others → m.system ≡ s → m.turns ≡ left →
+      BreaksBy failed words result left t m p others
+  breaks_all failed u s t h m p others holds system turns =
+      subst (λ q. BreaksBy failed words result left t m q others) (sym (name_is m p others holds))
+      (subst (λ qs. BreaksBy failed words result left t m (holds.naming.name slot) qs) (sym holds.is_ready)
+      (breaks words old mid new slot left left1 (left - left1) s t holds.naming m a cleared (given_at s t m p others holds system turns)
+      failed pause result h u handles))

@@ -2,6 +2,8 @@
 use Rattle.std.proofs.Common.{◌≡◌, ℕ, zero, suc, ◌⊎◌, inl, inr, List, [], ◌∷◌, ◌++◌, length, Option, Some, None, refl, sym, subst, ap, ◌∙◌, arith}
 use Rattle.std.specs.Prelude.{Contains}
 use Rattle.std.proofs.lemmas.List.Elements.{Contains-append_cases}
+use Rattle.edi_calls.specs.declared.ends.Outside.{Outside}
+use Rattle.edi_calls.specs.Asked.{uses}
 use Rattle.edi_calls.specs.Calls.{CallResult, answered, no_file, file_limit, call}
 use Rattle.edi_calls.specs.Choice.{Choices}
 use Rattle.edi_calls.specs.Names.{Name, find}
@@ -19,7 +21,9 @@ use Rattle.edi_target.specs.Mach.{went, ended, running_of, kernel, is_first, ste
 use Rattle.edi_target.specs.Moments.{news_of_call, news_of_effect, news_from, news_at, history_on, history_after, history, ComesThrough}
 use Rattle.edi_target.proofs.Histories.{Has, newest_again, step_has, entered_has}
 use Rattle.edi_kernel.specs.Moments.{Moment, moment_on, moment_after, moment}
-use Rattle.edi_kernel.specs.Passed.{past_at, MomentIsNewest, MomentAdds, PastIsOfMoments, FaultIsMoment}
+use Rattle.edi_kernel.specs.Passed.{past_at, MomentIsNewest, MomentAdds, PastIsOfMoments, FaultIsMoment, IsFailedCall, FaultIsCall}
+use Rattle.edi_kernel.specs.Runs.{FailsIn}
+use Rattle.edi_trace.specs.Drawn.{Drawn}
 
 -- ---- where an instruction adds a state, the run goes on in it
 
@@ -237,6 +241,17 @@ newest_among first (s ∷ past) = (0, omega arith, refl)
 first_among : (first s : State) (past : List State) → Contains (moments_of first (s ∷ past)) s
 first_among first s past = (0, omega arith, refl)
 
+-- answered, the call that failed would add the state that it leaves
+answered_adds : (code : CodeParts) (system : State) (bound : ℕ) (old new : Drawn) (used : ℕ) (now : State) (f : FailsIn code system bound old used now new)
+    (words : List ℕ) (next : State) → call f.fails.number f.fails.arguments f.at.machine.system ≡ answered words next
+    → past_at code system bound old.source old.drawn (suc f.steps) ≡ next ∷ past_at code system bound old.source old.drawn f.steps
+answered_adds code system bound old new used now f words next is =
+    moment_adds_news code system bound old.source old.drawn f.steps f.at f.is
+    ∙ ap (λ x. x ++ past_at code system bound old.source old.drawn f.steps)
+    (ap (news_from (target.fetch code.words) f.at.machine f.at.name) f.fails.found
+    ∙ ap (λ e. news_of_effect e f.at.machine.system) f.fails.effect
+    ∙ ap news_of_call is)
+
 pub fault_is_moment : FaultIsMoment
 fault_is_moment code system bound old new used now f = go (call f.fails.number f.fails.arguments m.system) refl f.fails.tears
   where
@@ -254,21 +269,12 @@ fault_is_moment code system bound old new used now f = go (call f.fails.number f
           (newest_among system (past_at code system bound old.source old.drawn f.steps)),
     )
 
-    -- the call adds the state that it leaves
-    news : (words : List ℕ) (next : State) → call f.fails.number f.fails.arguments m.system ≡ answered words next → news_at (target.fetch code.words) m
-        f.at.name ≡ next ∷ []
-    news words next is =
-        ap (news_from (target.fetch code.words) m f.at.name) f.fails.found
-        ∙ ap (λ e. news_of_effect e m.system) f.fails.effect
-        ∙ ap news_of_call is
-
     behind : (words : List ℕ) (next : State) → call f.fails.number f.fails.arguments m.system ≡ answered words next → ComesThrough (target.fetch code.words)
         code.entry code.calls system bound old.source old.drawn next
     behind words next is = (
       suc f.steps,
       subst (λ x. Contains (moments_of system x) next)
-          (sym (moment_adds_news code system bound old.source old.drawn f.steps f.at f.is
-          ∙ ap (λ x. x ++ past_at code system bound old.source old.drawn f.steps) (news words next is)))
+          (sym (answered_adds code system bound old new used now f words next is))
           (first_among system next (past_at code system bound old.source old.drawn f.steps)),
     )
 
@@ -278,5 +284,33 @@ fault_is_moment code system bound old new used now f = go (call f.fails.number f
       | inl same ↦ (m.system, before, same)
       | inr same ↦ (next, behind words next is, same)
     ]
+    go no_file is torn = absurd torn
+    go file_limit is torn = absurd torn
+
+pub fault_is_call : FaultIsCall
+fault_is_call code system bound old new used now f outside uses_it = go (call f.fails.number f.fails.arguments m.system) refl f.fails.tears
+  where
+    m : Machine
+    m = f.at.machine
+
+    past : ℕ → List State
+    past n = past_at code system bound old.source old.drawn n
+
+    go : (r : CallResult) → call f.fails.number f.fails.arguments m.system ≡ r → Tears r m.system now → (n : ℕ) × IsFailedCall outside system (past n) now
+    go (answered words next) is torn = (
+      suc f.steps,
+      record {
+        before = m.system;
+        next = next;
+        follows = record {
+          later = [];
+          earlier = past f.steps;
+          is = answered_adds code system bound old new used now f words next is;
+          last = moment_is_newest code system bound old.source old.drawn f.steps f.at f.is;
+        };
+        asks = record { number = f.fails.number; arguments = f.fails.arguments; answer = words; is = is; uses_it = uses_it };
+        at = torn_is_before_or_behind_all f.fails.number f.fails.arguments words m.system next now is torn;
+      },
+    )
     go no_file is torn = absurd torn
     go file_limit is torn = absurd torn

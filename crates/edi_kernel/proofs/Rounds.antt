@@ -4,6 +4,7 @@ use Rattle.std.specs.Prelude.{⊤}
 use Rattle.std.specs.Option.{option_map}
 use Rattle.edi_told.specs.Told.{WhereTold}
 use Rattle.edi_told.proofs.Told.{WhereTold-map, WhereTold-then}
+use Rattle.edi_calls.specs.declared.ends.Outside.{Outside}
 use Rattle.edi_calls.specs.Choice.{Choices}
 use Rattle.edi_calls.specs.Names.{Name}
 use Rattle.edi_calls.specs.Outcome as outcome
@@ -23,8 +24,9 @@ use Rattle.edi_kernel.specs.Table.{ready_slots}
 use Rattle.edi_kernel.specs.TableIsMachine.{TableIsMachine}
 use Rattle.edi_kernel.specs.Stints as stints
 use Rattle.edi_kernel.specs.Stints.{Stint, stint, stint_after}
-use Rattle.edi_kernel.specs.Kernel.{Holds, EndsAs, KeepsWords, Switches, EndsRun, GoesTo, ended_by, used_in}
-use Rattle.edi_kernel.specs.Runs.{Proceeds, EndsUnready, Started, GoesRound, KeepsMachine, RunEnds, RunFails, Rounds, RunsAs, FailsIn, RunsTo, StandsIn}
+use Rattle.edi_kernel.specs.Kernel.{Holds, EndsAs, KeepsWords, Switches, EndsRun, BreaksOff, BreaksBy, GoesTo, ended_by, used_in}
+use Rattle.edi_kernel.specs.Runs.{Proceeds, EndsUnready, Started, GoesRound, KeepsMachine, RunEnds, RunFails, Rounds, RoundsBy, RunsAs, FailsIn, FaultsBy}
+use Rattle.edi_kernel.specs.Runs.{RunsTo, StandsIn}
 use Rattle.edi_kernel.specs.Moments.{Moment, moment, moment_on, moment_after, moment_of}
 use Rattle.edi_kernel.proofs.Moments.{moment_switched, moment_followed}
 use Rattle.edi_kernel.proofs.Starting.{Enters, NeverEnters, enters, never_enters}
@@ -171,6 +173,17 @@ module _ (words : List ℕ) (bound : ℕ) (k new : KernelState) (now : State) (o
   goes_on (Some (ending.Bad at)) h stands c = absurd c
   goes_on (Some ending.Fault) h stands c = absurd c
 
+  -- an object outside failed in the stint
+  fails_then : drawn ≡ old → BreaksOff words (left - used) now m p others → RunFails words bound new now old drawn m p others
+  fails_then same h = record {
+    steps = h.steps;
+    at = record { machine = h.machine; name = p; others = others; drawn = old.drawn };
+    is = moment_followed (fetch words) old.source h.steps m p others old.drawn h.machine h.is;
+    fails = h.fails;
+    drawn = sym (ap (λ d. d.drawn) same);
+    turns = h.turns ∙ turns;
+  }
+
   pub round_over : (e : Ending) → drawn ≡ old → new.table ≡ k.table → new.taken ≡ k.taken → GoesTo words (stint_end.Over used e) left k now m p others
       → Rounds words bound (Some e) new now old drawn m p others
   round_over ending.Done same table taken h = ends_run ending.Done same h tt
@@ -180,14 +193,19 @@ module _ (words : List ℕ) (bound : ℕ) (k new : KernelState) (now : State) (o
   round_over ending.Standstill same table taken h =
       ends_run ending.Standstill same h.0 (others ++ p ∷ [], holds_same k new h.0.machine None (others ++ p ∷ []) store table taken h.3)
   round_over (ending.Bad at) same table taken h = ends_run (ending.Bad at) same h tt
-  round_over ending.Fault same table taken h = record {
-    steps = h.steps;
-    at = record { machine = h.machine; name = p; others = others; drawn = old.drawn };
-    is = moment_followed (fetch words) old.source h.steps m p others old.drawn h.machine h.is;
-    fails = h.fails;
-    drawn = sym (ap (λ d. d.drawn) same);
-    turns = h.turns ∙ turns;
-  }
+  round_over ending.Fault same table taken h = fails_then same h
+
+  -- by a call that uses what has failed
+  pub breaks_over : (failed : Option Outside → Type 0) (e : Ending) → drawn ≡ old → BreaksBy failed words (stint_end.Over used e) left now m p others
+      → RoundsBy failed words bound (Some e) new now old drawn m p others
+  unfolding fails_then
+  breaks_over failed ending.Fault same h = (fails_then same h.0, h.1)
+  breaks_over failed ending.Done same h = tt
+  breaks_over failed (ending.Halted line) same h = tt
+  breaks_over failed (ending.Failed cause line) same h = tt
+  breaks_over failed ending.Turns same h = tt
+  breaks_over failed ending.Standstill same h = tt
+  breaks_over failed (ending.Bad at) same h = tt
 
   pub round_on : (result : Option Ending) → Switches words (left - used) k now m p others
       → ((machine : Machine) (ready : List Name) → Holds k machine None ready → KeepsIf result new machine)
@@ -209,6 +227,19 @@ module _ (words : List ℕ) (bound : ℕ) (k : KernelState) (old : Drawn) (left 
   round_ends (stint_end.Arrived used) e new now m p others h turns store table taken g = absurd (cc)
   round_ends (stint_end.Forked used) e new now m p others h turns store table taken g = absurd (cc)
   round_ends (stint_end.Exited used) e new now m p others h turns store table taken g = absurd (cc)
+
+  pub round_breaks : (failed : Option Outside → Type 0) (end : StintEnd) (e : Ending) (new : KernelState) (now : State) (m : Machine) (p : Name)
+      (others : List Name) → ended_by end ≡ Some e → left - used_in end ≡ bound - new.used → new.store ≡ k.store →
+      BreaksBy failed words end left now m p others → RoundsBy failed words bound (Some e) new now old old m p others
+  round_breaks failed (stint_end.Over used e) d new now m p others h turns store b =
+      subst (λ x. RoundsBy failed words bound (Some x) new now old old m p others) (some h)
+      (breaks_over words bound k new now old old m p others left used turns store failed e refl b)
+    where
+      some : Some e ≡ Some d → e ≡ d
+      some e = cc
+  round_breaks failed (stint_end.Arrived used) e new now m p others h turns store b = absurd (cc)
+  round_breaks failed (stint_end.Forked used) e new now m p others h turns store b = absurd (cc)
+  round_breaks failed (stint_end.Exited used) e new now m p others h turns store b = absurd (cc)
 
   pub round_goes : (end : StintEnd) (result : Option Ending) (new : KernelState) (drawn : Drawn) (now : State) (m : Machine) (p : Name) (others : List Name)
       → ended_by end ≡ None → left - used_in end ≡ bound - new.used → new.store ≡ k.store →
@@ -325,6 +356,33 @@ module _ (code : CodeParts) (bound : ℕ) (old : Drawn) where
   underway_ends s x y k new now next ending.Fault same le u h = fails_in s x y k new now next same le u
       (h u.machine u.name u.others u.holds u.system_is u.turns)
 
+  -- the call that failed uses what has failed
+  module _ (failed : Option Outside → Type 0) where
+    abbrev AnyRoundBy : Option Ending → (k new : KernelState) → (now next : Drawn) → State → State → Type 0
+    AnyRoundBy result k new now next s t =
+        (m : Machine) (p : Name) (others : List Name) → Holds k m (Some p) others → m.system ≡ s → m.turns ≡ bound - k.used
+        → RoundsBy failed code.words bound result new t now next m p others
+
+    faults_by : (s x y : State) (k new : KernelState) (now next : Drawn) (e : Ending) → now.source ≡ old.source → new.used ≤ bound
+        → Underway code s bound old k x now → AnyRoundBy (Some e) k new now next x y → FaultsBy failed code s bound old e new.used y next
+    unfolding fails_in
+    faults_by s x y k new now next ending.Fault same le u h =
+        let r : RoundsBy failed code.words bound (Some ending.Fault) new y now next u.machine u.name u.others =
+        h u.machine u.name u.others u.holds u.system_is u.turns in
+        (fails_in s x y k new now next same le u r.0, r.1)
+    faults_by s x y k new now next ending.Done same le u h = tt
+    faults_by s x y k new now next (ending.Halted line) same le u h = tt
+    faults_by s x y k new now next (ending.Failed cause line) same le u h = tt
+    faults_by s x y k new now next ending.Turns same le u h = tt
+    faults_by s x y k new now next ending.Standstill same le u h = tt
+    faults_by s x y k new now next (ending.Bad at) same le u h = tt
+
+    pub told_faults : (first before after : Option State) (k new : KernelState) (now next : Drawn) (e : Ending) → now.source ≡ old.source → new.used ≤ bound
+        → WhereTold first before (λ s t. Underway code s bound old k t now) →
+        WhereTold before after (AnyRoundBy (Some e) k new now next) → WhereTold first after (λ s t. FaultsBy failed code s bound old e new.used t next)
+    told_faults first before after k new now next e same le h g = WhereTold-then _ _ _ first before after
+        (λ s x y a b. faults_by s x y k new now next e same le a b) h g
+
   pub told_more : (first before after : Option State) (k new : KernelState) (now next : Drawn) → now.source ≡ old.source
       → WhereTold first before (λ s t. Underway code s bound old k t now) →
       WhereTold before after (AnyRound None k new now next) → WhereTold first after (λ s t. Underway code s bound old new t next)
@@ -430,6 +488,11 @@ abbrev pub AnyStint : List ℕ → StintEnd → (left : ℕ) → (prior k : Kern
 AnyStint words end left prior k s t =
     (m : Machine) (p : Name) (others : List Name) → Holds prior m (Some p) others → m.system ≡ s → m.turns ≡ left → GoesTo words end left k t m p others
 
+abbrev pub AnyBreak : (failed : Option Outside → Type 0) → List ℕ → StintEnd → (left : ℕ) → (prior : KernelState) → State → State → Type 0
+AnyBreak failed words end left prior s t =
+    (m : Machine) (p : Name) (others : List Name) → Holds prior m (Some p) others → m.system ≡ s → m.turns ≡ left
+    → BreaksBy failed words end left t m p others
+
 pub nothing_told : (o : Option State) → WhereTold o o (λ s t. ⊤)
 nothing_told None = tt
 nothing_told (Some s) = tt
@@ -456,3 +519,31 @@ module _ (words : List ℕ) (bound : ℕ) (prior k new : KernelState) (old : Dra
       (λ s t. (m : Machine) (p : Name) (others : List Name) → Holds prior m (Some p) others → m.system ≡ s → m.turns ≡ left → Rounds words bound result new
       t old drawn m p others) before after
       (λ s t f m p others a b c. round_goes words bound k old left end result new drawn t m p others on turns store keeps proceeds (f m p others a b c)) h
+
+  -- a call that failed in the round uses what has failed
+  module _ (failed : Option Outside → Type 0) where
+    abbrev AnyBy : Option Ending → Drawn → State → State → Type 0
+    AnyBy result drawn s t =
+        (m : Machine) (p : Name) (others : List Name) → Holds prior m (Some p) others → m.system ≡ s → m.turns ≡ left
+        → RoundsBy failed words bound result new t old drawn m p others
+
+    pub told_round_breaks : (e : Ending) → ended_by end ≡ Some e → WhereTold before after (AnyBreak failed words end left prior)
+        → WhereTold before after (AnyBy (Some e) old)
+    told_round_breaks e over h =
+        WhereTold-map (AnyBreak failed words end left prior) (AnyBy (Some e) old) before after
+        (λ s t f m p others a b c. round_breaks words bound k old left failed end e new t m p others over turns store (f m p others a b c)) h
+
+    unready : (result : Option Ending) (drawn : Drawn) (mid later : KernelState) → EndsUnready result mid later → (s t : State) → AnyBy result drawn s t
+    unready None drawn mid later h s t m p others a b c = tt
+    unready (Some ending.Standstill) drawn mid later h s t m p others a b c = tt
+    unready (Some ending.Done) drawn mid later h s t m p others a b c = absurd h
+    unready (Some (ending.Halted line)) drawn mid later h s t m p others a b c = absurd h
+    unready (Some (ending.Failed cause line)) drawn mid later h s t m p others a b c = absurd h
+    unready (Some ending.Turns) drawn mid later h s t m p others a b c = absurd h
+    unready (Some (ending.Bad at)) drawn mid later h s t m p others a b c = absurd h
+    unready (Some ending.Fault) drawn mid later h s t m p others a b c = absurd h
+
+    pub told_unready : (result : Option Ending) (drawn : Drawn) (mid later : KernelState) → EndsUnready result mid later
+        → WhereTold before after (AnyBreak failed words end left prior) → WhereTold before after (AnyBy result drawn)
+    told_unready result drawn mid later nobody h =
+        WhereTold-map (AnyBreak failed words end left prior) (AnyBy result drawn) before after (λ s t f. unready result drawn mid later nobody s t) h

@@ -5,6 +5,7 @@ use Rattle.std.specs.Prelude.{⊤}
 use Rattle.edi_told.specs.Told.{WhereTold}
 use Rattle.edi_calls.specs.declared.kinds.Cause.{Cause}
 use Rattle.edi_calls.specs.declared.kinds.Cause.TheVariants as cause
+use Rattle.edi_calls.specs.declared.ends.Outside.{Outside}
 use Rattle.edi_calls.specs.State.{State}
 use Rattle.edi_calls.specs.Calls.{CallResult, answered, call}
 use Rattle.edi_calls.specs.Outcome as outcome
@@ -22,13 +23,13 @@ use Rattle.edi_machine.specs.declared.ends.TurnKind.TheVariants as kind
 use Rattle.edi_machine.specs.declared.ends.StepEnd.{StepEnd}
 use Rattle.edi_machine.specs.declared.ends.StepEnd.TheVariants as end
 use Rattle.edi_machine.specs.Starts.{IsFork, branches_at}
-use Rattle.edi_machine.specs.Steps.{Takes, Gives, Tears, Forks, kind_of, effect_of, ends_phase, is_released}
+use Rattle.edi_machine.specs.Steps.{Takes, Gives, Tears, Forks, UsesFailed, kind_of, effect_of, ends_phase, is_released}
 use Rattle.edi_machine.specs.Steps as steps
 use Rattle.edi_kernel.specs.declared.ends.Ending.TheVariants as ending
 use Rattle.edi_kernel.specs.declared.stretch.Pause.{Pause}
 use Rattle.edi_kernel.specs.declared.stretch.Pause.TheVariants as pause
 use Rattle.edi_kernel.specs.Stretch.{Paused, pausing, stopping, after_answer, failure_of, pause_by, pause_with, pause_of, left_after, goes_on, clears_after}
-use Rattle.edi_kernel.specs.Stretch.{StepsFrom, OneStep, Allows, Falls}
+use Rattle.edi_kernel.specs.Stretch.{StepsFrom, OneStep, Allows, AsksFailed, Falls}
 use Rattle.edi_kernel.proofs.Effects.{Fits, every_effect_fits}
 use Rattle.edi_kernel.proofs.Phases.{or_false, or_true}
 
@@ -145,7 +146,7 @@ module _ (words : List ℕ) (live : ℕ) (is_first : Bool) (before after : Local
       (Some (pause.Over (ending.Failed cause.FileLimit a))) (now left) (cleared || false)) (sym h.0)
       (refused (call number arguments s) cause.FileLimit address line l (ap (λ r. called r address line l was) h.2.0) (stopped h.2.1 h.1))
   made (asks number arguments address line l) end.Fault e h st ph fk =
-      record { number = number; arguments = arguments; address = address; line = line; next = l; effect = e; tears = h.1; turns = refl }
+      record { number = number; arguments = arguments; address = address; line = line; next = l; effect = e; tears = h.1; turns = refl; same = h.0 }
   made (asks number arguments address line l) end e h st ph fk = absurd h
   made (due turn l) (end.Turn k) e h st ph fk =
       subst (λ x. StepsFrom words live is_first was cleared (turn_from left turn l was) (pause_with left x) (now (left - 1)) (cleared || goes_on x)) (sym h.0)
@@ -234,6 +235,33 @@ module _ (words : List ℕ) (live : ℕ) (is_first : Bool) (before after : Local
   allows old new effect (end.Bad at) h f k = tt
   allows old new effect end.Fault h f k = tt
 
+  -- where an object outside failed the activity has not changed
+  fault_stays : (old new : Option State) (effect : Effect) → Takes effect end.Fault before after old new → after ≡ before
+  fault_stays old new (asks number arguments address line l) h = h.0
+  fault_stays old new (goes l) h = absurd h
+  fault_stays old new (released l) h = absurd h
+  fault_stays old new (due turn l) h = absurd h
+  fault_stays old new (fails c line) h = absurd h
+  fault_stays old new bad h = absurd h
+
+  no_fault : (n : ℕ) (k : TurnKind) (failed : Option Outside → Type 0) → AsksFailed (pause_with n k) words live is_first after failed
+  no_fault zero k failed = tt
+  no_fault (suc n) kind.Enter failed = tt
+  no_fault (suc n) kind.End failed = tt
+  no_fault (suc n) kind.Loop failed = tt
+  no_fault (suc n) kind.ProgramEnd failed = tt
+  no_fault (suc n) k failed = tt
+
+  asks_it : (old new : Option State) (end : StepEnd) (failed : Option Outside → Type 0) → Takes (effect_of words live is_first before) end before after old new
+      → UsesFailed (effect_of words live is_first before) failed → AsksFailed (pause_of end left) words live is_first after failed
+  asks_it old new end.On failed h u = tt
+  asks_it old new (end.Turn k) failed h u = no_fault left k failed
+  asks_it old new (end.Fail cause.Halt at) failed h u = tt
+  asks_it old new (end.Fail c at) failed h u = tt
+  asks_it old new (end.Bad at) failed h u = tt
+  asks_it old new end.Fault failed h u =
+      subst (λ l. UsesFailed (effect_of words live is_first l) failed) (sym (fault_stays old new (effect_of words live is_first before) h)) u
+
   -- the program counter of an activity that goes on without a turn rises, and was in the code
   abbrev Climbs : Effect → Type 0
   Climbs (goes l) = (before.pc < l.pc) × (before.pc < length words)
@@ -314,3 +342,9 @@ module _ (words : List ℕ) (live : ℕ) (is_first : Bool) (before after : Local
   falls_are old new end result n h e f =
       subst (λ r. Falls r words left before.pc n after.pc) (sym e)
       (subst (λ m. Falls (pause_of end left) words left before.pc m after.pc) (sym f) (falls old new (effect_of words live is_first before) end h climbs))
+
+  pub asked_are : (old new : Option State) (end : StepEnd) (result : Option Pause) (failed : Option Outside → Type 0)
+      → Takes (effect_of words live is_first before) end before after old new → UsesFailed (effect_of words live is_first before) failed
+      → result ≡ pause_of end left → AsksFailed result words live is_first after failed
+  asked_are old new end result failed h u e =
+      subst (λ r. AsksFailed r words live is_first after failed) (sym e) (asks_it old new end failed h u)

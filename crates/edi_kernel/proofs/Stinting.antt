@@ -2,6 +2,7 @@
 use Rattle.std.proofs.Common.{◌≡◌, ℕ, suc, ◌+◌, ◌-◌, ◌≤◌, Bool, true, false, if◌then◌else◌, List, [], ◌∷◌, ◌++◌, Option, Some, None, sym, ◌∙◌, ap, arith, subst}
 use Rattle.edi_told.specs.Told.{WhereTold}
 use Rattle.edi_told.proofs.Told.{WhereTold-map}
+use Rattle.edi_calls.specs.declared.ends.Outside.{Outside}
 use Rattle.edi_calls.specs.Names.{Name}
 use Rattle.edi_calls.specs.Ready.{stays}
 use Rattle.edi_calls.specs.State.{State}
@@ -13,14 +14,14 @@ use Rattle.edi_kernel.specs.declared.ends.Ending.TheVariants as ending
 use Rattle.edi_kernel.specs.declared.ends.StintEnd.{StintEnd}
 use Rattle.edi_kernel.specs.declared.ends.StintEnd.TheVariants as stint_end
 use Rattle.edi_kernel.specs.declared.state.KernelState.{KernelState}
-use Rattle.edi_kernel.specs.Kernel.{Holds, KeepsWords, Switches, EndsRun, StandsArrived, GoesTo, later_by}
+use Rattle.edi_kernel.specs.Kernel.{Holds, KeepsWords, Switches, EndsRun, BreaksOff, BreaksBy, StandsArrived, GoesTo, later_by}
 use Rattle.edi_kernel.specs.Runs.{IsAtBy, IsAt}
 use Rattle.edi_kernel.specs.TableIsMachine.{Naming}
 use Rattle.edi_kernel.specs.declared.table.Table.{Table}
 use Rattle.edi_kernel.specs.Table.{is_live}
 use Rattle.edi_kernel.specs.Named.{HoldsBy, NamesGrow, SlotsStay, EndsBy, GoesBy}
 use Rattle.edi_kernel.proofs.Starting.{Enters, enters}
-use Rattle.edi_kernel.proofs.Rounds.{AnyStint, holds_same, same_naming}
+use Rattle.edi_kernel.proofs.Rounds.{AnyBreak, AnyStint, holds_same, same_naming}
 use Rattle.edi_kernel.proofs.Named.{AnyNamed}
 
 -- so many turns before the stint, and what is kept beside the processes and the memory is free
@@ -54,6 +55,11 @@ module _ (words : List ℕ) (k new : KernelState) (left n : ℕ) (store : new.st
     turns = h.turns ∙ less used;
   }
 
+  breaks_off : (used : ℕ) (t : State) (m : Machine) (p : Name) (others : List Name) → BreaksOff words (left - n - used) t m p others
+      → BreaksOff words (left - (used + n)) t m p others
+  breaks_off used t m p others h =
+      record { steps = h.steps; machine = h.machine; is = h.is; fails = h.fails; turns = h.turns ∙ less used }
+
   arrives : (m : Machine) (p : Name) → StandsArrived k m p → StandsArrived new m p
   arrives m p h = record { activity = h.activity; forks = h.forks; arrival = arrived ∙ h.arrival; found = h.found }
 
@@ -74,8 +80,21 @@ module _ (words : List ℕ) (k new : KernelState) (left n : ℕ) (store : new.st
     holds_same k new h.0.machine None (others ++ p ∷ []) store table taken h.3,
   )
   goes_later (stint_end.Over used (ending.Bad at)) t m p others h = ends used (ending.Bad at) t m p others h
-  goes_later (stint_end.Over used ending.Fault) t m p others h =
-      record { steps = h.steps; machine = h.machine; is = h.is; fails = h.fails; turns = h.turns ∙ less used }
+  goes_later (stint_end.Over used ending.Fault) t m p others h = breaks_off used t m p others h
+
+  pub breaks_later : (failed : Option Outside → Type 0) (end : StintEnd) (t : State) (m : Machine) (p : Name) (others : List Name)
+      → BreaksBy failed words end (left - n) t m p others → BreaksBy failed words (later_by n end) left t m p others
+  unfolding breaks_off
+  breaks_later failed (stint_end.Over used ending.Fault) t m p others h = (breaks_off used t m p others h.0, h.1)
+  breaks_later failed (stint_end.Over used ending.Done) t m p others h = tt
+  breaks_later failed (stint_end.Over used (ending.Halted line)) t m p others h = tt
+  breaks_later failed (stint_end.Over used (ending.Failed cause line)) t m p others h = tt
+  breaks_later failed (stint_end.Over used ending.Turns) t m p others h = tt
+  breaks_later failed (stint_end.Over used ending.Standstill) t m p others h = tt
+  breaks_later failed (stint_end.Over used (ending.Bad at)) t m p others h = tt
+  breaks_later failed (stint_end.Arrived used) t m p others h = tt
+  breaks_later failed (stint_end.Forked used) t m p others h = tt
+  breaks_later failed (stint_end.Exited used) t m p others h = tt
 
   switches_named : (used : ℕ) (t : State) (m : Machine) (p : Name) (others : List Name) (h : Switches words (left - n - used) k t m p others) →
       (switches used t m p others h).holds.naming ≡ h.holds.naming
@@ -170,6 +189,21 @@ module _ (code : CodeParts) (k mid after new : KernelState) (left n : ℕ) (end 
       by_end s t m p others f r =
           subst (λ x. GoesTo code.words x left new t m p others) (sym is)
           (goes_later code.words after new left n store' table' taken' arrived' failed' end t m p others (f m p others r.holds r.system r.turns))
+
+  abbrev BreakFrom : (failed : Option Outside → Type 0) → State → State → Type 0
+  BreakFrom failed s t = (m : Machine) (p : Name) (others : List Name) → IsAt code k s left m p others → BreaksBy failed code.words result left t m p others
+
+  pub told_breaks : (failed : Option Outside → Type 0) → n ≡ (if k.entering then 1 else 0) → n ≤ left
+      → WhereTold before later (AnyBreak failed code.words end (left - n) mid) → WhereTold before later (BreakFrom failed)
+  told_breaks failed e le h = WhereTold-map (AnyBreak failed code.words end (left - n) mid) (BreakFrom failed) before later
+      (λ s t f m p others at. by_end s t m p others f (ready_by code k mid left n store table taken k.entering e le s m p others at)) h
+    where
+      by_end : (s t : State) (m : Machine) (p : Name) (others : List Name) → AnyBreak failed code.words end (left - n) mid s t
+          → Ready code k mid left n store table taken s m p others → BreaksBy failed code.words result left t m p others
+      by_end s t m p others f r =
+          subst (λ x. BreaksBy failed code.words x left t m p others) (sym is)
+          (breaks_later code.words after new left n store' table' taken' arrived' failed' failed end t m p others
+          (f m p others r.holds r.system r.turns))
 
   abbrev NamedFrom : State → State → Type 0
   NamedFrom s t =

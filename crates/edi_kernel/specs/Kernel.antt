@@ -1,11 +1,13 @@
 -- Words of contracts. What the kernel keeps, and how it stands for a machine.
 use Rattle.std.specs.Prelude.{◌≡◌, ◌⊎◌, ℕ, ◌+◌, ◌-◌, ◌<◌, ◌==◌, ◌++◌, Bool, true, false, List, [], ◌∷◌, length, map, Option, Some, None, IfSome, ⊤}
 use Rattle.std.specs.Option.{option_map}
+use Rattle.edi_calls.specs.declared.ends.Outside.{Outside}
 use Rattle.edi_calls.specs.Names.{Name, find}
 use Rattle.edi_calls.specs.Outcome as outcome
 use Rattle.edi_calls.specs.Ready.{children}
 use Rattle.edi_calls.specs.State.{State}
 use Rattle.edi_calls.specs.Calls.{call}
+use Rattle.edi_calls.specs.Ends.{IsUsed}
 use Rattle.edi_target.specs.Fetch.{fetch}
 use Rattle.edi_target.specs.Effect.{Local, asks}
 use Rattle.edi_target.specs.Mach as mach
@@ -149,6 +151,12 @@ GoesTo words (stint_end.Forked used) left k now m p others =
     (h : Switches words (left - used) k now m p others) × ForksInto p h.joined
 GoesTo words (stint_end.Exited used) left k now m p others =
     (h : Switches words (left - used) k now m p others) × (find h.machine.activities p ≡ None)
+
+-- where the stint of p comes to a call in which an object outside failed, this call uses the object that has failed
+abbrev pub BreaksBy : (failed : Option Outside → Type 0) → List ℕ → StintEnd → (left : ℕ) → State → Machine → Name → List Name → Type 0
+BreaksBy failed words (stint_end.Over used ending.Fault) left now m p others =
+    (b : BreaksOff words (left - used) now m p others) × IsUsed b.fails.number failed
+BreaksBy failed words end left now m p others = ⊤
 
 abbrev pub used_in : StintEnd → ℕ
 used_in (stint_end.Arrived used) = used

@@ -1,6 +1,8 @@
 -- Words of contracts. Whole runs: the choice of the next process, and the rounds of a run.
 use Rattle.std.specs.Prelude.{◌≡◌, ℕ, ◌+◌, ◌-◌, ◌<◌, ◌^◌, ◌%◌, Bool, true, false, nat_eq, List, [], length, slice_get, Option, Some, None, ⊤}
+use Rattle.edi_calls.specs.declared.ends.Outside.{Outside}
 use Rattle.edi_calls.specs.Choice.{Choices, choice}
+use Rattle.edi_calls.specs.Ends.{IsUsed}
 use Rattle.edi_calls.specs.Names.{Name}
 use Rattle.edi_calls.specs.Outcome as outcome
 use Rattle.edi_calls.specs.Outcome.{outcome_of}
@@ -131,6 +133,13 @@ Rounds words bound None k now old new m p others = GoesRound words bound k now o
 Rounds words bound (Some ending.Fault) k now old new m p others = RunFails words bound k now old new m p others
 Rounds words bound (Some e) k now old new m p others = RunEnds words bound e k now old new m p others
 
+-- the system call in which an object outside failed uses the object that has failed
+abbrev pub RoundsBy : (failed : Option Outside → Type 0) → List ℕ → (bound : ℕ) → Option Ending → KernelState → State → (old new : Drawn) → Machine → Name
+    → List Name → Type 0
+RoundsBy failed words bound (Some ending.Fault) k now old new m p others =
+    (f : RunFails words bound k now old new m p others) × IsUsed f.fails.number failed
+RoundsBy failed words bound e k now old new m p others = ⊤
+
 -- where the next stint begins: at this machine; or, where the entry's turn is still due, at the one after that turn
 abbrev pub IsAtBy : Bool → CodeParts → KernelState → State → (left : ℕ) → Machine → Name → List Name → Type 0
 IsAtBy false code k s left m p others = Holds k m (Some p) others × (m.system ≡ s) × (m.turns ≡ left)
@@ -174,6 +183,17 @@ pub record FailsIn (code : CodeParts) (system : State) (bound : ℕ) (old : Draw
 abbrev pub RunsTo : CodeParts → State → (bound : ℕ) → (old : Drawn) → Ending → (words : List ℕ) → (used : ℕ) → (now : State) → (new : Drawn) → Type 0
 RunsTo code system bound old ending.Fault words used now new = FailsIn code system bound old used now new
 RunsTo code system bound old e words used now new = RunsAs code system bound old e words used now new
+
+-- the same, and the system call in which an object outside failed uses the object that has failed
+abbrev pub FailsInBy : (failed : Option Outside → Type 0) → CodeParts → State → (bound : ℕ) → (old : Drawn) → (used : ℕ) → (now : State) → (new : Drawn)
+    → Type 0
+FailsInBy failed code system bound old used now new = (f : FailsIn code system bound old used now new) × IsUsed f.fails.number failed
+
+-- so where the run has ended by a fault
+abbrev pub FaultsBy : (failed : Option Outside → Type 0) → CodeParts → State → (bound : ℕ) → (old : Drawn) → Ending → (used : ℕ) → (now : State)
+    → (new : Drawn) → Type 0
+FaultsBy failed code system bound old ending.Fault used now new = FailsInBy failed code system bound old used now new
+FaultsBy failed code system bound old e used now new = ⊤
 
 -- the machine in which this run of the code came to a standstill: the kernel is that machine, where nobody is taken
 pub record StandsStill (code : CodeParts) (system : State) (bound : ℕ) (old : Drawn) (k : KernelState) (new : Drawn) : Type 0 where

@@ -18,7 +18,7 @@ use Rattle.edi_machine.specs.declared.ends.StepEnd.{StepEnd}
 use Rattle.edi_machine.specs.declared.ends.StepEnd.TheVariants as end
 use Rattle.edi_machine.specs.Activities.{local_of}
 use Rattle.edi_machine.specs.Starts.{IsFork, branches_at}
-use Rattle.edi_machine.specs.Steps.{Tears, effect_of}
+use Rattle.edi_machine.specs.Steps.{Tears, UsesFailed, effect_of}
 use Rattle.edi_kernel.specs.declared.ends.Ending.{Ending}
 use Rattle.edi_kernel.specs.declared.ends.Ending.TheVariants as ending
 use Rattle.edi_kernel.specs.declared.stretch.Pause.{Pause}
@@ -173,7 +173,7 @@ Pauses words (pausing turn r cleared) (pause.At kind) now is_cleared = IsKind wo
 Pauses words (stopping ending r cleared) (pause.Over e) now is_cleared = Stops ending e r now
 Pauses words _ _ now is_cleared = ⊥
 
--- an object outside failed in a system call of this instruction
+-- an object outside failed in a system call of this instruction, which the activity has still before it
 pub record Torn (words : List ℕ) (live : ℕ) (is_first : Bool) (was now : Running) : Type 0 where
   pub number : ℕ
   pub arguments : List ℕ
@@ -183,6 +183,7 @@ pub record Torn (words : List ℕ) (live : ℕ) (is_first : Bool) (was now : Run
   pub effect : effect_of words live is_first was.local ≡ asks number arguments address line next
   pub tears : Tears (call number arguments was.system) was.system now.system
   pub turns : now.turns ≡ was.turns
+  pub same : now.local ≡ was.local
 
 -- one instruction: the activity goes on, or it pauses as the definition says, or an object outside failed
 abbrev pub StepsFrom : List ℕ → (live : ℕ) → (is_first : Bool) → (was : Running) → Bool → Answer → Option Pause → (now : Running) → Bool → Type 0
@@ -275,3 +276,8 @@ Spends _ left new_left = ⊤
 abbrev pub Blamed : Option Pause → (failed : Option Outside → Type 0) → (old new : Outside → ℕ) → Type 0
 Blamed (Some (pause.Over ending.Fault)) failed old new = (outside : Outside) × failed (Some outside) × CountRose (old outside) (new outside)
 Blamed _ failed old new = failed None
+
+-- after a fault the activity still has the call before it that failed, and the call uses the object that has failed
+abbrev pub AsksFailed : Option Pause → List ℕ → (live : ℕ) → (is_first : Bool) → Local → (failed : Option Outside → Type 0) → Type 0
+AsksFailed (Some (pause.Over ending.Fault)) words live is_first l failed = UsesFailed (effect_of words live is_first l) failed
+AsksFailed _ words live is_first l failed = ⊤

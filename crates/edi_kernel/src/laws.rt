@@ -1,6 +1,6 @@
 //! What is true of every run of a kernel. The functions do nothing; their contracts are the laws.
 
-ghost use Rattle.edi_kernel.specs.Passed.{FaultIsMoment, MomentAdds, MomentIsNewest, OfEveryRun, PastIsOfMoments};
+ghost use Rattle.edi_kernel.specs.Passed.{FaultIsCall, FaultIsMoment, MomentAdds, MomentIsNewest, OfEveryRun, PastIsOfMoments};
 ghost use Rattle.edi_kernel.specs.Runs.{RunsAreTheMachines};
 ghost use Rattle.edi_kernel.specs.Kept.{StandsAgain};
 ghost use Rattle.edi_kernel.specs.StandsStill.{StandstillIsMarked};
@@ -29,6 +29,12 @@ pub fn past_is_of_moments()
 /// run comes.
 pub fn fault_is_moment()
     ensures law { FaultIsMoment }
+{}
+
+/// Where an object outside failed in a run, the run's past has two states, one right after the other, between which is the call that
+/// failed. For each object that this call uses it tells so. But for the found file and the buffer the system is one of the two.
+pub fn fault_is_call()
+    ensures law { FaultIsCall }
 {}
 
 /// A kernel to which the processes of another have been put back is the machine that the other is, but for words that do not

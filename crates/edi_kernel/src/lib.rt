@@ -24,11 +24,11 @@ ghost use Rattle.edi_machine.specs.Activities.{IsOrdered};
 ghost use Rattle.edi_target.specs.Mach.{Machine};
 ghost use Rattle.edi_kernel.specs.Table.{first_home, is_live, is_waiting, no_marks, process_at, ready_slots};
 ghost use Rattle.edi_kernel.specs.Stretch.{Blamed};
-ghost use Rattle.edi_kernel.specs.Kernel.{GoesTo, Holds, IsKernel, MayFail, StandsAfter, StandsAtEnd, fault_of, faulted, is_over, used_in};
+ghost use Rattle.edi_kernel.specs.Kernel.{BreaksBy, GoesTo, Holds, IsKernel, MayFail, StandsAfter, StandsAtEnd, fault_of, faulted, is_over, used_in};
 ghost use Rattle.edi_kernel.specs.Kept.{IsCleared, IsKeptOf, IsMarkCount, IsWhole, LinesUp, PutsBack, TakesAt, below_of};
 ghost use Rattle.edi_kernel.specs.TableIsMachine.{Naming};
 ghost use Rattle.edi_kernel.specs.Named.{ChoosesBy, GoesBy, HoldsBy};
-ghost use Rattle.edi_kernel.specs.Runs.{Chooses, IsAt, RunsTo, StandsIn, Started, TakesNext};
+ghost use Rattle.edi_kernel.specs.Runs.{Chooses, FaultsBy, IsAt, RunsTo, StandsIn, Started, TakesNext};
 
 use edi_calls::Calls;
 use edi_machine::Activity;
@@ -146,6 +146,9 @@ impl Kernel {
         requires working { C.failed calls.old None }
         ensures exact { WhereTold (C.state calls.old) (C.state calls.new) (λ s t. (m : Machine) (p : Name) (others : List Name) →
             IsAt code.now self.old s turns_left m p others → GoesTo code.now.words result turns_left self.new t m p others) }
+        // The system call that failed uses the object that has failed.
+        ensures asked { WhereTold (C.state calls.old) (C.state calls.new) (λ s t. (m : Machine) (p : Name) (others : List Name) →
+            IsAt code.now self.old s turns_left m p others → BreaksBy (C.failed calls.new) code.now.words result turns_left t m p others) }
         ensures names { WhereTold (C.state calls.old) (C.state calls.new) (λ s t. (m : Machine) (p : Name) (others : List Name) (n : Naming) →
             IsAt code.now self.old s turns_left m p others → HoldsBy n self.old m (Some p) others →
             GoesBy code.now.words result turns_left self.old n self.new t m p others) }
@@ -287,6 +290,9 @@ impl Kernel {
         requires working { C.failed calls.old None }
         ensures exact { choices.old.drawn + bound < 2 ^ 64 → WhereTold (C.state calls.old) (C.state calls.new) (λ s t.
             RunsTo code.now s bound choices.old result self.new.store self.new.used t choices.new) }
+        // The system call that failed uses the object that has failed.
+        ensures asked { choices.old.drawn + bound < 2 ^ 64 → WhereTold (C.state calls.old) (C.state calls.new) (λ s t.
+            FaultsBy (C.failed calls.new) code.now s bound choices.old result self.new.used t choices.new) }
         ensures stands { choices.old.drawn + bound < 2 ^ 64 → WhereTold (C.state calls.old) (C.state calls.new) (λ s t.
             StandsIn code.now s bound choices.old result self.new choices.new) }
         ensures standing { StandsAtEnd (Some result) self.new.table self.new.arrived }
@@ -331,7 +337,7 @@ impl Kernel {
     }
 
     /// Whether the last stint ended by an attempt that failed: one of which no condition was true. It is `false` between the start and the
-    /// end of the first stint.
+    /// end of the first stint. After `run` it is open.
     pub fn failed(&self) -> bool
         ensures { result ≡ self.now.failed }
     {

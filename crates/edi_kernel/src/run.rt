@@ -10,10 +10,10 @@ ghost use Rattle.edi_kernel.specs.declared.table.Table.{Table};
 ghost use Rattle.edi_kernel.specs.Table.{ready_slots};
 ghost use Rattle.edi_calls.specs.Ends.{CallsLast};
 ghost use Rattle.edi_kernel.specs.Stretch.{Blamed};
-ghost use Rattle.edi_kernel.specs.Kernel.{GoesTo, Holds, IsKernel, MayFail, ended_by, fault_of, faulted, is_over, later_by, used_in, StandsAfter, StandsAtEnd};
+ghost use Rattle.edi_kernel.specs.Kernel.{BreaksBy, GoesTo, Holds, IsKernel, MayFail, ended_by, fault_of, faulted, is_over, later_by, used_in, StandsAfter, StandsAtEnd};
 ghost use Rattle.edi_kernel.specs.TableIsMachine.{Naming};
 ghost use Rattle.edi_kernel.specs.Named.{ChoosesBy, GoesBy, HoldsBy};
-ghost use Rattle.edi_kernel.specs.Runs.{Chooses, EndsUnready, IsAt, Picks, Proceeds, Rounds, RunsTo, StandsIn, Started, TakesNext};
+ghost use Rattle.edi_kernel.specs.Runs.{Chooses, EndsUnready, FaultsBy, IsAt, Picks, Proceeds, Rounds, RoundsBy, RunsTo, StandsIn, Started, TakesNext};
 
 use crate::ends::{Ending, StintEnd};
 use crate::state::KernelState;
@@ -160,6 +160,9 @@ impl KernelState {
             (λ s t. (m : Machine) (p : Name) (others : List Name) →
             Holds self.old m (Some p) others → m.system ≡ s → m.turns ≡ bound - self.old.used →
             Rounds code.now.words bound result self.new t choices.old choices.new m p others) }
+        ensures asked { WhereTold (C.state calls.old) (C.state calls.new) (λ s t. (m : Machine) (p : Name) (others : List Name) →
+            Holds self.old m (Some p) others → m.system ≡ s → m.turns ≡ bound - self.old.used →
+            RoundsBy (C.failed calls.new) code.now.words bound result self.new t choices.old choices.new m p others) }
         ensures kernel { IsKernel self.new }
         ensures taken { result ≡ None → IsSome self.new.taken }
         ensures used { self.new.used ≤ bound }
@@ -189,6 +192,8 @@ impl KernelState {
         requires working { C.failed calls.old None }
         ensures exact { choices.old.drawn + bound < 2 ^ 64 → WhereTold (C.state calls.old) (C.state calls.new) (λ s t.
             RunsTo code.now s bound choices.old result self.new.store self.new.used t choices.new) }
+        ensures asked { choices.old.drawn + bound < 2 ^ 64 → WhereTold (C.state calls.old) (C.state calls.new) (λ s t.
+            FaultsBy (C.failed calls.new) code.now s bound choices.old result self.new.used t choices.new) }
         ensures stands { choices.old.drawn + bound < 2 ^ 64 → WhereTold (C.state calls.old) (C.state calls.new) (λ s t.
             StandsIn code.now s bound choices.old result self.new choices.new) }
         ensures standing { StandsAtEnd (Some result) self.new.table self.new.arrived }
@@ -225,6 +230,8 @@ impl KernelState {
         requires working { C.failed calls.old None }
         ensures exact { WhereTold (C.state calls.old) (C.state calls.new) (λ s t. (m : Machine) (p : Name) (others : List Name) →
             IsAt code.now self.old s turns_left m p others → GoesTo code.now.words result turns_left self.new t m p others) }
+        ensures asked { WhereTold (C.state calls.old) (C.state calls.new) (λ s t. (m : Machine) (p : Name) (others : List Name) →
+            IsAt code.now self.old s turns_left m p others → BreaksBy (C.failed calls.new) code.now.words result turns_left t m p others) }
         ensures names { WhereTold (C.state calls.old) (C.state calls.new) (λ s t. (m : Machine) (p : Name) (others : List Name) (n : Naming) →
             IsAt code.now self.old s turns_left m p others → HoldsBy n self.old m (Some p) others →
             GoesBy code.now.words result turns_left self.old n self.new t m p others) }

@@ -11,10 +11,12 @@ ghost use Rattle.edi_calls.specs.Names.{Name};
 ghost use Rattle.edi_target.specs.Mach.{Machine};
 ghost use Rattle.edi_machine.specs.declared.activity.Activity.{Activity};
 ghost use Rattle.edi_calls.specs.Ends.{CallsLast};
-ghost use Rattle.edi_kernel.specs.Stretch.{Allows, Blamed, Spends, Stretches, at_start, is_standstill, running_in};
+ghost use Rattle.edi_kernel.specs.Stretch.{Allows, AsksFailed, Blamed, Spends, Stretches, at_start, is_standstill, running_in};
 ghost use Rattle.edi_kernel.specs.Kernel.{
+  BreaksBy,
   Handles,
   HandlesTurn,
+  Holds,
   IsForked,
   IsKernel,
   MayFail,
@@ -210,6 +212,8 @@ impl KernelState {
         ensures standstill { is_standstill result ≡ false }
         ensures allowed { Allows (Some result) code.now.words (32 - length (free_slots self.old.table)) (slot == 0)
             (local_of self.new.store progress.new.activity) }
+        ensures asked { AsksFailed (Some result) code.now.words (32 - length (free_slots self.old.table)) (slot == 0)
+            (local_of self.new.store progress.new.activity) (C.failed calls.new) }
         ensures less { progress.new.left ≤ progress.old.left }
         ensures spends { Spends (Some result) progress.old.left progress.new.left }
         ensures blame { Blamed (Some result) (C.failed calls.new) (C.faults calls.old) (C.faults calls.new) }
@@ -229,6 +233,8 @@ impl KernelState {
         ensures exact { WhereTold (C.state calls.old) (C.state calls.new) (λ s t. (m : Machine) (p : Name) (others : List Name) (n : Naming) →
             HoldsBy n self.old m (Some p) others → m.system ≡ s → m.turns ≡ left →
             GoesBy code.now.words result left self.old n self.new t m p others) }
+        ensures asked { WhereTold (C.state calls.old) (C.state calls.new) (λ s t. (m : Machine) (p : Name) (others : List Name) →
+            Holds self.old m (Some p) others → m.system ≡ s → m.turns ≡ left → BreaksBy (C.failed calls.new) code.now.words result left t m p others) }
         ensures kernel { IsKernel self.new }
         ensures free { self.new.taken ≡ None }
         ensures standing { StandsAfter result self.old.taken (ready_slots self.old.table) self.new.table self.new.arrived }

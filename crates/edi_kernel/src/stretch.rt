@@ -12,6 +12,7 @@ ghost use Rattle.edi_machine.specs.Activities.{IsOrdered, local_of};
 ghost use Rattle.edi_calls.specs.Ends.{CallsLast};
 ghost use Rattle.edi_kernel.specs.Stretch.{
   Allows,
+  AsksFailed,
   Blamed,
   Falls,
   OneStep,
@@ -183,6 +184,7 @@ fn instruct<C: Calls>(
     ensures phase { result ≡ None → IsInPhase progress.new }
     ensures standstill { IsNoStandstill result }
     ensures allowed { Allows result code.now.words live first (local_of store.new progress.new.activity) }
+    ensures asked { AsksFailed result code.now.words live first (local_of store.new progress.new.activity) (C.failed calls.new) }
     ensures falls { Falls result code.now.words progress.old.left progress.old.activity.pc progress.new.left progress.new.activity.pc }
     ensures less { progress.new.left ≤ progress.old.left }
     ensures spends { Spends result progress.old.left progress.new.left }
@@ -314,6 +316,7 @@ pub(crate) fn advance<C: Calls>(
         result (running_in store.new progress.new.activity t progress.new.left) progress.new.cleared) }
     ensures standstill { is_standstill result ≡ false }
     ensures allowed { Allows (Some result) code.now.words live first (local_of store.new progress.new.activity) }
+    ensures asked { AsksFailed (Some result) code.now.words live first (local_of store.new progress.new.activity) (C.failed calls.new) }
     ensures less { progress.new.left ≤ progress.old.left }
     ensures spends { Spends (Some result) progress.old.left progress.new.left }
     ensures blame { Blamed (Some result) (C.failed calls.new) (C.faults calls.old) (C.faults calls.new) }

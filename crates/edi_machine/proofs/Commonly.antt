@@ -17,7 +17,7 @@ use Rattle.edi_machine.specs.declared.ends.StepEnd.{StepEnd}
 use Rattle.edi_machine.specs.declared.ends.StepEnd.TheVariants as end
 use Rattle.edi_machine.specs.Numbers.{effect_by, placed}
 use Rattle.edi_target.proofs.Reading.{both_true, no_row, past_end}
-use Rattle.edi_machine.specs.Steps.{Blames, Gives, Keeps, Stepped, Takes, effect_of}
+use Rattle.edi_machine.specs.Steps.{Blames, Gives, Keeps, Stepped, Takes, UsesFailed, effect_of}
 
 -- the words that were found from the program counter on are those there
 pub effect_there : (words : List ℕ) (live : ℕ) (is_first : Bool) (l : Local) (front : List ℕ) → drop l.pc words ≡ front
@@ -56,6 +56,14 @@ gives_blame (due turn l) end.Fault before after failed old new h none = absurd h
 gives_blame (fails cause line) end.Fault before after failed old new h none = absurd h
 gives_blame bad end.Fault before after failed old new h none = absurd h
 
+gives_used : (x : Effect) (e : StepEnd) (before after : Local) (failed : Option Outside → Type 0) → Gives x e before after → UsesFailed x failed
+gives_used (goes l) e before after failed h = tt
+gives_used (released l) e before after failed h = tt
+gives_used (asks number arguments address line l) e before after failed h = absurd h
+gives_used (due turn l) e before after failed h = tt
+gives_used (fails cause line) e before after failed h = tt
+gives_used bad e before after failed h = tt
+
 -- ---- all that a step tells
 
 module _ {X : Type 0} (state : X → Option State) (failed : X → Option Outside → Type 0) (faults : X → Outside → ℕ) (references : X → List ℕ)
@@ -67,6 +75,7 @@ module _ {X : Type 0} (state : X → Option State) (failed : X → Option Outsid
     keeps = keeps_itself x calls;
     later = λ outside. omega arith;
     blame = gives_blame x e before after (failed calls) (faults calls) (faults calls) h none;
+    used = gives_used x e before after (failed calls) h;
     references = refl;
     leads = λ start led. led;
   }

@@ -1,5 +1,5 @@
 -- The words of system calls, and how they end.
-use Rattle.std.proofs.Common.{◌≡◌, ℕ, ◌+◌, ◌-◌, ◌<◌, ◌≤◌, ◌^◌, List, [], ◌∷◌, ◌++◌, Option, Some, None, length, get_or, set, take, drop, refl, sym, ap}
+use Rattle.std.proofs.Common.{◌≡◌, ℕ, ◌+◌, ◌-◌, ◌<◌, ◌≤◌, ◌^◌, Bool, true, false, nat_le, if◌then◌else◌, List, [], ◌∷◌, ◌++◌, Option, Some, None, length, get_or, set, take, drop, refl, sym, ap}
 use Rattle.std.proofs.Common.{subst, ◌∙◌, arith, length-drop, get_or-drop}
 use Rattle.std.proofs.lemmas.Bool.{le-leb}
 use Rattle.std.proofs.lemmas.List.{take_more, take_more_set}
@@ -10,14 +10,15 @@ use Rattle.edi_calls.specs.declared.ends.CallEnd.{CallEnd}
 use Rattle.edi_calls.specs.declared.ends.CallEnd.TheVariants as call_end
 use Rattle.edi_calls.specs.State.{State}
 use Rattle.edi_calls.specs.Calls.{CallResult, answered, no_file, file_limit, argument_words, answer_words, call}
-use Rattle.edi_calls.specs.Ends.{MayEnd, Meets}
+use Rattle.edi_calls.specs.declared.ends.Outside.{Outside}
+use Rattle.edi_calls.specs.Ends.{IsUsed, MayEnd, Meets}
 use Rattle.edi_store.specs.Memory.{words_at}
 use Rattle.edi_store.specs.Copied.{IsMemory}
-use Rattle.edi_target.specs.Effect.{Local, Effect, asks, pop}
+use Rattle.edi_target.specs.Effect.{Local, Effect, asks, bad, pop}
 use Rattle.edi_target.specs.Mach.{answer_at}
 use Rattle.edi_machine.specs.declared.ends.StepEnd.{StepEnd}
 use Rattle.edi_machine.specs.declared.ends.StepEnd.TheVariants as end
-use Rattle.edi_machine.specs.Steps.{HasAnswer, Takes, Tears, answered_at}
+use Rattle.edi_machine.specs.Steps.{HasAnswer, Takes, Tears, UsesFailed, answered_at}
 
 -- one word more of those that are read from the memory
 pub read_more : (memory words : List ℕ) (at i w : ℕ) → IsMemory memory → i < length words → at + i < 2 ^ 16 → w ≡ get_or memory (at + i) 0
@@ -68,6 +69,16 @@ answer_length (Some address) number word has = let e : answer_words number ≡ 1
 abbrev asking : (count number : ℕ) → Option ℕ → (line next : ℕ) → Local → Effect
 asking count number address line next l =
     pop count l (λ arguments m. asks number arguments address line (record m { pc = next }))
+
+-- what has failed is an object that the call uses, if it is made
+pub asking_used : (count number : ℕ) (address : Option ℕ) (line next : ℕ) (l : Local) (failed : Option Outside → Type 0) → IsUsed number failed
+    → UsesFailed (asking count number address line next l) failed
+asking_used count number address line next l failed used = by_room (nat_le (l.base + 5 + count) l.top)
+  where
+    by_room : (b : Bool) → UsesFailed (if b then asks number (words_at l.memory (l.top - count) count) address line (record l { top = l.top - count; pc = next })
+        else bad) failed
+    by_room true = used
+    by_room false = tt
 
 -- a call that was made with the arguments on top, and ended so
 module _ (number line next : ℕ) (address : Option ℕ) (l before after : Local) (count word : ℕ) (arguments : List ℕ) (old new : Option State) where

@@ -7,7 +7,7 @@ use Rattle.edi_calls.specs.declared.ends.Outside.{Outside}
 use Rattle.edi_calls.specs.declared.kinds.Cause.TheVariants as cause
 use Rattle.edi_calls.specs.State.{State}
 use Rattle.edi_calls.specs.Calls.{CallResult, answered, no_file, file_limit, answer_words, call}
-use Rattle.edi_calls.specs.Ends.{IsTorn, answer_values, uses_file}
+use Rattle.edi_calls.specs.Ends.{IsTorn, IsUsed, answer_values, uses_file}
 use Rattle.edi_store.specs.Memory.{written}
 use Rattle.edi_target.specs.Fetch.{fetch}
 use Rattle.edi_target.specs.Effect.{Local, Turn, entering, leaving, looping, arriving, again, forking, exiting, finishing, Effect, goes, released, asks, due}
@@ -96,6 +96,11 @@ abbrev pub Blames : StepEnd → (failed : Option Outside → Type 0) → (old ne
 Blames end.Fault failed old new = (outside : Outside) × failed (Some outside) × CountRose (old outside) (new outside)
 Blames _ failed old new = failed None
 
+-- what has failed is an object that the call uses, where the instruction makes one
+abbrev pub UsesFailed : Effect → (failed : Option Outside → Type 0) → Type 0
+UsesFailed (asks number arguments address line l) failed = IsUsed number failed
+UsesFailed effect failed = ⊤
+
 -- All that a step tells of the activity and of the object that has the system, where its instruction has this effect: the words of
 -- the object's trait come first.
 pub record Stepped {X : Type 0} (state : X → Option State) (failed : X → Option Outside → Type 0) (faults : X → Outside → ℕ)
@@ -104,6 +109,7 @@ pub record Stepped {X : Type 0} (state : X → Option State) (failed : X → Opt
   pub keeps : Keeps effect old new
   pub later : (outside : Outside) → faults old outside ≤ faults new outside
   pub blame : Blames answer (failed new) (faults old) (faults new)
+  pub used : UsesFailed effect (failed new)
   pub references : references_of new ≡ references_of old
   pub leads : (start : X) → leads_to start old → leads_to start new
 

@@ -4,7 +4,7 @@ ghost use Rattle.std.specs.Prelude.{◌≡◌, ◌<◌, ◌≤◌, ◌^◌, ℕ,
 ghost use Rattle.edi_calls.specs.declared.ends.Outside.{Outside};
 ghost use Rattle.edi_store.specs.Copied.{IsMemory};
 ghost use Rattle.edi_machine.specs.Activities.{IsOrdered, local_of};
-ghost use Rattle.edi_machine.specs.Steps.{Blames, CanFork, Forks, Keeps, Takes, effect_of, ends_phase, is_released};
+ghost use Rattle.edi_machine.specs.Steps.{Blames, CanFork, Forks, Keeps, Takes, UsesFailed, effect_of, ends_phase, is_released};
 
 use crate::activity::Activity;
 use crate::common::execute_here;
@@ -34,6 +34,7 @@ pub fn step<C: Calls>(
     ensures keeps { Keeps (effect_of code.now.words live first (local_of store.old activity.old)) calls.old calls.new }
     ensures later { (outside : Outside) → C.faults calls.old outside ≤ C.faults calls.new outside }
     ensures blame { Blames result (C.failed calls.new) (C.faults calls.old) (C.faults calls.new) }
+    ensures used { UsesFailed (effect_of code.now.words live first (local_of store.old activity.old)) (C.failed calls.new) }
     ensures references { C.references calls.new ≡ C.references calls.old }
     ensures leads { (start : C) → C.leads start calls.old → C.leads start calls.new }
     ensures phase { let before = local_of store.old activity.old in

@@ -4,7 +4,7 @@ ghost use Rattle.std.specs.Prelude.{◌≡◌, ◌+◌, ◌<◌, ◌≤◌, ◌^
 ghost use Rattle.edi_told.specs.Told.{WhereTold};
 ghost use Rattle.edi_calls.specs.declared.ends.Outside.{Outside};
 ghost use Rattle.edi_calls.specs.Calls.{argument_words, answer_words, call};
-ghost use Rattle.edi_calls.specs.Ends.{MayEnd, Meets};
+ghost use Rattle.edi_calls.specs.Ends.{IsUsed, MayEnd, Meets};
 ghost use Rattle.edi_calls.specs.Ends as ends;
 ghost use Rattle.edi_store.specs.Memory.{words_at};
 ghost use Rattle.edi_store.specs.Copied.{IsMemory};
@@ -13,7 +13,7 @@ ghost use Rattle.edi_target.specs.Fetch.{fetch};
 ghost use Rattle.edi_target.specs.Op as op;
 ghost use Rattle.edi_target.specs.Perform.{perform, system_call};
 ghost use Rattle.edi_machine.specs.Activities.{IsOrdered, local_of};
-ghost use Rattle.edi_machine.specs.Steps.{Blames, HasAnswer, Keeps, Takes, answered_at};
+ghost use Rattle.edi_machine.specs.Steps.{Blames, HasAnswer, Keeps, Takes, UsesFailed, answered_at};
 
 use crate::activity::Activity;
 use crate::ends::StepEnd;
@@ -55,6 +55,7 @@ fn make_call<C: Calls>(calls: &mut C, number: u8, arguments: &[u16]) -> Made
     ensures may { MayEnd number result.end (take (answer_words number) (result.word ∷ [])) }
     ensures later { (outside : Outside) → C.faults calls.old outside ≤ C.faults calls.new outside }
     ensures blame { ends.Blames result.end (C.failed calls.new) (C.faults calls.old) (C.faults calls.new) }
+    ensures used { IsUsed number (C.failed calls.new) }
     ensures references { C.references calls.new ≡ C.references calls.old }
     ensures leads { (start : C) → C.leads start calls.old → C.leads start calls.new }
 {
@@ -105,6 +106,9 @@ fn ask<C: Calls>(
         calls.new }
     ensures later { (outside : Outside) → C.faults calls.old outside ≤ C.faults calls.new outside }
     ensures blame { Blames result (C.failed calls.new) (C.faults calls.old) (C.faults calls.new) }
+    ensures used { let l = local_of store.old activity.old in
+        UsesFailed (pop (argument_words number) (record l { top = top }) (λ arguments m. asks number arguments address line (record m { pc = next })))
+        (C.failed calls.new) }
     ensures references { C.references calls.new ≡ C.references calls.old }
     ensures leads { (start : C) → C.leads start calls.old → C.leads start calls.new }
     ensures ordered { IsOrdered activity.new }
@@ -146,6 +150,7 @@ pub fn system_call<C: Calls>(
     ensures keeps { Keeps (system_call number line next (local_of store.old activity.old)) calls.old calls.new }
     ensures later { (outside : Outside) → C.faults calls.old outside ≤ C.faults calls.new outside }
     ensures blame { Blames result (C.failed calls.new) (C.faults calls.old) (C.faults calls.new) }
+    ensures used { UsesFailed (system_call number line next (local_of store.old activity.old)) (C.failed calls.new) }
     ensures references { C.references calls.new ≡ C.references calls.old }
     ensures leads { (start : C) → C.leads start calls.old → C.leads start calls.new }
     ensures ordered { IsOrdered activity.new }
@@ -204,6 +209,8 @@ pub fn call_described<C: Calls>(
         Keeps (perform (fetch words.now) 0 true (op.call_p count offset line) next l) calls.old calls.new }
     ensures later { (outside : Outside) → C.faults calls.old outside ≤ C.faults calls.new outside }
     ensures blame { Blames result (C.failed calls.new) (C.faults calls.old) (C.faults calls.new) }
+    ensures used { let l = local_of store.old activity.old in
+        UsesFailed (perform (fetch words.now) 0 true (op.call_p count offset line) next l) (C.failed calls.new) }
     ensures references { C.references calls.new ≡ C.references calls.old }
     ensures leads { (start : C) → C.leads start calls.old → C.leads start calls.new }
     ensures ordered { IsOrdered activity.new }

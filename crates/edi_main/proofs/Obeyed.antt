@@ -21,8 +21,9 @@ use Rattle.edi_commands.specs.run.RunMeans.{replaying}
 use Rattle.edi_commands.proofs.run.Meaning.{replayed}
 use Rattle.edi_statuses.specs.Lines.{text_of}
 use Rattle.edi_statuses.specs.Facts.{DriveUse, leaves_drive, mounts_last, mounts_first, formats_to, facts_of}
-use Rattle.edi_statuses.specs.EachObject.{CountsBlocks, CountsNew, CountsUsed, FitsCount, FitsGet, Handed, KeepsImage, LeavesEach, UnusedStay}
-use Rattle.edi_statuses.specs.EachObject.{comes_to, formats, handed, stops_by, stops_first, uses_devices, uses_drive, uses_input, uses_kernel}
+use Rattle.edi_statuses.specs.EachObject.{CountsBlocks, CountsNew, CountsUsed, FitsCount, FitsGet, Handed, KeepsImage, LeavesEach, RunStays, UnmountedStay, UnusedStay}
+use Rattle.edi_statuses.specs.EachObject.{asks_first, asks_last, comes_to, formats, handed, is_at_drive, is_unread, stops_by, stops_first, uses_devices, uses_drive}
+use Rattle.edi_statuses.specs.EachObject.{uses_input, uses_kernel}
 use Rattle.edi_statuses.specs.Decided.{Came}
 
 pub no_words : (f : Option commands.Command) (x : Option Command) → option_map view f ≡ x → f ≡ None → x ≡ None
@@ -176,4 +177,43 @@ untouched_closed c s t before f d i w w' p k which h = record {
   input = λ none. h.input (comes_less uses_input c s t which none);
   printer = λ none. h.printer (comes_less uses_devices c s t which none);
   kernel = λ none. h.kernel (comes_less uses_kernel c s t which none);
+}
+
+-- ---- where the drive is no valid image
+
+-- a command as the code has it, and its status
+pub unmounted_so : {F D S T P K : Type 0} (c d : commands.Command) (meant s : Status) (before after : Handed F D S T P K) → c ≡ d → s ≡ meant
+    → UnmountedStay (Some (view d)) meant before after → UnmountedStay (Some (view c)) s before after
+unmounted_so c d meant s before after is same h =
+    subst (λ x. UnmountedStay (Some (view x)) s before after) (sym is)
+    (subst (λ t. UnmountedStay (Some (view d)) t before after) (sym same) h)
+
+-- of one that mounts it last
+pub unmounted_last : {F D S T P K : Type 0} (c : Command) (s : Status) (before after : Handed F D S T P K) → asks_first c ≡ false
+    → (is_at_drive s ≡ true → RunStays before after) → UnmountedStay (Some c) s before after
+unmounted_last c s before after never stays =
+    record { last = λ asks at. stays at; first = λ asks at. absurd (true≢false (sym asks ∙ never)) }
+
+-- of one that does not mount it
+pub unmounted_never : {F D S T P K : Type 0} (c : Command) (s : Status) (before after : Handed F D S T P K) → asks_last c ≡ false → asks_first c ≡ false
+    → UnmountedStay (Some c) s before after
+unmounted_never c s before after never none =
+    record { last = λ asks at. absurd (true≢false (sym asks ∙ never)); first = λ asks at. absurd (true≢false (sym asks ∙ none)) }
+
+-- where nothing is touched
+pub none_unmounted : {F D S T P K : Type 0} (c : Option Command) (s : Status) (before : Handed F D S T P K) → UnmountedStay c s before before
+none_unmounted c s before = record { last = λ asks at. record { input = refl; printer = refl; kernel = refl }; first = λ asks at. refl }
+
+-- a fault of the output is none of these statuses
+seen_in : (test : Status → Bool) (s t : Status) → test status.OutputFault ≡ false → (t ≡ s) ⊎ (t ≡ status.OutputFault) → test t ≡ true → test s ≡ true
+seen_in test s t never (inl same) h = subst (λ x. test x ≡ true) same h
+seen_in test s t never (inr fault) h = absurd (true≢false (sym (subst (λ x. test x ≡ true) fault h) ∙ never))
+
+pub unmounted_closed : {F D S T P K : Type 0} (c : Option Command) (s t : Status) (before : Handed F D S T P K) (f : F) (d : D) (i : S) (w w' : T)
+    (p : P) (k : K) → (t ≡ s) ⊎ (t ≡ status.OutputFault) → UnmountedStay c s before (handed f d i w p k) → UnmountedStay c t before (handed f d i w' p k)
+unmounted_closed c s t before f d i w w' p k which h = record {
+  last = λ asks at.
+      let stays = h.last asks (seen_in is_at_drive s t refl which at) in
+      record { input = stays.input; printer = stays.printer; kernel = stays.kernel };
+  first = λ asks at. h.first asks (seen_in is_unread s t refl which at);
 }

@@ -3,5 +3,6 @@
 
 mod top;
 
+pub use edi_explore::Watcher;
 pub use edi_statuses::{RefusalKind, Status};
 pub use top::edison;

@@ -10,7 +10,8 @@ ghost use Rattle.edi_commands.specs.disk.OnDisk.{HasCauseOnDisk, MeansOnDisk};
 ghost use Rattle.edi_statuses.specs.Outside.{lent, outside_of, Shows};
 ghost use Rattle.edi_statuses.specs.Counts.{counts_of, HasCause, NoneFalls};
 ghost use Rattle.edi_statuses.specs.EachObject.{command_does, handed, is_before_format, is_silent, uses_files};
-ghost use Rattle.edi_statuses.specs.EachObject.{CountsBlocks, CountsNew, LeavesEach, UnusedStay};
+ghost use Rattle.edi_statuses.specs.EachObject.{CountsBlocks, CountsNew, LeavesEach, UnmountedStay, UnusedStay};
+ghost use Rattle.edi_statuses.specs.Explored.{is_exploration};
 ghost use Rattle.edi_statuses.specs.Means.{EndsWith};
 ghost use Rattle.edi_statuses.specs.Decided.{Came};
 
@@ -18,8 +19,9 @@ use edi_commands::boot::boot;
 use edi_commands::code::list;
 use edi_commands::disk::{get, new_disk, new_disk_from, put};
 use edi_commands::run::Form::{Code, Text};
-use edi_commands::run::{demonstrate, run_file, walk_file, watch_file};
+use edi_commands::run::{demonstrate, run_file, time_file, walk_file, watch_file};
 use edi_commands::text::{check, compile_file, explain_file, explore_file};
+use edi_explore::Watcher;
 use edi_host::{Drive, Files, Sink, Source};
 use edi_kernel::Kernel;
 use edi_statuses::{Ended, Status, show_status};
@@ -70,7 +72,7 @@ fn replaying(choices: &str, turns: u32) -> Options<'_>
 }
 
 // Does what the command says. The line of the status is still to be shown.
-fn perform<F: Files, D: Drive, S: Source, T: Sink, P: Sink>(
+fn perform<F: Files, D: Drive, S: Source, T: Sink, P: Sink, W: Watcher>(
     alloc: Global,
     command: Command<'_>,
     files: &mut F,
@@ -79,6 +81,7 @@ fn perform<F: Files, D: Drive, S: Source, T: Sink, P: Sink>(
     terminal: &mut T,
     printer: &mut P,
     kernel: &mut Kernel,
+    watcher: &mut W,
 ) -> Ended
     requires range { IsInRange command }
     ensures came { Came result.status result.due (Some (view command.entry))
@@ -96,7 +99,11 @@ fn perform<F: Files, D: Drive, S: Source, T: Sink, P: Sink>(
     ensures untouched { UnusedStay (Some (view command.entry)) result.status
         (handed files.old drive.old input.old terminal.old printer.old kernel.old)
         (handed files.new drive.new input.new terminal.new printer.new kernel.new) }
+    ensures unmounted { UnmountedStay (Some (view command.entry)) result.status
+        (handed files.old drive.old input.old terminal.old printer.old kernel.old)
+        (handed files.new drive.new input.new terminal.new printer.new kernel.new) }
     ensures no_terminal { command_does is_silent (Some (view command.entry)) ≡ true → terminal.new ≡ terminal.old }
+    ensures unwatched { command_does is_exploration (Some (view command.entry)) ≡ false → watcher.new ≡ watcher.old }
 {
     match command {
         Command::Run { file, options } => run_file(
@@ -150,13 +157,21 @@ fn perform<F: Files, D: Drive, S: Source, T: Sink, P: Sink>(
             alloc, file, stops, out, options, files, drive, input, terminal, printer, kernel,
         ),
         Command::Explore { file, options } => {
-            explore_file(alloc, file, options, files, input, terminal, kernel)
+            explore_file(
+                alloc, file, options, files, input, terminal, kernel, watcher,
+            )
         }
+        Command::Time { file, out, options } => time_file(
+            alloc, Text, file, out, options, files, drive, input, terminal, printer, kernel,
+        ),
+        Command::TimeCode { file, out, options } => time_file(
+            alloc, Code, file, out, options, files, drive, input, terminal, printer, kernel,
+        ),
     }
 }
 
 // Does what the words say. The line of the status is still to be shown.
-fn obey<F: Files, D: Drive, S: Source, T: Sink, P: Sink>(
+fn obey<F: Files, D: Drive, S: Source, T: Sink, P: Sink, W: Watcher>(
     alloc: Global,
     words: &[String],
     files: &mut F,
@@ -165,6 +180,7 @@ fn obey<F: Files, D: Drive, S: Source, T: Sink, P: Sink>(
     terminal: &mut T,
     printer: &mut P,
     kernel: &mut Kernel,
+    watcher: &mut W,
 ) -> Ended
     ensures came { Came result.status result.due (command_of (map string_bytes words.now))
         (outside_of F.contents D.contents S.left T.taken P.taken files.old drive.old input.old terminal.old printer.old)
@@ -181,11 +197,15 @@ fn obey<F: Files, D: Drive, S: Source, T: Sink, P: Sink>(
     ensures untouched { UnusedStay (command_of (map string_bytes words.now)) result.status
         (handed files.old drive.old input.old terminal.old printer.old kernel.old)
         (handed files.new drive.new input.new terminal.new printer.new kernel.new) }
+    ensures unmounted { UnmountedStay (command_of (map string_bytes words.now)) result.status
+        (handed files.old drive.old input.old terminal.old printer.old kernel.old)
+        (handed files.new drive.new input.new terminal.new printer.new kernel.new) }
     ensures no_terminal { command_does is_silent (command_of (map string_bytes words.now)) ≡ true → terminal.new ≡ terminal.old }
+    ensures unwatched { command_does is_exploration (command_of (map string_bytes words.now)) ≡ false → watcher.new ≡ watcher.old }
 {
     match command(alloc, words) {
         Ok(Some(command)) => perform(
-            alloc, command, files, drive, input, terminal, printer, kernel,
+            alloc, command, files, drive, input, terminal, printer, kernel, watcher,
         ),
         Ok(None) => silent(Status::Words),
         Err(_) => silent(Status::NoMemory),
@@ -195,8 +215,8 @@ fn obey<F: Files, D: Drive, S: Source, T: Sink, P: Sink>(
 /// Does what the words say, which are those after the program's name, and answers how it ended.
 ///
 /// The line of the status is shown on the terminal. `Ok` has none, and neither has `OutputFault`: there bytes of the command, on the
-/// terminal or the printer, or the line of its status could not be taken.
-pub fn edison<F: Files, D: Drive, S: Source, T: Sink, P: Sink>(
+/// terminal or the printer, or the line of its status could not be taken. While an exploration goes on the watcher is told how many states there are.
+pub fn edison<F: Files, D: Drive, S: Source, T: Sink, P: Sink, W: Watcher>(
     alloc: Global,
     words: &[String],
     files: &mut F,
@@ -205,6 +225,7 @@ pub fn edison<F: Files, D: Drive, S: Source, T: Sink, P: Sink>(
     terminal: &mut T,
     printer: &mut P,
     kernel: &mut Kernel,
+    watcher: &mut W,
 ) -> Status
     // The status means what it says of the words, of all that is outside before and behind the call and of the lent kernel; and
     // the terminal has taken what goes with it, and no more. What is left of the drive, the input and the printer, each by itself, is told
@@ -243,9 +264,18 @@ pub fn edison<F: Files, D: Drive, S: Source, T: Sink, P: Sink>(
     ensures untouched { UnusedStay (command_of (map string_bytes words.now)) result
         (handed files.old drive.old input.old terminal.old printer.old kernel.old)
         (handed files.new drive.new input.new terminal.new printer.new kernel.new) }
+    // And where the drive is no valid image, what a command uses after it is not touched.
+    ensures unmounted { UnmountedStay (command_of (map string_bytes words.now)) result
+        (handed files.old drive.old input.old terminal.old printer.old kernel.old)
+        (handed files.new drive.new input.new terminal.new printer.new kernel.new) }
     ensures no_terminal { result ≡ Status.Ok → command_does is_silent (command_of (map string_bytes words.now)) ≡ true
         → terminal.new ≡ terminal.old }
+
+    // Only an exploration tells how far it is.
+    ensures unwatched { command_does is_exploration (command_of (map string_bytes words.now)) ≡ false → watcher.new ≡ watcher.old }
 {
-    let ended = obey(alloc, words, files, drive, input, terminal, printer, kernel);
+    let ended = obey(
+        alloc, words, files, drive, input, terminal, printer, kernel, watcher,
+    );
     show_status(terminal, ended.status, ended.due)
 }

@@ -1,11 +1,12 @@
 -- Words of contracts. The state that a system in memory stands for, and how its calls reach it.
-use Rattle.std.specs.Prelude.{◌≡◌, ℕ, Option, Result, Ok, Err}
+use Rattle.std.specs.Prelude.{◌≡◌, ℕ, true, Option, Result, Ok, Err, ⊤}
 use Rattle.std.specs.Option.{option_map, option_to_list}
 use Rattle.edi_memory.specs.declared.state.Reading.{Reading}
 use Rattle.edi_memory.specs.declared.state.MemoryState.{MemoryState}
 use Rattle.edi_memory.specs.declared.state.Stop.{Stop}
 use Rattle.edi_memory.specs.declared.state.Stop.TheVariants as stop
 use Rattle.edi_calls.specs.State.{Found, State}
+use Rattle.edi_calls.specs.Asked.{uses}
 use Rattle.edi_calls.specs.Calls.{CallResult, answered, no_file, file_limit}
 
 abbrev pub found_of : Reading → Found
@@ -30,3 +31,8 @@ Reaches (answered words next) (Err (stop.Failed outside)) before after = after �
 Reaches no_file (Err stop.NoFile) before after = after ≡ before
 Reaches file_limit (Err stop.FileLimit) before after = after ≡ before
 Reaches _ _ before after = ⊥
+
+-- where memory was wanting the object that was to take it is one that the call of this number uses
+abbrev pub FailsUsed : (number : ℕ) → Result (Option ℕ) Stop → Type 0
+FailsUsed number (Err (stop.Failed outside)) = uses number outside ≡ true
+FailsUsed number result = ⊤

@@ -6,7 +6,7 @@ ghost use Rattle.edi_calls.specs.State.{most_bytes, free, find_file};
 ghost use Rattle.edi_calls.specs.Calls.{found_in, found_bytes, other_than, room_for, accept, display, print, find, more, read, fresh_buffer, write, close};
 ghost use Rattle.edi_calls.specs.Calls.{close_as, stored, remove, remove_as, word_of, call, argument_words};
 ghost use Rattle.edi_memory.specs.MemoryCalls.{new_index};
-ghost use Rattle.edi_memory.specs.Memory.{found_of, state_of, Reaches};
+ghost use Rattle.edi_memory.specs.Memory.{found_of, state_of, FailsUsed, Reaches};
 
 use crate::slots::{blocks_taken, find_slot, open_slot, slot_for};
 use crate::state::{MemoryState, Reading, Stop};
@@ -44,7 +44,8 @@ fn drop_titled(found: &mut Option<Reading>, title: &[u8])
 impl MemoryState {
     /// The next byte of the input.
     pub fn accept(&mut self) -> Result<Option<u16>, Stop>
-        ensures { Reaches (accept (state_of self.old)) result (state_of self.old) (state_of self.new) }
+        ensures exact { Reaches (accept (state_of self.old)) result (state_of self.old) (state_of self.new) }
+        ensures used { FailsUsed 1 result }
     {
         let c = match self.input.pop_front() {
             Some(byte) => byte % 128,
@@ -55,7 +56,8 @@ impl MemoryState {
 
     /// Shows a character.
     pub fn display(&mut self, word: u16) -> Result<Option<u16>, Stop>
-        ensures { Reaches (display word (state_of self.old)) result (state_of self.old) (state_of self.new) }
+        ensures exact { Reaches (display word (state_of self.old)) result (state_of self.old) (state_of self.new) }
+        ensures used { FailsUsed 2 result }
     {
         match self.shown.push(character(word)) {
             Ok(()) => Ok(None),
@@ -65,7 +67,8 @@ impl MemoryState {
 
     /// Prints a character.
     pub fn print(&mut self, word: u16) -> Result<Option<u16>, Stop>
-        ensures { Reaches (print word (state_of self.old)) result (state_of self.old) (state_of self.new) }
+        ensures exact { Reaches (print word (state_of self.old)) result (state_of self.old) (state_of self.new) }
+        ensures used { FailsUsed 3 result }
     {
         match self.printed.push(character(word)) {
             Ok(()) => Ok(None),
@@ -98,7 +101,8 @@ impl MemoryState {
 
     /// The text file of a title becomes the found file.
     pub fn find(&mut self, words: &[u16]) -> Result<Option<u16>, Stop>
-        ensures { Reaches (find words.now (state_of self.old)) result (state_of self.old) (state_of self.new) }
+        ensures exact { Reaches (find words.now (state_of self.old)) result (state_of self.old) (state_of self.new) }
+        ensures used { FailsUsed 4 result }
     {
         let Ok(title) = title_of(self.alloc, words) else {
             return Err(Stop::Failed(Outside::Drive));
@@ -114,7 +118,8 @@ impl MemoryState {
 
     /// Whether bytes of the found file are left.
     pub fn more(&self) -> Result<Option<u16>, Stop>
-        ensures { Reaches (more (state_of self.now)) result (state_of self.now) (state_of self.now) }
+        ensures exact { Reaches (more (state_of self.now)) result (state_of self.now) (state_of self.now) }
+        ensures used { FailsUsed 5 result }
     {
         let Some(reading) = &self.found else {
             return Err(Stop::NoFile);
@@ -139,7 +144,8 @@ impl MemoryState {
 
     /// The next byte of the found file.
     pub fn read(&mut self) -> Result<Option<u16>, Stop>
-        ensures { Reaches (read (state_of self.old)) result (state_of self.old) (state_of self.new) }
+        ensures exact { Reaches (read (state_of self.old)) result (state_of self.old) (state_of self.new) }
+        ensures used { FailsUsed 6 result }
     {
         let Some(reading) = &self.found else {
             return Err(Stop::NoFile);
@@ -155,7 +161,8 @@ impl MemoryState {
 
     /// Begins an empty file.
     pub fn fresh(&mut self) -> Result<Option<u16>, Stop>
-        ensures { Reaches (fresh_buffer (state_of self.old)) result (state_of self.old) (state_of self.new) }
+        ensures exact { Reaches (fresh_buffer (state_of self.old)) result (state_of self.old) (state_of self.new) }
+        ensures used { FailsUsed 7 result }
     {
         self.buffer = Some(Vec::new(self.alloc));
         Ok(None)
@@ -163,7 +170,8 @@ impl MemoryState {
 
     /// Appends a character to the file that is being written.
     pub fn write(&mut self, word: u16) -> Result<Option<u16>, Stop>
-        ensures { Reaches (write word (state_of self.old)) result (state_of self.old) (state_of self.new) }
+        ensures exact { Reaches (write word (state_of self.old)) result (state_of self.old) (state_of self.new) }
+        ensures used { FailsUsed 8 result }
     {
         let Some(bytes) = &mut self.buffer else {
             return Err(Stop::NoFile);
@@ -234,7 +242,8 @@ impl MemoryState {
 
     /// Stores the file that is being written under the title that words spell.
     pub fn close(&mut self, words: &[u16]) -> Result<Option<u16>, Stop>
-        ensures { Reaches (close words.now (state_of self.old)) result (state_of self.old) (state_of self.new) }
+        ensures exact { Reaches (close words.now (state_of self.old)) result (state_of self.old) (state_of self.new) }
+        ensures used { FailsUsed 9 result }
     {
         if self.buffer.is_none() {
             return Err(Stop::NoFile);
@@ -262,7 +271,8 @@ impl MemoryState {
 
     /// Removes the file of the title that words spell.
     pub fn remove(&mut self, words: &[u16]) -> Result<Option<u16>, Stop>
-        ensures { Reaches (remove words.now (state_of self.old)) result (state_of self.old) (state_of self.new) }
+        ensures exact { Reaches (remove words.now (state_of self.old)) result (state_of self.old) (state_of self.new) }
+        ensures used { FailsUsed 10 result }
     {
         let Ok(title) = title_of(self.alloc, words) else {
             return Err(Stop::Failed(Outside::Drive));
@@ -291,7 +301,8 @@ impl MemoryState {
         requires from { 1 ≤ number }
         requires to { number ≤ 10 }
         requires arguments { length args.now ≡ argument_words number }
-        ensures { Reaches (call number args.now (state_of self.old)) result (state_of self.old) (state_of self.new) }
+        ensures exact { Reaches (call number args.now (state_of self.old)) result (state_of self.old) (state_of self.new) }
+        ensures used { FailsUsed number result }
     {
         match number {
             call_number::ACCEPT => self.accept(),

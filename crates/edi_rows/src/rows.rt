@@ -15,5 +15,6 @@ mod session_ends;
 mod session_faults;
 mod session_refusals;
 mod sessions;
+mod timelines;
 mod watches;
 mod world;

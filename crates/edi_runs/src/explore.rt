@@ -4,6 +4,7 @@
 mod input;
 pub mod laws;
 mod lines;
+mod output;
 mod records;
 mod summary;
 mod text;

@@ -48,11 +48,11 @@ module _ (b m : Outside) (y : Option (List ℕ)) (still : StillTold m.shown y) w
         own_later (λ a c. RanUnkept program bound choices a c shown kernel)
         (λ disk left. unkept_later (with_own [] [] b) (with_own disk left m) y still program bound choices shown kernel)
 
-    own_broke : (shown : List ℕ) → OnItsOwn (λ a c. SameFiles a c × BrokeRun program bound choices a c shown) before_ m
-        → OnItsOwn (λ a c. SameFiles a c × BrokeRun program bound choices a c shown) seen_later later_
+    own_broke : (shown : List ℕ) → OnItsOwn (λ a c. SameFiles a c × BrokeRun status.OutputFault program bound choices a c shown) before_ m
+        → OnItsOwn (λ a c. SameFiles a c × BrokeRun status.OutputFault program bound choices a c shown) seen_later later_
     own_broke shown =
-        own_later (λ a c. SameFiles a c × BrokeRun program bound choices a c shown)
-        (λ disk left h. (h.0, broke_later (with_own [] [] b) (with_own disk left m) y still program bound choices shown h.1))
+        own_later (λ a c. SameFiles a c × BrokeRun status.OutputFault program bound choices a c shown)
+        (λ disk left h. (h.0, broke_later (with_own [] [] b) (with_own disk left m) y still status.OutputFault program bound choices shown h.1))
 
     pub demonstrates_later : (s : Status) (shown : List ℕ) → Demonstrates n bound choices name s before_ m shown kernel
         → Demonstrates n bound choices name s seen_later later_ shown kernel

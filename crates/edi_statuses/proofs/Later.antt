@@ -23,7 +23,8 @@ use Rattle.edi_statuses.proofs.Terminal.{drive_later, keeps_later, blocks_later,
 use Rattle.edi_statuses.proofs.Terminal.{record_later, does_later, list_later, shows_later, front_later, demo_later, fetches_later}
 use Rattle.edi_statuses.proofs.Demonstrated.{demonstrates_later, own_unkept, own_whole, broke_demo_later}
 use Rattle.edi_statuses.proofs.Watched.{watches_later, watched_wants, watched_lost, watched_broke}
-use Rattle.edi_statuses.proofs.Walked.{walks_later, walked_wants, walked_broke}
+use Rattle.edi_statuses.proofs.Timed.{timed_later_by}
+use Rattle.edi_statuses.proofs.Walked.{walks_later, walked_failed, walked_wants}
 use Rattle.edi_statuses.proofs.Explored.{explored_cut, explored_lost, explored_took, explored_wants, explores_later}
 use Rattle.edi_statuses.specs.Explored.{ExploresText}
 use Rattle.edi_statuses.specs.Walked.{Walks}
@@ -48,7 +49,7 @@ module _ (b m : Outside) (y : Option (List ℕ)) (still : StillTold m.shown y) w
     input : ComesToBreak status.InputFault c before_ m shown kernel → ComesToBreak status.InputFault c seen_later later_ shown kernel
     output : ComesToBreak status.OutputFault c before_ m shown kernel → ComesToBreak status.OutputFault c seen_later later_ shown kernel
 
-  -- ---- commands that run a program
+  -- ---- commands that run programs
 
   -- of one that runs a program to which its steps lead
   record RunLater {A : Type 0} (steps steps' : AfterStep A → Type 0) (program : A → Runnable) (choices : A → Choices) (bound : ℕ) (name : Option (List ℕ))
@@ -59,8 +60,8 @@ module _ (b m : Outside) (y : Option (List ℕ)) (still : StillTold m.shown y) w
         → IsNothing seen_later later_ shown kernel ⊎ AtRecord name steps' (λ v. RanUnkept (program v) bound (choices v) seen_later later_ shown kernel)
     files : AtRecord name steps (λ v. RanWhole (program v) bound (choices v) before_ m shown kernel)
         → AtRecord name steps' (λ v. RanWhole (program v) bound (choices v) seen_later later_ shown kernel)
-    broke : HasBegun steps (λ v. BrokeRun (program v) bound (choices v) before_ m shown)
-        → HasBegun steps' (λ v. BrokeRun (program v) bound (choices v) seen_later later_ shown)
+    broke : (s : Status) → HasBegun steps (λ v. BrokeRun s (program v) bound (choices v) before_ m shown)
+        → HasBegun steps' (λ v. BrokeRun s (program v) bound (choices v) seen_later later_ shown)
 
   -- memory is wanting before the first effect, or at the record
   wants_later : {A : Type 0} (name : Option (List ℕ)) (steps steps' : AfterStep A → Type 0) (P P' : A → Type 0) (shown : List ℕ) (kernel : Lent)
@@ -80,14 +81,14 @@ module _ (b m : Outside) (y : Option (List ℕ)) (still : StillTold m.shown y) w
     files = record_later b m y still name steps steps' (λ v. RanWhole (program v) bound (choices v) before_ m shown kernel)
         (λ v. RanWhole (program v) bound (choices v) seen_later later_ shown kernel) go
         (λ v. whole_later b m y still (program v) bound (choices v) shown kernel);
-    broke = λ h. (h.0, go (goes h.0) h.1, broke_later b m y still (program h.0) bound (choices h.0) shown h.2);
+    broke = λ s h. (h.0, go (goes h.0) h.1, broke_later b m y still s (program h.0) bound (choices h.0) shown h.2);
   }
 
   run_is : (file : List ℕ) (options : Options) (shown : List ℕ) (kernel : Lent) → Later (words.run file options) shown kernel
   run_is file options shown kernel =
       let r = run_later_by (RunSteps before_ file options.choices) (RunSteps seen_later file options.choices) (λ v. text v.0) (λ v. v.1) options.turns
       options.record_file shown kernel (run_later b m y still file options.choices) in
-      record { comes = r.comes; wants = r.wants; files = r.files; drive = r.broke; input = r.broke; output = r.broke }
+      record { comes = r.comes; wants = r.wants; files = r.files; drive = r.broke status.DriveFault; input = r.broke status.InputFault; output = r.broke status.OutputFault }
 
   replay_is : (file choices : List ℕ) (turns : ℕ) (shown : List ℕ) (kernel : Lent) → Later (words.replay file choices turns) shown kernel
   replay_is file choices turns shown kernel =
@@ -97,16 +98,28 @@ module _ (b m : Outside) (y : Option (List ℕ)) (still : StillTold m.shown y) w
         comes = r.comes;
         wants = nothing_later b m y still shown kernel;
         files = λ h. absurd h;
-        drive = r.broke;
-        input = r.broke;
-        output = r.broke;
+        drive = r.broke status.DriveFault;
+        input = r.broke status.InputFault;
+        output = r.broke status.OutputFault;
       }
 
   exec_is : (file : List ℕ) (options : Options) (shown : List ℕ) (kernel : Lent) → Later (words.exec file options) shown kernel
   exec_is file options shown kernel =
       let r = run_later_by (ExecSteps before_ file options.choices) (ExecSteps seen_later file options.choices) (λ v. code v.0) (λ v. v.1) options.turns
       options.record_file shown kernel (exec_later b m y still file options.choices) in
-      record { comes = r.comes; wants = r.wants; files = r.files; drive = r.broke; input = r.broke; output = r.broke }
+      record { comes = r.comes; wants = r.wants; files = r.files; drive = r.broke status.DriveFault; input = r.broke status.InputFault; output = r.broke status.OutputFault }
+
+  time_is : (file out : List ℕ) (options : Options) (shown : List ℕ) (kernel : Lent) → Later (words.time file out options) shown kernel
+  time_is file out options shown kernel =
+      let r = timed_later_by b m y still (RunSteps before_ file options.choices) (RunSteps seen_later file options.choices) (λ v. text v.0) (λ v. v.1)
+      options.turns out options.record_file shown kernel (run_later b m y still file options.choices) in
+      record { comes = r.comes; wants = r.wants; files = r.files; drive = r.broke status.DriveFault; input = r.broke status.InputFault; output = r.broke status.OutputFault }
+
+  time_code_is : (file out : List ℕ) (options : Options) (shown : List ℕ) (kernel : Lent) → Later (words.time_code file out options) shown kernel
+  time_code_is file out options shown kernel =
+      let r = timed_later_by b m y still (ExecSteps before_ file options.choices) (ExecSteps seen_later file options.choices) (λ v. code v.0) (λ v. v.1)
+      options.turns out options.record_file shown kernel (exec_later b m y still file options.choices) in
+      record { comes = r.comes; wants = r.wants; files = r.files; drive = r.broke status.DriveFault; input = r.broke status.InputFault; output = r.broke status.OutputFault }
 
   watch_is : (file points_file out : List ℕ) (options : Options) (shown : List ℕ) (kernel : Lent) → Later (words.watch file points_file out options) shown kernel
   watch_is file points_file out options shown kernel =
@@ -118,26 +131,24 @@ module _ (b m : Outside) (y : Option (List ℕ)) (still : StillTold m.shown y) w
             kernel steps (λ a. watches_later b m y still a.0 a.2 options.turns a.1 out options.record_file s shown kernel);
         wants = watched_wants b m y still file points_file out options shown kernel;
         files = watched_lost b m y still file points_file out options shown kernel;
-        drive = broke;
-        input = broke;
-        output = broke;
+        drive = broke status.DriveFault;
+        input = broke status.InputFault;
+        output = broke status.OutputFault;
       }
 
   walk_is : (file choices : List ℕ) (turns : ℕ) (shown : List ℕ) (kernel : Lent) → Later (words.walk file choices turns) shown kernel
   walk_is file choices turns shown kernel =
-      let broke = walked_broke b m y still file choices turns shown kernel in
+      let failed = walked_failed b m y still file choices turns shown kernel in
       record {
         comes = λ s. does_later b m y still (RunSteps before_ file (words.file choices)) (RunSteps seen_later file (words.file choices))
             (λ a. Walks a.0 turns a.1) (λ a. Walks a.0 turns a.1) s shown kernel (run_later b m y still file (words.file choices))
             (λ a. walks_later b m y still a.0 turns a.1 s shown kernel);
         wants = walked_wants b m y still file choices turns shown kernel;
         files = λ h. absurd h;
-        drive = broke;
-        input = broke;
-        output = broke;
+        drive = failed status.DriveFault;
+        input = failed status.InputFault;
+        output = failed status.OutputFault;
       }
-
-  -- ---- the demonstration
 
   demo_is : (n : ℕ) (options : Options) (shown : List ℕ) (kernel : Lent) → Later (words.demo n options) shown kernel
   demo_is n options shown kernel =
@@ -158,8 +169,6 @@ module _ (b m : Outside) (y : Option (List ℕ)) (still : StillTold m.shown y) w
         input = λ h. absurd h;
         output = λ h. (h.0, steps (goes h.0) h.1, broke_demo_later b m y still n options.turns h.0 options.record_file kernel shown h.2);
       }
-
-  -- ---- a session
 
   boot_is : (options : Options) (shown : List ℕ) (kernel : Lent) → Later (words.boot options) shown kernel
   boot_is options shown kernel =
@@ -303,6 +312,8 @@ module _ (b m : Outside) (y : Option (List ℕ)) (still : StillTold m.shown y) w
   each_is (words.walk file choices turns) shown kernel = walk_is file choices turns shown kernel
   each_is (words.watch file points_file out options) shown kernel = watch_is file points_file out options shown kernel
   each_is (words.explore file options) shown kernel = explore_is file options shown kernel
+  each_is (words.time file out options) shown kernel = time_is file out options shown kernel
+  each_is (words.time_code file out options) shown kernel = time_code_is file out options shown kernel
 
   -- ---- the statuses
 

@@ -15,6 +15,7 @@ use Rattle.edi_unit.specs.Tree.{ProgramUnit}
 use Rattle.edi_utils.specs.Demo.{demo_text}
 use Rattle.edi_utils.specs.Listing.{listing_of}
 use Rattle.edi_runs.proofs.walk.Texts.{texts_have_one_walk}
+use Rattle.edi_timed.specs.on.Laws.{TimelinesAreOne}
 use Rattle.edi_words.specs.Words as words
 use Rattle.edi_words.specs.Words.{Command}
 use Rattle.edi_statuses.specs.declared.status.Status.{Status}
@@ -22,6 +23,7 @@ use Rattle.edi_statuses.specs.Outside.{Outside, Devices, Kept, KernelLeft, syste
 use Rattle.edi_statuses.specs.Steps.{AfterStep, goes, stops, Fetches, FindsPoints, Ready}
 use Rattle.edi_statuses.specs.Executions.{Runnable, text, code, HasRun, record_of}
 use Rattle.edi_statuses.specs.Walked.{Walks}
+use Rattle.edi_statuses.specs.Timelines.{Times, timable, timed_files}
 use Rattle.edi_statuses.specs.Commands.{Comes, CommandEffect, Demonstrates, Does, Explains, IsDone, IsNothing, KeepsCode, OnlyBlocks, OnlyKeeps, OnlyShows}
 use Rattle.edi_statuses.specs.Commands.{Runs, ShowsReport, AreMigrated, AreNew, ArePut, RunSteps, ExecSteps, WatchSteps, Watches, TextSteps, OldSteps}
 use Rattle.edi_statuses.specs.Commands.{PutSteps, GetSteps, ListSteps, DemoSteps}
@@ -229,6 +231,23 @@ module _ (each : TextsAreOne) (files : Contents) (d : Devices) (kernel : KernelL
         turns = same.turns;
       }
 
+  times_end : TimelinesAreOne → (program : Runnable) (bound : ℕ) (choices : Choices) (out : List ℕ) (record_file : Option (List ℕ))
+      → EndsOne [] (Times program bound choices out record_file)
+  times_end timelines program bound choices out record_file s t one other e f shown bytes left also h k =
+      let same = runs_leave program bound choices h.0 k.0 h.2.drawn k.2.drawn d e f shown bytes left also h.2.ran k.2.ran in
+      let told : h.2.told ≡ k.2.told =
+      timelines (timable program) (system_on d) bound choices h.2.told k.2.told h.2.told_is k.2.told_is in record {
+        files_ =
+            h.2.files ∙ ap (λ x. with_kept (timed_files record_file choices h.2.drawn out x) files) told
+            ∙ ap (λ n. with_kept (timed_files record_file choices n out k.2.told) files) same.draws
+            ∙ sym k.2.files;
+        slots = same.slots;
+        count = same.count;
+        input = same.input;
+        printed = same.printed;
+        turns = same.turns;
+      }
+
   -- ---- the commands
 
   abbrev before : Outside
@@ -237,42 +256,48 @@ module _ (each : TextsAreOne) (files : Contents) (d : Devices) (kernel : KernelL
   told : IsTold (told_outside files d)
   told = told_is files d
 
-  ends_one : (c : Command) → is_decided c ≡ true → EndsOne (names_free c) (Comes c)
-  ends_one (words.run file o) decided = does_end [] (RunSteps before file o.choices) (λ a. Runs (text a.0) o.turns a.1 o.record_file)
+  ends_one : TimelinesAreOne → (c : Command) → is_decided c ≡ true → EndsOne (names_free c) (Comes c)
+  ends_one timelines (words.run file o) decided = does_end [] (RunSteps before file o.choices) (λ a. Runs (text a.0) o.turns a.1 o.record_file)
       (text_steps each before before before told told told file o.choices) (λ a went. runs_end (text a.0) o.turns a.1 o.record_file)
-  ends_one (words.replay file choices turns) decided = does_end [] (RunSteps before file (words.file choices)) (λ a. Runs (text a.0) turns a.1 None)
+  ends_one timelines (words.replay file choices turns) decided = does_end [] (RunSteps before file (words.file choices)) (λ a. Runs (text a.0) turns a.1 None)
       (text_steps each before before before told told told file (words.file choices)) (λ a went. runs_end (text a.0) turns a.1 None)
-  ends_one (words.exec file o) decided = does_end [] (ExecSteps before file o.choices) (λ a. Runs (code a.0) o.turns a.1 o.record_file)
+  ends_one timelines (words.exec file o) decided = does_end [] (ExecSteps before file o.choices) (λ a. Runs (code a.0) o.turns a.1 o.record_file)
       (code_steps each before before before told told told file o.choices) (λ a went. runs_end (code a.0) o.turns a.1 o.record_file)
-  ends_one (words.boot o) decided = absurd (true≢false (sym decided))
-  ends_one (words.compile file out) decided = does_end (out ∷ []) (TextSteps before file) (λ a. IsDone (KeepsCode out a.0))
+  ends_one timelines (words.boot o) decided = absurd (true≢false (sym decided))
+  ends_one timelines (words.compile file out) decided = does_end (out ∷ []) (TextSteps before file) (λ a. IsDone (KeepsCode out a.0))
       (compile_steps each before before before told told told file) (λ a went. code_end out a.0)
-  ends_one (words.newdisk blocks None) decided = does_end [] (Ready blocks) (λ n. IsDone (OnlyBlocks (AreNew n))) (ready_one blocks)
+  ends_one timelines (words.newdisk blocks None) decided = does_end [] (Ready blocks) (λ n. IsDone (OnlyBlocks (AreNew n))) (ready_one blocks)
       (λ n went. blocks_end (AreNew n) (λ a b h k. (h.1.files ∙ sym k.1.files, h.0 ∙ sym k.0)))
-  ends_one (words.newdisk blocks (Some file)) decided =
+  ends_one timelines (words.newdisk blocks (Some file)) decided =
       does_end [] (OldSteps before blocks file) (λ old. IsDone (OnlyBlocks (AreMigrated blocks old))) (old_steps each before before before told told told blocks file)
       (λ old went. blocks_end (AreMigrated blocks old) (λ a b h k. (h.1.files ∙ sym k.1.files, h.0 ∙ sym k.0)))
-  ends_one (words.put file title) decided = does_end [] (PutSteps before file title) (λ bytes. IsDone (OnlyBlocks (ArePut title bytes)))
+  ends_one timelines (words.put file title) decided = does_end [] (PutSteps before file title) (λ bytes. IsDone (OnlyBlocks (ArePut title bytes)))
       (put_steps each before before before told told told file title)
       (λ bytes went. blocks_end (ArePut title bytes) (λ a b h k. (h.1.files ∙ sym k.1.files, h.0 ∙ sym k.0)))
-  ends_one (words.get title file) decided = does_end [] (GetSteps before title) (λ bytes. IsDone (OnlyKeeps ((file, bytes) ∷ [])))
+  ends_one timelines (words.get title file) decided = does_end [] (GetSteps before title) (λ bytes. IsDone (OnlyKeeps ((file, bytes) ∷ [])))
       (get_steps each before before before told told told title) (λ bytes went. keeps_end ((file, bytes) ∷ []))
-  ends_one (words.list file) decided = does_end [] (ListSteps before file) (λ parts. IsDone (OnlyShows (listing_of parts.words)))
+  ends_one timelines (words.list file) decided = does_end [] (ListSteps before file) (λ parts. IsDone (OnlyShows (listing_of parts.words)))
       (list_steps each before before before told told told file) (λ parts went. shows_end (listing_of parts.words))
-  ends_one (words.demo n o) decided = does_end [] (DemoSteps before o.choices) (λ choices. Demonstrates n o.turns choices o.record_file)
+  ends_one timelines (words.demo n o) decided = does_end [] (DemoSteps before o.choices) (λ choices. Demonstrates n o.turns choices o.record_file)
       (demo_steps each before before before told told told o.choices) (λ choices went. demo_end n o.turns choices o.record_file)
-  ends_one (words.check file) decided = does_end [] (TextSteps before file) (λ a. IsDone (ShowsReport a.1))
+  ends_one timelines (words.check file) decided = does_end [] (TextSteps before file) (λ a. IsDone (ShowsReport a.1))
       (compile_steps each before before before told told told file) (λ a went. report_end a.1)
-  ends_one (words.explain file) decided = does_end [] (Fetches before file) Explains (fetches_one before told.files file) (λ bytes went. explains_end bytes)
-  ends_one (words.walk file choices turns) decided = does_end [] (RunSteps before file (words.file choices)) (λ a. Walks a.0 turns a.1)
+  ends_one timelines (words.explain file) decided = does_end [] (Fetches before file) Explains (fetches_one before told.files file) (λ bytes went. explains_end bytes)
+  ends_one timelines (words.walk file choices turns) decided = does_end [] (RunSteps before file (words.file choices)) (λ a. Walks a.0 turns a.1)
       (text_steps each before before before told told told file (words.file choices)) (λ a went. walks_end a.0 turns a.1)
-  ends_one (words.watch file points_file out o) decided =
+  ends_one timelines (words.watch file points_file out o) decided =
       does_end [] (WatchSteps before file points_file o.choices) (λ a. Watches a.0 a.2 o.turns a.1 out o.record_file)
       (watch_steps each before before before told told told file points_file o.choices) (λ a went. let found = (watch_then before file points_file o.choices a went).0.1 in
       watches_end a.0 found.0 a.2 found.1 o.turns a.1 out o.record_file)
-  ends_one (words.explore file o) decided = absurd (true≢false (sym decided))
+  ends_one timelines (words.time file out o) decided =
+      does_end [] (RunSteps before file o.choices) (λ a. Times (text a.0) o.turns a.1 out o.record_file)
+      (text_steps each before before before told told told file o.choices) (λ a went. times_end timelines (text a.0) o.turns a.1 out o.record_file)
+  ends_one timelines (words.time_code file out o) decided =
+      does_end [] (ExecSteps before file o.choices) (λ a. Times (code a.0) o.turns a.1 out o.record_file)
+      (code_steps each before before before told told told file o.choices) (λ a went. times_end timelines (code a.0) o.turns a.1 out o.record_file)
+  ends_one timelines (words.explore file o) decided = absurd (true≢false (sym decided))
 
 -- THE LAW
-pub one_end : TextsAreOne → OneEnd
-one_end each s t c files one other d e f shown bytes kernel left also decided h k =
-    ends_one each files d kernel c decided s t one other e f shown bytes left also h k
+pub one_end : TextsAreOne → TimelinesAreOne → OneEnd
+one_end each timelines s t c files one other d e f shown bytes kernel left also decided h k =
+    ends_one each files d kernel timelines c decided s t one other e f shown bytes left also h k

@@ -35,6 +35,7 @@ use Rattle.edi_statuses.specs.Steps.{goes, ◌>>=◌, Accepts, Fetches, Ready}
 use Rattle.edi_statuses.specs.Walked.{Walks}
 use Rattle.edi_statuses.specs.Sessions.{BootSteps, HoldsSession, session_status}
 use Rattle.edi_statuses.specs.Explored.{ExploresText, IsTooLong, TakesAll, status_of_summary}
+use Rattle.edi_statuses.specs.Timelines.{Times}
 use Rattle.edi_statuses.specs.Decided.{IsTold, OneRefusal, OneStatus, is_decided, is_refusal}
 use Rattle.edi_statuses.proofs.Walked.{walked_same}
 use Rattle.edi_statuses.proofs.StepLemmas.{IsOne, TextsAreOne, ready_one, then_one, tests_one, fetches_one, choices_one, accepts_one, mounts_one}
@@ -133,6 +134,13 @@ module _ (each : TextsAreOne) (before after behind : Outside) (is_told : IsTold 
       let same = ended_same before after behind is_told after_told behind_told (text program) bound choices h.ending k.ending h.drawn k.drawn shown bytes
       kernel other h.ran k.ran in
       (h.status_is ∙ ap status_of same.ending ∙ sym k.status_is, same.shown_)
+
+  times_one : (program : Runnable) (bound : ℕ) (choices : Choices) (out : List ℕ) (record_file : Option (List ℕ))
+      → IsOneEffect before after behind (Times program bound choices out record_file)
+  times_one program bound choices out record_file s t shown bytes kernel other h k =
+      let same = ended_same before after behind is_told after_told behind_told program bound choices h.0 k.0 h.2.drawn k.2.drawn shown bytes
+      kernel other h.2.ran k.2.ran in
+      (h.1 ∙ ap status_of same.ending ∙ sym k.1, same.shown_)
 
   demo_one : (n bound : ℕ) (choices : Choices) (record_file : Option (List ℕ))
       → IsOneEffect before after behind (Demonstrates n bound choices record_file)
@@ -267,6 +275,10 @@ module _ (each : TextsAreOne) (before after behind : Outside) (is_told : IsTold 
   comes_one (words.watch file points_file out o) decided = does_one before after behind (WatchSteps before file points_file o.choices)
       (λ a. Watches a.0 a.2 o.turns a.1 out o.record_file) (watch_steps file points_file o.choices)
       (λ a went. watches_one a.0 a.2 o.turns a.1 out o.record_file)
+  comes_one (words.time file out o) decided = does_one before after behind (RunSteps before file o.choices)
+      (λ a. Times (text a.0) o.turns a.1 out o.record_file) (text_steps file o.choices) (λ a went. times_one (text a.0) o.turns a.1 out o.record_file)
+  comes_one (words.time_code file out o) decided = does_one before after behind (ExecSteps before file o.choices)
+      (λ a. Times (code a.0) o.turns a.1 out o.record_file) (code_steps file o.choices) (λ a went. times_one (code a.0) o.turns a.1 out o.record_file)
 
   -- ---- refusals
 

@@ -15,10 +15,10 @@ use Rattle.edi_unit.specs.Tree.{ProgramUnit}
 use Rattle.edi_words.specs.Words as words
 use Rattle.edi_words.specs.Words.{ChoicesFrom, Command}
 use Rattle.edi_statuses.specs.declared.status.Status.{Status}
-use Rattle.edi_statuses.specs.Outside.{Outside, seen, Lent, KernelLeft, Kept, Devices, devices_of, devices_with, system_on}
+use Rattle.edi_statuses.specs.Outside.{Outside, seen, Lent, KernelLeft, Kept, Devices, DevicesAreAt, devices_of, devices_with, system_on}
 use Rattle.edi_statuses.specs.Steps.{AfterStep, goes, stops, ◌>>=◌, Ready, Fetches, GivesChoices, ReadsChoices, ChoicesAreThere, Accepts, Mounts, Loads}
 use Rattle.edi_statuses.specs.Steps.{ChecksOld, FindsPoints, FitsDisk, HasRoom}
-use Rattle.edi_statuses.specs.Executions.{Runnable, HasMoment, HasRun, StandsAt, BrokeRun}
+use Rattle.edi_statuses.specs.Executions.{Runnable, FailedAt, HasCall, HasRun, StandsAt, BrokeRun}
 use Rattle.edi_session.specs.declared.end.SessionEnd.{SessionEnd}
 use Rattle.edi_session.specs.Session.{IsMomentOfSession}
 use Rattle.edi_statuses.specs.Sessions.{BootSteps, BrokeSession, HasEnded, EndedWhole, HoldsSession, shell_on}
@@ -222,6 +222,8 @@ module _ (b m : Outside) (y : Option (List ℕ)) (still : StillTold m.shown y) w
   asks_later (words.replay file choices turns) h = (h.0, third_later file (words.file choices) Accepts (goes h.0) h.1)
   asks_later (words.walk file choices turns) h = (h.0, third_later file (words.file choices) Accepts (goes h.0) h.1)
   asks_later (words.exec file o) h = (h.0, third_later file o.choices Loads (goes h.0) h.1)
+  asks_later (words.time file out o) h = (h.0, third_later file o.choices Accepts (goes h.0) h.1)
+  asks_later (words.time_code file out o) h = (h.0, third_later file o.choices Loads (goes h.0) h.1)
   asks_later (words.boot o) h = (h.0, choices_later o.choices (goes h.0) h.1)
   asks_later (words.watch file points_file out o) h = (h.0, points_later file points_file o.choices (goes h.0) h.1)
   asks_later (words.put file title) h = (h.0, fetched_later file (λ bytes. FitsDisk bytes) (goes h.0) h.1)
@@ -301,6 +303,23 @@ module _ (b m : Outside) (y : Option (List ℕ)) (still : StillTold m.shown y) w
     at = record { input = h.at.input; shown_ = h.at.shown_; printed = h.at.printed; disk = h.at.disk; count = h.at.count };
   }
 
+  at_silent : (state : State) (shown : List ℕ) → Silent (λ d e. DevicesAreAt state d e shown)
+  at_silent state shown d e bytes h = record { input = h.input; shown_ = h.shown_; printed = h.printed; disk = h.disk; count = h.count }
+
+  pub failed_silent : (s : Status) (Calls : Devices → State → State → Type 0) (shown : List ℕ) → Silent (λ d e. FailedAt s (Calls d) d e shown)
+  failed_silent s Calls shown d e bytes h = record {
+    failed = h.failed;
+    status_is = h.status_is;
+    before = h.before;
+    next = h.next;
+    calls = h.calls;
+    asks = h.asks;
+    at = elim h.at [
+      | inl first ↦ inl (at_silent h.before shown d e bytes first)
+      | inr then_ ↦ inr (at_silent h.next shown d e bytes then_)
+    ];
+  }
+
   pub runs_later : (program : Runnable) (bound : ℕ) (choices : Choices) (record_file : Option (List ℕ)) (s : Status) (shown : List ℕ) (kernel : Lent)
       → Runs program bound choices record_file s seen_then m shown kernel → Runs program bound choices record_file s seen_now now shown kernel
   runs_later program bound choices record_file s shown kernel r =
@@ -323,11 +342,11 @@ module _ (b m : Outside) (y : Option (List ℕ)) (still : StillTold m.shown y) w
       → RanUnkept program bound choices seen_then m shown kernel → RanUnkept program bound choices seen_now now shown kernel
   unkept_later program bound choices shown kernel r = (whole_later program bound choices shown kernel r.0, r.1)
 
-  pub broke_later : (program : Runnable) (bound : ℕ) (choices : Choices) (shown : List ℕ) → BrokeRun program bound choices seen_then m shown
-      → BrokeRun program bound choices seen_now now shown
-  broke_later program bound choices shown told =
-      told_later (λ d e. StandsAt (HasMoment program (system_on d) bound choices) d e shown)
-      (stands_silent (λ d. HasMoment program (system_on d) bound choices) shown) told
+  pub broke_later : (s : Status) (program : Runnable) (bound : ℕ) (choices : Choices) (shown : List ℕ) → BrokeRun s program bound choices seen_then m shown
+      → BrokeRun s program bound choices seen_now now shown
+  broke_later s program bound choices shown told =
+      told_later (λ d e. FailedAt s (HasCall program (system_on d) bound choices) d e shown)
+      (failed_silent s (λ d. HasCall program (system_on d) bound choices) shown) told
 
   -- ---- sessions
 

@@ -5,18 +5,18 @@ use Rattle.std.specs.Prelude.{◌⊎◌}
 use Rattle.edi_calls.specs.Choice.{Choices}
 use Rattle.edi_calls.specs.Outcome.{Ending}
 use Rattle.edi_calls.specs.State.{State}
-use Rattle.edi_runs.specs.walk.Walks.{IsMomentOfWalk}
+use Rattle.edi_runs.specs.walk.Walks.{IsCallOfWalk, IsMomentOfWalk}
 use Rattle.edi_runs.proofs.walk.Texts.{texts_have_one_walk}
 use Rattle.edi_words.specs.Words as words
 use Rattle.edi_statuses.specs.declared.status.Status.{Status}
 use Rattle.edi_statuses.specs.Outside.{Outside, Devices, seen, system_on, Lent}
 use Rattle.edi_statuses.specs.Steps.{goes}
-use Rattle.edi_statuses.specs.Executions.{StandsAt}
+use Rattle.edi_statuses.specs.Executions.{FailedAt, StandsAt}
 use Rattle.edi_statuses.specs.Commands.{IsNothing, RunSteps}
 use Rattle.edi_statuses.specs.Broken.{HasBegun}
-use Rattle.edi_statuses.specs.Walked.{BrokeWalk, HasWalked, Walks}
+use Rattle.edi_statuses.specs.Walked.{BrokeWalk, FailedWalk, HasWalked, Walks}
 use Rattle.edi_statuses.specs.Decided.{with_shown}
-use Rattle.edi_statuses.proofs.Terminal.{Silent, StillTold, nothing_later, run_later, stands_silent, told_later}
+use Rattle.edi_statuses.proofs.Terminal.{Silent, StillTold, failed_silent, nothing_later, run_later, stands_silent, told_later}
 
 module _ (b m : Outside) (y : Option (List ℕ)) (still : StillTold m.shown y) where
   abbrev before_ : Outside
@@ -56,7 +56,22 @@ module _ (b m : Outside) (y : Option (List ℕ)) (still : StillTold m.shown y) w
     kernel_same = h.kernel_same;
   }
 
-  pub walked_broke : (file choices : List ℕ) (bound : ℕ) (shown : List ℕ) (kernel : Lent)
+  failed_later : (bytes : List ℕ) (bound : ℕ) (choices : Choices) (shown : List ℕ) (kernel : Lent) (s : Status)
+      → FailedWalk s bytes bound choices before_ m shown kernel → FailedWalk s bytes bound choices seen_later later_ shown kernel
+  failed_later bytes bound choices shown kernel s h = record {
+    at = told_later b m y still (λ d e. FailedAt s (IsCallOfWalk bytes (system_on d) bound choices) d e shown)
+        (failed_silent b m y still s (λ d. IsCallOfWalk bytes (system_on d) bound choices) shown) h.at;
+    files = h.files;
+    kernel_same = h.kernel_same;
+  }
+
+  pub walked_failed : (file choices : List ℕ) (bound : ℕ) (shown : List ℕ) (kernel : Lent) (s : Status)
+      → HasBegun (RunSteps before_ file (words.file choices)) (λ a. FailedWalk s a.0 bound a.1 before_ m shown kernel)
+      → HasBegun (RunSteps seen_later file (words.file choices)) (λ a. FailedWalk s a.0 bound a.1 seen_later later_ shown kernel)
+  walked_failed file choices bound shown kernel s h =
+      (h.0, run_later b m y still file (words.file choices) (goes h.0) h.1, failed_later h.0.0 bound h.0.1 shown kernel s h.2)
+
+  walked_broke : (file choices : List ℕ) (bound : ℕ) (shown : List ℕ) (kernel : Lent)
       → HasBegun (RunSteps before_ file (words.file choices)) (λ a. BrokeWalk a.0 bound a.1 before_ m shown kernel)
       → HasBegun (RunSteps seen_later file (words.file choices)) (λ a. BrokeWalk a.0 bound a.1 seen_later later_ shown kernel)
   walked_broke file choices bound shown kernel h =

@@ -6,9 +6,13 @@ pub mod Images
 pub mod Calls
 pub mod Runs
 pub mod Executions
+pub mod Changes
+pub mod Lines
+pub mod Sessions
 pub mod Walks
 pub mod Plain
 pub mod Programs
+pub mod Timelines
 pub mod Puts
 pub mod OldDisks
 pub mod Refuted

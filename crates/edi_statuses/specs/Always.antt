@@ -1,5 +1,5 @@
 -- Words of contracts. The laws that a status which words and contents decide is always open: want of memory is never the only answer that is left.
-use Rattle.std.specs.Prelude.{◌≡◌, ◌≤◌, ◌⊎◌, ℕ, Bool, true, false, List, ◌++◌, Some, None, ⊤}
+use Rattle.std.specs.Prelude.{◌≡◌, ◌≤◌, ◌⊎◌, ℕ, Bool, true, false, List, [], ◌++◌, Some, None, ⊤}
 use Rattle.std.specs.List.{list_all}
 use Rattle.edi_host.specs.Blocks.{is_block}
 use Rattle.edi_host.specs.Contents.{Contents}
@@ -7,8 +7,8 @@ use Rattle.edi_calls.specs.State.{is_title}
 use Rattle.edi_words.specs.Words as words
 use Rattle.edi_words.specs.Words.{Command, command_of}
 use Rattle.edi_statuses.specs.declared.status.Status.{Status}
-use Rattle.edi_statuses.specs.Outside.{Outside, Devices, KernelLeft, Lent, outside_with}
-use Rattle.edi_statuses.specs.Steps.{Fetches}
+use Rattle.edi_statuses.specs.Outside.{Outside, Devices, KernelLeft, Lent, idle, outside_with}
+use Rattle.edi_statuses.specs.Steps.{AfterStep, stops, Fetches, Ready}
 use Rattle.edi_statuses.specs.Sessions.{BootSteps}
 use Rattle.edi_statuses.specs.Commands.{CommandEffect, Comes, RunSteps, ExecSteps, WatchSteps, TextSteps, OldSteps, PutSteps, GetSteps, ListSteps, DemoSteps}
 use Rattle.edi_statuses.specs.Broken.{WentOn}
@@ -32,12 +32,13 @@ lent_from before after = record { before = before; after = after }
 -- ---- an end that is open
 
 -- THE COMMAND MAY END: at a status that words and contents decide. There is an outside after it, told as the one before, with the bytes that were
--- shown, and a kernel, of which this effect holds; each object is left as a command may leave it.
+-- shown, and a kernel, of which this effect holds. Each object is left as a command may leave it, and a drive still has blocks of 512 bytes.
 pub record MayCome (c : Command) (effect : CommandEffect) (files : Contents) (d : Devices) (kernel : KernelLeft) : Type 0 where
   pub answer : Status
   pub decisive : IsDecisive answer
   pub files_after : Contents
   pub devices_after : Devices
+  pub sized : HasBlocks d → HasBlocks devices_after
   pub shown : List ℕ
   pub left : KernelLeft
   pub comes : effect answer (told_outside files d) (told_outside files_after devices_after) shown (lent_from kernel left)
@@ -49,28 +50,49 @@ MayEnd c = MayCome c (Comes c)
 
 -- ---- refusals
 
--- all steps of a command have gone on
-abbrev pub StepsGo : Command → Outside → Type 0
-StepsGo (words.run file o) before = WentOn (RunSteps before file o.choices)
-StepsGo (words.replay file choices turns) before = WentOn (RunSteps before file (words.file choices))
-StepsGo (words.exec file o) before = WentOn (ExecSteps before file o.choices)
-StepsGo (words.boot o) before = WentOn (BootSteps before o.choices)
-StepsGo (words.compile file out) before = WentOn (TextSteps before file)
-StepsGo (words.newdisk blocks None) before = ⊤
-StepsGo (words.newdisk blocks (Some file)) before = WentOn (OldSteps before blocks file)
-StepsGo (words.put file title) before = WentOn (PutSteps before file title)
-StepsGo (words.get title file) before = WentOn (GetSteps before title)
-StepsGo (words.list file) before = WentOn (ListSteps before file)
-StepsGo (words.demo n o) before = WentOn (DemoSteps before o.choices)
-StepsGo (words.check file) before = WentOn (TextSteps before file)
-StepsGo (words.explain file) before = WentOn (Fetches before file)
-StepsGo (words.walk file choices turns) before = WentOn (RunSteps before file (words.file choices))
-StepsGo (words.watch file points_file out o) before = WentOn (WatchSteps before file points_file o.choices)
-StepsGo (words.explore file o) before = WentOn (TextSteps before file)
+-- what is said of steps, whatever they find
+abbrev pub OfSteps : Type 1
+OfSteps = (A : Type 0) → (AfterStep A → Type 0) → Type 0
 
--- Of every command: a step stops it at such a status, or all its steps go on.
+-- THE STEPS OF EACH COMMAND, and what is said of them
+abbrev pub StepsOf : OfSteps → Command → Outside → Type 0
+StepsOf P (words.run file o) before = P _ (RunSteps before file o.choices)
+StepsOf P (words.replay file choices turns) before = P _ (RunSteps before file (words.file choices))
+StepsOf P (words.exec file o) before = P _ (ExecSteps before file o.choices)
+StepsOf P (words.boot o) before = P _ (BootSteps before o.choices)
+StepsOf P (words.compile file out) before = P _ (TextSteps before file)
+StepsOf P (words.newdisk blocks None) before = P _ (Ready blocks)
+StepsOf P (words.newdisk blocks (Some file)) before = P _ (OldSteps before blocks file)
+StepsOf P (words.put file title) before = P _ (PutSteps before file title)
+StepsOf P (words.get title file) before = P _ (GetSteps before title)
+StepsOf P (words.list file) before = P _ (ListSteps before file)
+StepsOf P (words.demo n o) before = P _ (DemoSteps before o.choices)
+StepsOf P (words.check file) before = P _ (TextSteps before file)
+StepsOf P (words.explain file) before = P _ (Fetches before file)
+StepsOf P (words.walk file choices turns) before = P _ (RunSteps before file (words.file choices))
+StepsOf P (words.watch file points_file out o) before = P _ (WatchSteps before file points_file o.choices)
+StepsOf P (words.explore file o) before = P _ (TextSteps before file)
+StepsOf P (words.time file out o) before = P _ (RunSteps before file o.choices)
+StepsOf P (words.time_code file out o) before = P _ (ExecSteps before file o.choices)
+
+-- all of them have gone on
+abbrev pub StepsGo : Command → Outside → Type 0
+StepsGo c before = StepsOf (λ A steps. WentOn steps) c before
+
+-- one of them stops the command at this status
+abbrev pub StepsStop : Status → Command → Outside → Type 0
+StepsStop s c before = StepsOf (λ A steps. steps (stops s)) c before
+
+-- A step stops the command at a status that words and contents decide, and nothing is done.
+pub record IsStopped (c : Command) (files : Contents) (d : Devices) (kernel : KernelLeft) : Type 0 where
+  pub answer : Status
+  pub decisive : IsDecisive answer
+  pub stopped : StepsStop answer c (told_outside files d)
+  pub comes : Comes c answer (told_outside files d) (told_outside files d) [] (idle kernel)
+
+-- Of every command: a step stops it so, or all its steps go on.
 abbrev pub SomeStep : Type 0
-SomeStep = (c : Command) (files : Contents) (d : Devices) (kernel : KernelLeft) → MayEnd c files d kernel ⊎ StepsGo c (told_outside files d)
+SomeStep = (c : Command) (files : Contents) (d : Devices) (kernel : KernelLeft) → IsStopped c files d kernel ⊎ StepsGo c (told_outside files d)
 
 -- ---- the whole
 
@@ -87,7 +109,6 @@ WordsGiveRanges = (given : List (List ℕ)) (c : Command) → command_of given �
 
 -- the commands of which the law speaks
 abbrev pub is_open : Command → Bool
-is_open (words.boot o) = false
 is_open (words.check file) = false
 is_open (words.explain file) = false
 is_open c = true

@@ -125,7 +125,7 @@ pub record CutsDemo (n bound : ℕ) (choices : Choices) (record_file : Option (L
 -- the program of a demonstration was broken off, and no record was kept; or its line was not shown
 abbrev pub BrokeDemo : (n bound : ℕ) → Choices → (record_file : Option (List ℕ)) → Outside → Outside → (shown : List ℕ) → Lent → Type 0
 BrokeDemo n bound choices record_file before after shown kernel =
-    OnItsOwn (λ b a. SameFiles b a × BrokeRun (text (demo_text n)) bound choices b a shown) before after
+    OnItsOwn (λ b a. SameFiles b a × BrokeRun status.OutputFault (text (demo_text n)) bound choices b a shown) before after
     ⊎ CutsDemo n bound choices record_file before after shown kernel
 
 -- the steps of a command went on, and it was broken off there

@@ -41,6 +41,7 @@ use Rattle.edi_statuses.specs.Executions.{Runnable, text, code, status_of, Ran, 
 use Rattle.edi_statuses.specs.Sessions.{BootSteps, HoldsSession}
 use Rattle.edi_statuses.specs.Walked.{Walks}
 use Rattle.edi_statuses.specs.Explored.{ExploresText}
+use Rattle.edi_statuses.specs.Timelines.{Times}
 
 -- ---- the steps of each command
 
@@ -298,3 +299,7 @@ Comes (words.watch file points_file out o) s before after shown kernel =
     Does (WatchSteps before file points_file o.choices) (λ a. Watches a.0 a.2 o.turns a.1 out o.record_file) s before after shown kernel
 Comes (words.explore file o) s before after shown kernel =
     Does (TextSteps before file) (λ a. ExploresText a.0 a.1 o) s before after shown kernel
+Comes (words.time file out o) s before after shown kernel =
+    Does (RunSteps before file o.choices) (λ a. Times (text a.0) o.turns a.1 out o.record_file) s before after shown kernel
+Comes (words.time_code file out o) s before after shown kernel =
+    Does (ExecSteps before file o.choices) (λ a. Times (code a.0) o.turns a.1 out o.record_file) s before after shown kernel

@@ -129,6 +129,42 @@ pub record UnusedStay {F D S T P K : Type 0} (c : Option Command) (s : Status) (
   pub printer : comes_to uses_devices c s ≡ false → after.printer ≡ before.printer
   pub kernel : comes_to uses_kernel c s ≡ false → after.kernel ≡ before.kernel
 
+-- the drive was asked, and is no valid image: no step went further
+abbrev pub is_at_drive : Status → Bool
+is_at_drive (status.BadImage broken) = true
+is_at_drive s = false
+
+-- or it is one, and has no file of the title
+abbrev pub is_unread : Status → Bool
+is_unread status.Absent = true
+is_unread s = is_at_drive s
+
+-- whether the drive is mounted after the other steps, or before them
+abbrev pub is_last : DriveUse → Bool
+is_last mounts_last = true
+is_last other = false
+
+abbrev pub is_first : DriveUse → Bool
+is_first mounts_first = true
+is_first other = false
+
+abbrev pub asks_last : Command → Bool
+asks_last c = is_last (facts_of c).drive
+
+abbrev pub asks_first : Command → Bool
+asks_first c = is_first (facts_of c).drive
+
+-- the input, the printer and the kernel are not touched
+pub record RunStays {F D S T P K : Type 0} (before after : Handed F D S T P K) : Type 0 where
+  pub input : after.input ≡ before.input
+  pub printer : after.printer ≡ before.printer
+  pub kernel : after.kernel ≡ before.kernel
+
+-- A command that finds no valid image has come to nothing that it uses after that.
+pub record UnmountedStay {F D S T P K : Type 0} (c : Option Command) (s : Status) (before after : Handed F D S T P K) : Type 0 where
+  pub last : command_does asks_last c ≡ true → is_at_drive s ≡ true → RunStays before after
+  pub first : command_does asks_first c ≡ true → is_unread s ≡ true → after.files ≡ before.files
+
 -- the devices and the kernel are not touched
 pub record DevicesStay {F D S T P K : Type 0} (before after : Handed F D S T P K) : Type 0 where
   pub drive : after.drive ≡ before.drive

@@ -1,7 +1,10 @@
 -- Definition. What a command leaves that has run a program.
-use Rattle.std.specs.Prelude.{◌≡◌, ℕ, min, List, [], ◌∷◌, Option, Some, None, ⊤}
+use Rattle.std.specs.Prelude.{◌≡◌, ◌⊎◌, ℕ, min, List, [], ◌∷◌, Option, Some, None, ⊤}
 use Rattle.edi_told.specs.Told.{WhereTold}
+use Rattle.edi_calls.specs.declared.ends.Outside as failing
+use Rattle.edi_calls.specs.declared.ends.Outside.TheVariants as object
 use Rattle.edi_calls.specs.declared.kinds.Cause.TheVariants as cause
+use Rattle.edi_calls.specs.Asked.{Asks}
 use Rattle.edi_calls.specs.Choice.{Choices, first_choices}
 use Rattle.edi_calls.specs.Outcome as outcome
 use Rattle.edi_calls.specs.Outcome.{Ending, Outcome}
@@ -10,7 +13,7 @@ use Rattle.edi_meaning.specs.Bad.{IsNoBad}
 use Rattle.edi_target.specs.Check.{CodeParts}
 use Rattle.edi_target.specs.Fetch.{fetch}
 use Rattle.edi_target.specs.Mach.{Ends, Machine}
-use Rattle.edi_texts.specs.Run.{IsCodeFor, IsMomentOf, IsMomentOfCode, IsRunOf, IsRunOfCode}
+use Rattle.edi_texts.specs.Run.{IsCallOf, IsCallOfCode, IsCodeFor, IsRunOf, IsRunOfCode}
 use Rattle.edi_trace.specs.Drawn.{most_kept}
 use Rattle.edi_trace.specs.Lines.{written}
 use Rattle.edi_statuses.specs.declared.status.Status.{Status}
@@ -28,9 +31,10 @@ abbrev pub HasOutcome : Runnable → State → (bound : ℕ) → Choices → Out
 HasOutcome (text bytes) system bound choices o = IsRunOf bytes system bound choices o
 HasOutcome (code parts) system bound choices o = IsRunOfCode parts system bound choices o
 
-abbrev pub HasMoment : Runnable → State → (bound : ℕ) → Choices → State → Type 0
-HasMoment (text bytes) system bound choices moment = IsMomentOf bytes system bound choices moment
-HasMoment (code parts) system bound choices moment = IsMomentOfCode parts system bound choices moment
+-- in its execution the second state of the system is the one that the next call leaves after the first
+abbrev pub HasCall : Runnable → State → (bound : ℕ) → Choices → (before next : State) → Type 0
+HasCall (text bytes) system bound choices before next = IsCallOf bytes system bound choices before next
+HasCall (code parts) system bound choices before next = IsCallOfCode parts system bound choices before next
 
 -- the code that the lent kernel has run
 abbrev pub HasCode : Runnable → CodeParts → Type 0
@@ -92,16 +96,34 @@ Ran program bound choices ending drawn before after shown kernel =
 
 -- ---- where an object outside has failed in the midst of them
 
--- The devices are at one moment of the execution, at which just these bytes were shown and printed. A change of the files in
--- which the drive failed leaves them at the moment before it or at the one behind it.
+-- the status of the fault of an object
+abbrev pub object_status : failing.Outside → Status
+object_status object.Drive = status.DriveFault
+object_status object.Input = status.InputFault
+object_status object.Terminal = status.OutputFault
+object_status object.Printer = status.OutputFault
+
+-- The execution was broken off in a call that uses an object whose fault this status is. The devices are as they were before that call, or
+-- as it was to leave them: a change of the files in which the drive failed may have been made.
+pub record FailedAt (s : Status) (Calls : State → State → Type 0) (d e : Devices) (shown : List ℕ) : Type 0 where
+  pub failed : failing.Outside
+  pub status_is : object_status failed ≡ s
+  pub before : State
+  pub next : State
+  pub calls : Calls before next
+  pub asks : Asks failed before next
+  pub at : DevicesAreAt before d e shown ⊎ DevicesAreAt next d e shown
+
+abbrev pub BrokeRun : Status → Runnable → (bound : ℕ) → Choices → Outside → Outside → (shown : List ℕ) → Type 0
+BrokeRun s program bound choices before after shown =
+    WhereTold (devices_of before) (devices_of after) (λ d e. FailedAt s (HasCall program (system_on d) bound choices) d e shown)
+
+-- The devices are at one moment of a walk or a session, at which just these bytes were shown and printed. A change of the files
+-- in which the drive failed leaves them at the moment before it or at the one after it.
 pub record StandsAt (Comes : State → Type 0) (d e : Devices) (shown : List ℕ) : Type 0 where
   pub moment : State
   pub comes : Comes moment
   pub at : DevicesAreAt moment d e shown
-
-abbrev pub BrokeRun : Runnable → (bound : ℕ) → Choices → Outside → Outside → (shown : List ℕ) → Type 0
-BrokeRun program bound choices before after shown =
-    WhereTold (devices_of before) (devices_of after) (λ d e. StandsAt (HasMoment program (system_on d) bound choices) d e shown)
 
 -- ---- the record
 

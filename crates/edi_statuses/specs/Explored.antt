@@ -1,6 +1,6 @@
 -- Definition. What `explore` leaves: the endings of a text were looked for, whatever the choices are. Lines tell what was found, and the choices of
 -- the endings are kept.
-use Rattle.std.specs.Prelude.{◌≡◌, ◌<◌, ◌≤◌, ◌⊎◌, ℕ, suc, Bool, true, false, List, [], ◌∷◌, ◌++◌, length, drop, Option, Some, None}
+use Rattle.std.specs.Prelude.{◌≡◌, ◌<◌, ◌≤◌, ◌⊎◌, ℕ, suc, Bool, true, false, List, [], ◌∷◌, ◌++◌, length, drop, Option, Some, None, is_some}
 use Rattle.edi_told.specs.Told.{WhereTold}
 use Rattle.edi_unit.specs.Tree.{ProgramUnit}
 use Rattle.edi_runs.specs.declared.explore.summary.Summary.{Summary}
@@ -9,7 +9,7 @@ use Rattle.edi_runs.specs.explore.Explorations.{Findings, IsExplorationOf}
 use Rattle.edi_runs.specs.explore.Input.{names_accept, most_input}
 use Rattle.edi_runs.specs.explore.Lines.{report_text, summary_of}
 use Rattle.edi_runs.specs.explore.Records.{most_records, record_names, records_of}
-use Rattle.edi_words.specs.Words.{ExploreOptions}
+use Rattle.edi_words.specs.Words.{Command, ExploreOptions, explore}
 use Rattle.edi_statuses.specs.declared.status.Status.{Status}
 use Rattle.edi_statuses.specs.declared.status.Status.TheVariants as status
 use Rattle.edi_statuses.specs.Fronts.{IsFront}
@@ -23,6 +23,13 @@ status_of_summary summary.Fine = status.Ok
 status_of_summary summary.Endless = status.NoEnding
 status_of_summary summary.NotAll = status.NotAll
 status_of_summary (summary.Found n) = status.Found n
+
+-- ---- who is told how far it is
+
+-- Only an exploration tells it. What it tells is no part of what the call shows.
+abbrev pub is_exploration : Command → Bool
+is_exploration (explore file o) = true
+is_exploration c = false
 
 -- ---- the input
 
@@ -63,7 +70,7 @@ LosesInput unit before after shown kernel = (names_accept unit ≡ true) × Only
 pub record Explored (bytes : List ℕ) (unit : ProgramUnit) (o : ExploreOptions) (findings : Findings) (before after : Outside) : Type 0 where
   pub input : List ℕ
   pub takes : TakesAll (names_accept unit) input before after
-  pub is : IsExplorationOf bytes input o.states o.turns findings
+  pub is : IsExplorationOf bytes input o.states o.turns o.shown findings
   pub blocks : SameBlocks before after
   pub printed : SamePrinted before after
 
@@ -72,7 +79,7 @@ pub record Explores (bytes : List ℕ) (unit : ProgramUnit) (o : ExploreOptions)
   pub findings : Findings
   pub explored : Explored bytes unit o findings before after
   pub status_is : s ≡ status_of_summary (summary_of findings)
-  pub shown_ : shown ≡ report_text o.record_file findings
+  pub shown_ : shown ≡ report_text (is_some o.shown) o.record_file findings
   pub keeps : Keeps before after (records_of o.record_file findings.endings)
 
 -- so, or the input is too long
@@ -109,14 +116,14 @@ pub record ExploredThen (Leaves : List Kept → Outside → Outside → Type 0) 
     (before after : Outside) (shown : List ℕ) : Type 0 where
   pub findings : Findings
   pub explored : Explored bytes unit o findings before after
-  pub shown_ : shown ≡ report_text o.record_file findings
+  pub shown_ : shown ≡ report_text (is_some o.shown) o.record_file findings
   pub files : Leaves (records_of o.record_file findings.endings) before after
 
 -- a first part of the lines was shown
 pub record ExploredFront (bytes : List ℕ) (unit : ProgramUnit) (o : ExploreOptions) (before after : Outside) (shown : List ℕ) : Type 0 where
   pub findings : Findings
   pub explored : Explored bytes unit o findings before after
-  pub front : IsFront shown (report_text o.record_file findings)
+  pub front : IsFront shown (report_text (is_some o.shown) o.record_file findings)
 
 -- the input was taken as for an exploration, and nothing was shown or kept; of the lent kernel nothing is said
 pub record ExploredUnshown (unit : ProgramUnit) (before after : Outside) (shown : List ℕ) : Type 0 where

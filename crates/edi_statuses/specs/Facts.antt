@@ -6,6 +6,8 @@ use Rattle.edi_utils.specs.Demo.{demo_text}
 use Rattle.edi_utils.specs.Listing.{listing_of}
 use Rattle.edi_words.specs.Words as words
 use Rattle.edi_words.specs.Words.{ChoicesFrom, Command}
+use Rattle.edi_statuses.specs.declared.status.Status.{Status}
+use Rattle.edi_statuses.specs.declared.status.Status.TheVariants as status
 use Rattle.edi_statuses.specs.Outside.{Outside, Lent}
 use Rattle.edi_statuses.specs.Steps.{AfterStep, ◌>>=◌, Fetches, ReadsChoices, FitsDisk}
 use Rattle.edi_statuses.specs.Executions.{Runnable, text, code, BrokeRun}
@@ -14,8 +16,9 @@ use Rattle.edi_statuses.specs.Commands.{IsNothing, OnItsOwn, RunSteps, ExecSteps
 use Rattle.edi_statuses.specs.Broken.{RanWhole, RanUnkept, AtRecord, HasNotBegun, ChangesDrive, ArePutInPart, IsOpen, BrokeDemo}
 use Rattle.edi_statuses.specs.Broken.{ShowsFront, ShowsReportFront, ExplainsFront}
 use Rattle.edi_statuses.specs.Broken.{HasBegun, WentOn, RunAsks, ExecAsks, WatchAsks, WatchedLost, WatchedUnkept}
-use Rattle.edi_statuses.specs.Walked.{BrokeWalk}
+use Rattle.edi_statuses.specs.Walked.{BrokeWalk, FailedWalk}
 use Rattle.edi_statuses.specs.Explored.{ExploredFront, ExploredInPart, ExploredThen, LosesInput, LosesNext, names_of_records}
+use Rattle.edi_statuses.specs.Timelines.{TimedInPart, TimedLost, timeline_names}
 
 -- ---- facts
 
@@ -108,8 +111,8 @@ on_devices fetches record_file = record plain {
 abbrev pub program_run : {A : Type 0} → (file : List ℕ) → (asks : Outside → Type 0) → (steps : Outside → AfterStep A → Type 0)
     → (program : A → Runnable) → (choices : A → Choices) → (bound : ℕ) → (record_file : Option (List ℕ)) → Facts
 program_run file asks steps program choices bound record_file =
-    let broken : Left = λ before after shown kernel.
-    HasBegun (steps before) (λ a. BrokeRun (program a) bound (choices a) before after shown) in
+    let broken : Status → Left = λ s before after shown kernel.
+    HasBegun (steps before) (λ a. BrokeRun s (program a) bound (choices a) before after shown) in
     record (on_devices (file_named file) record_file) {
       asks_drive = asks;
       no_memory = λ before after shown kernel.
@@ -117,10 +120,22 @@ program_run file asks steps program choices bound record_file =
           ⊎ AtRecord record_file (steps before) (λ a. RanUnkept (program a) bound (choices a) before after shown kernel);
       files_failed = λ before after shown kernel.
           AtRecord record_file (steps before) (λ a. RanWhole (program a) bound (choices a) before after shown kernel);
-      drive_failed = broken;
-      input_failed = broken;
-      output_failed = broken;
+      drive_failed = broken status.DriveFault;
+      input_failed = broken status.InputFault;
+      output_failed = broken status.OutputFault;
     }
+
+-- One that runs the program of a file and keeps a timeline of it, after the record. Memory runs out before the first effect, or when a file is to be kept.
+abbrev pub timed_run : {A : Type 0} → (file : List ℕ) → (asks : Outside → Type 0) → (steps : Outside → AfterStep A → Type 0)
+    → (program : A → Runnable) → (choices : A → Choices) → (bound : ℕ) → (out : List ℕ) → (record_file : Option (List ℕ)) → Facts
+timed_run file asks steps program choices bound out record_file = record (program_run file asks steps program choices bound record_file) {
+  keeps = timeline_names out;
+  no_memory = λ before after shown kernel.
+      IsNothing before after shown kernel
+      ⊎ HasBegun (steps before) (λ a. TimedInPart (program a) bound (choices a) out record_file before after shown kernel);
+  files_failed = λ before after shown kernel.
+      HasBegun (steps before) (λ a. TimedLost (program a) bound (choices a) out record_file before after shown kernel);
+}
 
 -- ---- rows by the operand that may be there
 
@@ -217,15 +232,17 @@ facts_of (words.explain file) = record plain {
   output_failed = λ before after shown kernel. HasBegun (Fetches before file) (λ bytes. ExplainsFront bytes before after shown kernel);
 }
 facts_of (words.walk file choices turns) =
-    let broken : Left = λ before after shown kernel.
-    HasBegun (RunSteps before file (words.file choices)) (λ a. BrokeWalk a.0 turns a.1 before after shown kernel) in
+    let failed : Status → Left = λ s before after shown kernel.
+    HasBegun (RunSteps before file (words.file choices)) (λ a. FailedWalk s a.0 turns a.1 before after shown kernel) in
     record (on_devices (file_named file) None) {
       kernel = false;
       asks_drive = λ before. RunAsks before file (words.file choices);
-      no_memory = λ before after shown kernel. IsNothing before after shown kernel ⊎ broken before after shown kernel;
-      drive_failed = broken;
-      input_failed = broken;
-      output_failed = broken;
+      no_memory = λ before after shown kernel.
+          IsNothing before after shown kernel
+          ⊎ HasBegun (RunSteps before file (words.file choices)) (λ a. BrokeWalk a.0 turns a.1 before after shown kernel);
+      drive_failed = failed status.DriveFault;
+      input_failed = failed status.InputFault;
+      output_failed = failed status.OutputFault;
     }
 facts_of (words.watch file points_file out o) =
     record (program_run file (λ before. WatchAsks before file points_file o.choices) (λ before. WatchSteps before file points_file o.choices) (λ a. text a.0) (λ a. a.1)
@@ -253,3 +270,7 @@ facts_of (words.explore file o) = record plain {
   input_failed = λ before after shown kernel. HasBegun (TextSteps before file) (λ a. LosesInput a.1 before after shown kernel);
   output_failed = λ before after shown kernel. HasBegun (TextSteps before file) (λ a. ExploredFront a.0 a.1 o before after shown);
 }
+facts_of (words.time file out o) =
+    timed_run file (λ before. RunAsks before file o.choices) (λ before. RunSteps before file o.choices) (λ a. text a.0) (λ a. a.1) o.turns out o.record_file
+facts_of (words.time_code file out o) =
+    timed_run file (λ before. ExecAsks before file o.choices) (λ before. ExecSteps before file o.choices) (λ a. code a.0) (λ a. a.1) o.turns out o.record_file

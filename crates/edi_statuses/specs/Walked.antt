@@ -4,10 +4,10 @@ use Rattle.edi_told.specs.Told.{WhereTold}
 use Rattle.edi_calls.specs.Choice.{Choices}
 use Rattle.edi_calls.specs.Outcome.{Ending}
 use Rattle.edi_calls.specs.State.{State}
-use Rattle.edi_runs.specs.walk.Walks.{IsMomentOfWalk, IsWalkEnding, IsWalkOf}
+use Rattle.edi_runs.specs.walk.Walks.{IsCallOfWalk, IsMomentOfWalk, IsWalkEnding, IsWalkOf}
 use Rattle.edi_statuses.specs.declared.status.Status.{Status}
 use Rattle.edi_statuses.specs.Outside.{Outside, Devices, DevicesAreAt, SameFiles, devices_of, system_on, Lent}
-use Rattle.edi_statuses.specs.Executions.{StandsAt, status_of}
+use Rattle.edi_statuses.specs.Executions.{FailedAt, StandsAt, status_of}
 
 -- The walk of the text on the devices `d` has ended so and has left `e`, with these bytes shown.
 pub record HasWalked (bytes : List ℕ) (bound : ℕ) (choices : Choices) (ending : Ending) (d e : Devices) (shown : List ℕ) : Type 0 where
@@ -24,9 +24,15 @@ pub record Walks (bytes : List ℕ) (bound : ℕ) (choices : Choices) (s : Statu
   pub files : SameFiles before after
   pub kernel_same : kernel.after ≡ kernel.before
 
--- The walk was broken off: memory ran out, or an object failed. The devices are at one moment of it, at which just these bytes were shown and
--- printed; a change of the files in which the drive failed leaves them at the moment before it or at the one after it.
+-- The walk was broken off, as memory ran out. The devices are at one moment of it, at which just these bytes were shown and printed.
 pub record BrokeWalk (bytes : List ℕ) (bound : ℕ) (choices : Choices) (before after : Outside) (shown : List ℕ) (kernel : Lent) : Type 0 where
   pub at : WhereTold (devices_of before) (devices_of after) (λ d e. StandsAt (IsMomentOfWalk bytes (system_on d) bound choices) d e shown)
+  pub files : SameFiles before after
+  pub kernel_same : kernel.after ≡ kernel.before
+
+-- The walk was broken off in a call that an object has failed whose fault this status is. The devices are as they were before that call,
+-- or as it was to leave them.
+pub record FailedWalk (s : Status) (bytes : List ℕ) (bound : ℕ) (choices : Choices) (before after : Outside) (shown : List ℕ) (kernel : Lent) : Type 0 where
+  pub at : WhereTold (devices_of before) (devices_of after) (λ d e. FailedAt s (IsCallOfWalk bytes (system_on d) bound choices) d e shown)
   pub files : SameFiles before after
   pub kernel_same : kernel.after ≡ kernel.before

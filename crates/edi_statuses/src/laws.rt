@@ -24,14 +24,15 @@ pub fn lines_end()
     ensures law { LinesEnd }
 {}
 
-/// Of every command, whatever is told before it: a step stops it at a status that words and contents decide, with nothing done; or all its steps go on.
+/// Of every command, whatever is told before it: a step stops it at a status that words and contents decide, and the table of commands has it end
+/// there with nothing done; or all its steps go on.
 pub fn some_step()
     ensures law { SomeStep }
 {}
 
 /// Whatever is told before a command, there is an end of it at a status that words and contents decide. So want of memory is never the only answer that
-/// the contracts leave. The law speaks of every command but `boot`, with the numbers and titles that words give, on drives that have blocks of 512 bytes. Of `check` and `explain` it is only false
-/// that there is no such end.
+/// the contracts leave. The law speaks of every command, with the numbers and titles that words give, on drives that have blocks of 512 bytes. Of
+/// `check` and `explain` it is only false that there is no such end.
 pub fn some_status()
     ensures law { SomeStatus }
     ensures not_none { NotRefuted }

@@ -18,7 +18,7 @@ use std::fmt;
 pub enum Status {
     /// The command did what it says; the program that ran came to its end; the session was halted or its input ended.
     Ok,
-    /// The words are not those of a command, or of one that is not built yet.
+    /// The words are not those of a command.
     Words,
     /// The text has this first fault, on this line, counted from 1; the line of a text that is too long is 0.
     Refused(RefusalKind, u16),

@@ -14,4 +14,5 @@ pub mod Protecting
 pub mod Calling
 pub mod Limits
 pub mod Due
+pub mod Used
 pub mod Chained

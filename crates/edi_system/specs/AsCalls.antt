@@ -1,8 +1,9 @@
 -- Words of contracts. What a system is to the calls of a program.
-use Rattle.std.specs.Prelude.{◌≡◌, ℕ, ◌≤◌, Bool, false, List, [], ◌∷◌, drop, length, Option, None, IfSome}
+use Rattle.std.specs.Prelude.{◌≡◌, ℕ, ◌≤◌, Bool, true, false, List, [], ◌∷◌, drop, length, Option, None, IfSome}
 use Rattle.edi_told.specs.Told.{WhereTold}
 use Rattle.edi_disk.specs.Shown.{reference_of}
 use Rattle.edi_calls.specs.declared.ends.Outside.{Outside}
+use Rattle.edi_calls.specs.Asked.{uses}
 use Rattle.edi_catalog.specs.Mounted.{disk_of, room_reference}
 use Rattle.edi_system.specs.State.{buffer_reference, catalog_in, drive_in, due_in, failed_in, input_in, input_reference, printer_in, printer_reference}
 use Rattle.edi_system.specs.State.{terminal_in, terminal_reference, IsReady}
@@ -16,6 +17,10 @@ pub record HasFailed {D S T P : Type 0} (contents : D → Option (List (List ℕ
   where
     pub is : failed_in system ≡ outside
     pub ready : outside ≡ None → IsReady contents count system
+
+-- what has failed, if anything has, is an object that the call of this number uses
+abbrev pub FailsUsed : {D S T P : Type 0} → (number : ℕ) → System D S T P → Type 0
+FailsUsed number system = IfSome (failed_in system) (λ outside. uses number outside ≡ true)
 
 -- the references to its objects: the drive, the room of the catalogue, the input, the terminal, the printer and the buffer
 abbrev pub references_in : {D S T P : Type 0} → System D S T P → List ℕ

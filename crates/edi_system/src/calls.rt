@@ -4,7 +4,7 @@ ghost use Rattle.std.specs.Prelude.{◌≡◌, ◌≤◌, false, length, Err};
 ghost use Rattle.edi_told.specs.Told.{WhereTold};
 ghost use Rattle.edi_calls.specs.Calls.{argument_words, call};
 ghost use Rattle.edi_system.specs.State.{state_of, IsReady};
-ghost use Rattle.edi_system.specs.AsCalls.{KeepsSystem};
+ghost use Rattle.edi_system.specs.AsCalls.{FailsUsed, KeepsSystem};
 ghost use Rattle.edi_system.specs.Does.{Does};
 ghost use Rattle.edi_system.specs.Ends.{is_fault, Reaches};
 ghost use Rattle.edi_system.specs.Parts.{KeepsTold};
@@ -26,6 +26,8 @@ impl<D: Drive, S: Source, T: Sink, P: Sink> System<'_, '_, '_, '_, '_, '_, D, S,
             (λ before after. Reaches (call number args.now before) result before after) }
         // What it leaves of the open files and of the kept catalogue, and the objects that it uses: also where none is told.
         ensures does { Does D.contents D.count S.left T.taken P.taken number args.now result self.old self.new }
+        // Where it is a fault, only an object has failed that the call uses.
+        ensures used { FailsUsed number self.new }
         ensures untouched { result ≡ Err Stop.NoFile → self.new ≡ self.old }
         ensures ready { is_fault result ≡ false → IsReady D.contents D.count self.new }
         ensures told { KeepsTold D.contents S.left T.taken P.taken self.old self.new }
@@ -64,7 +66,7 @@ impl<'d, 'c, 'i, 't, 'p, 'b, D: Drive, S: Source, T: Sink, P: Sink> Calls
 
     ghost one_failed = { λ system one other p q. sym p.is ∙ q.is };
 
-    #[tactic(auto, using(crate::proofs::Chained::behind_one_more))]
+    #[tactic(auto, using(crate::proofs::Chained::behind_one_more, crate::proofs::Used::used_by))]
     fn call(&mut self, number: u8, args: &[u16], answer: &mut [u16]) -> CallEnd {
         match self.program_call(number, args) {
             Ok(Some(word)) => {

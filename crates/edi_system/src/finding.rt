@@ -1,14 +1,15 @@
 //! The found file.
+#![tactic(auto, using(crate::proofs::Used::nothing_used, crate::proofs::Used::looked_used))]
 
-ghost use Rattle.std.specs.Prelude.{◌≡◌, ◌<◌, ◌↔◌, false, length, is_some, Ok, Err, None, Some, IfOk, IfSome, IsSome, OnOk};
+ghost use Rattle.std.specs.Prelude.{◌≡◌, ◌<◌, ◌↔◌, false, length, is_some, Ok, Err, None, Some, IfOk, IfSome, IsSome, OnOk, if◌then◌else◌};
 ghost use Rattle.edi_told.specs.Told.{WhereTold};
 ghost use Rattle.edi_calls.specs.Calls.{find, more, read, word_of};
 ghost use Rattle.edi_catalog.specs.Mounted.{files_of};
-ghost use Rattle.edi_system.specs.State.{buffer_in, catalog_in, state_of, IsReady};
+ghost use Rattle.edi_system.specs.State.{buffer_in, catalog_in, failed_in, state_of, IsReady};
 ghost use Rattle.edi_system.specs.Catalogue.{OnlyReading};
 ghost use Rattle.edi_system.specs.Does.{MayLackFile, NeedsFile};
 ghost use Rattle.edi_system.specs.Ends.{is_fault, Keeps, Reaches};
-ghost use Rattle.edi_system.specs.AsCalls.{KeepsDue, KeepsSystem};
+ghost use Rattle.edi_system.specs.AsCalls.{FailsUsed, KeepsDue, KeepsSystem};
 ghost use Rattle.edi_system.specs.Loading.{IsOn, LoadsNext};
 ghost use Rattle.edi_system.specs.Parts.{KeepsTold, OnlyOpenFiles};
 ghost use Rattle.edi_system.specs.Reading.{text_spelled, CatalogRests, LooksAt, LooksIn, MoreIs, ReadsOn};
@@ -28,6 +29,7 @@ impl<D: Drive, S: Source, T: Sink, P: Sink> System<'_, '_, '_, '_, '_, '_, D, S,
         ensures exact { WhereTold (state_of D.contents S.left T.taken P.taken self.old) (state_of D.contents S.left T.taken P.taken self.new)
             (λ before after. Reaches (find words.now before) result before after) }
         ensures only { OnlyOpenFiles self.old self.new }
+        ensures used { FailsUsed 4 self.new }
         ensures found { self.new.found ≡ text_spelled words.now (files_of (catalog_in self.old)) }
         ensures answer { result ≡ Ok (Some (word_of (is_some self.new.found))) }
         ensures buffer { buffer_in self.new ≡ buffer_in self.old }
@@ -52,6 +54,7 @@ impl<D: Drive, S: Source, T: Sink, P: Sink> System<'_, '_, '_, '_, '_, '_, D, S,
         ensures loads { OnOk result (LoadsNext self.old.found self.new.found self.old.page self.new.page (catalog_in self.old) (catalog_in self.new)) }
         ensures on { IfOk result (IsOn self.new.page self.old.found) }
         ensures only { OnlyReading self.old self.new }
+        ensures failed { failed_in self.new ≡ (if is_fault result then Some Outside.Drive else None) }
         ensures rests { CatalogRests D.contents D.count (catalog_in self.old) (catalog_in self.new) }
         ensures untouched { result ≡ Err Stop.NoFile → self.new ≡ self.old }
         ensures ready { is_fault result ≡ false → IsReady D.contents D.count self.new }
@@ -81,6 +84,7 @@ impl<D: Drive, S: Source, T: Sink, P: Sink> System<'_, '_, '_, '_, '_, '_, D, S,
         ensures exact { WhereTold (state_of D.contents S.left T.taken P.taken self.old) (state_of D.contents S.left T.taken P.taken self.new)
             (λ before after. Reaches (more before) result before after) }
         ensures needs { NeedsFile D.contents D.count result self.old self.new }
+        ensures used { FailsUsed 5 self.new }
         ensures tells { IfOk result (λ word. MoreIs word self.old.found self.new.found) }
         ensures untouched { result ≡ Err Stop.NoFile → self.new ≡ self.old }
         ensures ready { is_fault result ≡ false → IsReady D.contents D.count self.new }
@@ -99,6 +103,7 @@ impl<D: Drive, S: Source, T: Sink, P: Sink> System<'_, '_, '_, '_, '_, '_, D, S,
         ensures exact { WhereTold (state_of D.contents S.left T.taken P.taken self.old) (state_of D.contents S.left T.taken P.taken self.new)
             (λ before after. Reaches (read before) result before after) }
         ensures needs { NeedsFile D.contents D.count result self.old self.new }
+        ensures used { FailsUsed 6 self.new }
         ensures moves { IfOk result (λ word. ReadsOn word self.new.page self.old.found self.new.found) }
         ensures untouched { result ≡ Err Stop.NoFile → self.new ≡ self.old }
         ensures ready { is_fault result ≡ false → IsReady D.contents D.count self.new }

@@ -1,5 +1,5 @@
 //! The input, the terminal and the printer.
-#![tactic(auto, using(crate::proofs::Characters::shows_as, crate::proofs::Characters::prints_as))]
+#![tactic(auto, using(crate::proofs::Characters::shows_as, crate::proofs::Characters::prints_as, crate::proofs::Used::taken_used, crate::proofs::Used::shown_used, crate::proofs::Used::printed_used))]
 
 ghost use Rattle.std.specs.Prelude.{◌≡◌, ◌%◌, true, false, not, Err, None, Some, if◌then◌else◌, [], ◌∷◌};
 ghost use Rattle.edi_told.specs.Told.{WhereTold};
@@ -7,7 +7,7 @@ ghost use Rattle.edi_host.specs.Streams.{Takes, next_fault};
 ghost use Rattle.edi_calls.specs.Calls.{accept, display, print, word_of};
 ghost use Rattle.edi_system.specs.State.{due_in, failed_in, input_in, state_of, IsReady};
 ghost use Rattle.edi_system.specs.Ends.{is_fault, Keeps, Reaches};
-ghost use Rattle.edi_system.specs.AsCalls.{KeepsDue, KeepsSystem};
+ghost use Rattle.edi_system.specs.AsCalls.{FailsUsed, KeepsDue, KeepsSystem};
 ghost use Rattle.edi_system.specs.Does.{AcceptsByte, AsksOnly, TellsOnly};
 ghost use Rattle.edi_system.specs.Parts.{due_after, line_end, KeepsTold, OnlyInput, OnlyPrinter, OnlyTerminal, Prints, PrintsMore, Shows, ShowsMore, TakesByte};
 
@@ -146,6 +146,7 @@ impl<D: Drive, S: Source, T: Sink, P: Sink> System<'_, '_, '_, '_, '_, '_, D, S,
         ensures asks { AsksOnly result }
         ensures accepts { WhereTold (S.left (input_in self.old)) (S.left (input_in self.new)) (AcceptsByte result) }
         ensures only { OnlyInput self.old self.new }
+        ensures used { FailsUsed 1 self.new }
         ensures untouched { result ≡ Err Stop.NoFile → self.new ≡ self.old }
         ensures ready { is_fault result ≡ false → IsReady D.contents D.count self.new }
         ensures told { KeepsTold D.contents S.left T.taken P.taken self.old self.new }
@@ -166,6 +167,7 @@ impl<D: Drive, S: Source, T: Sink, P: Sink> System<'_, '_, '_, '_, '_, '_, D, S,
         ensures tells { TellsOnly result }
         ensures shows { Shows T.taken (not (is_fault result)) (word % 128 ∷ []) self.old self.new }
         ensures only { OnlyTerminal self.old self.new }
+        ensures used { FailsUsed 2 self.new }
         ensures untouched { result ≡ Err Stop.NoFile → self.new ≡ self.old }
         ensures ready { is_fault result ≡ false → IsReady D.contents D.count self.new }
         ensures told { KeepsTold D.contents S.left T.taken P.taken self.old self.new }
@@ -186,6 +188,7 @@ impl<D: Drive, S: Source, T: Sink, P: Sink> System<'_, '_, '_, '_, '_, '_, D, S,
         ensures tells { TellsOnly result }
         ensures prints { Prints P.taken (not (is_fault result)) (word % 128 ∷ []) self.old self.new }
         ensures only { OnlyPrinter self.old self.new }
+        ensures used { FailsUsed 3 self.new }
         ensures untouched { result ≡ Err Stop.NoFile → self.new ≡ self.old }
         ensures ready { is_fault result ≡ false → IsReady D.contents D.count self.new }
         ensures told { KeepsTold D.contents S.left T.taken P.taken self.old self.new }

@@ -16,7 +16,7 @@ use Rattle.edi_unit.specs.Tree.{ProgramUnit}
 use Rattle.edi_texts.specs.Texts.{IsUnit}
 use Rattle.edi_texts.specs.Length.{symbol_count}
 use Rattle.edi_texts.specs.Executions.{AcceptedTextsRun, TextsHaveOneOutcome, RunsAreNeverBad}
-use Rattle.edi_texts.specs.Run.{IsRunOfCode, IsMomentOfCode, IsCodeFor}
+use Rattle.edi_texts.specs.Run.{IsRunOfCode, IsMomentOfCode, IsCallOfCode, HasCallOf, IsCodeFor}
 use Rattle.edi_texts.proofs.Once.{one_unit}
 
 pub accepted_texts_run : AcceptedTextsRun
@@ -34,14 +34,16 @@ runs_are_never_bad text system bound choices outcome h =
     subst P (sym (ap (λ (o : Outcome). o.ending) h.run.6))
     (selection_is_never_bad h.unit (fresh system) bound choices h.run.0 h.run.1 h.run.2 h.run.3 h.run.4 h.run.5)
 
--- code that has the outcomes and the moments of the unit of a text
+-- code that has the outcomes, the moments and the calls of the unit of a text
 pub code_for : (text : List ℕ) (unit : ProgramUnit) (code : CodeParts) → IsUnit text unit → IsSound code → length code.words ≤ 8 * symbol_count text + 64
     → ((system : State) (bound : ℕ) (choices : Choices) (outcome : Outcome) → IsRunOfCode code system bound choices outcome ↔ Select unit
     (fresh system) bound choices outcome)
     → ((system : State) (bound : ℕ) (choices : Choices) (moment : State) → IsMomentOfCode code system bound choices moment ↔ source.ComesThrough unit
     (fresh system) bound choices moment)
+    → ((system : State) (bound : ℕ) (choices : Choices) (before next : State) → IsCallOfCode code system bound choices before next ↔ HasCallOf unit
+    (fresh system) bound choices before next)
     → IsCodeFor text code
-code_for text unit code is sound short outcomes moments = record {
+code_for text unit code is sound short outcomes moments calls = record {
   sound = sound;
   short = short;
   same = λ system bound choices outcome. (
@@ -53,5 +55,10 @@ code_for text unit code is sound short outcomes moments = record {
     λ h. record { unit = unit; unit_is = is; moment_is = (moments system bound choices moment).0 h },
     λ h. (moments system bound choices moment).1
         (subst (λ u. source.ComesThrough u (fresh system) bound choices moment) (one_unit (symbols_of text) h.unit unit h.unit_is is) h.moment_is),
+  );
+  calls = λ system bound choices before next. (
+    λ h. record { unit = unit; unit_is = is; call_is = (calls system bound choices before next).0 h },
+    λ h. (calls system bound choices before next).1
+        (subst (λ u. HasCallOf u (fresh system) bound choices before next) (one_unit (symbols_of text) h.unit unit h.unit_is is) h.call_is),
   );
 }

@@ -14,7 +14,7 @@ use Rattle.edi_texts.specs.declared.kind.RefusalKind.{RefusalKind}
 use Rattle.edi_texts.specs.declared.refusal.Pass.{Pass}
 use Rattle.edi_texts.specs.Texts.{AreAccepted, AreRefused, IsFault, IsUnit}
 use Rattle.edi_texts.specs.Length.{extent_of}
-use Rattle.edi_texts.specs.Run.{IsRunOf, IsMomentOf, IsCodeFor}
+use Rattle.edi_texts.specs.Run.{IsRunOf, IsMomentOf, IsCallOf, IsCodeFor}
 use Rattle.edi_texts.specs.Fetched.{FetchedBytesDecide, Tells}
 
 same_fault : (one other : List ℕ) (pass : Pass) (kind : RefusalKind) (line : ℕ) → symbols_of one ≡ symbols_of other → IsFault one pass kind line
@@ -40,6 +40,14 @@ same_moment one other system bound choices moment same h = record {
   moment_is = h.moment_is;
 }
 
+same_call : (one other : List ℕ) (system : State) (bound : ℕ) (choices : Choices) (before next : State) → symbols_of one ≡ symbols_of other
+    → IsCallOf one system bound choices before next → IsCallOf other system bound choices before next
+same_call one other system bound choices before next same h = record {
+  unit = h.unit;
+  unit_is = same_unit one other h.unit same h.unit_is;
+  call_is = h.call_is;
+}
+
 same_code : (one other : List ℕ) (code : CodeParts) → symbols_of one ≡ symbols_of other → IsCodeFor one code → IsCodeFor other code
 same_code one other code same c = record {
   sound = c.sound;
@@ -51,6 +59,10 @@ same_code one other code same c = record {
   through = λ system bound choices moment. (
     λ h. same_moment one other system bound choices moment same ((c.through system bound choices moment).0 h),
     λ h. (c.through system bound choices moment).1 (same_moment other one system bound choices moment (sym same) h),
+  );
+  calls = λ system bound choices before next. (
+    λ h. same_call one other system bound choices before next same ((c.calls system bound choices before next).0 h),
+    λ h. (c.calls system bound choices before next).1 (same_call other one system bound choices before next (sym same) h),
   );
 }
 

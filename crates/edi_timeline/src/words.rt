@@ -114,8 +114,8 @@ fn put_character(out: &mut Vec<u8>, c: u8) -> Result<(), AllocError>
     put_code(out, c)
 }
 
-// Puts characters that were shown.
-pub(crate) fn put_characters(out: &mut Vec<u8>, shown: &[u8]) -> Result<(), AllocError>
+/// Puts characters that were shown.
+pub fn put_characters(out: &mut Vec<u8>, shown: &[u8]) -> Result<(), AllocError>
     ensures exact { OnOk result (out.new.items ≡ out.old.items ++ spec.characters_text shown.now) }
 {
     for c in shown {

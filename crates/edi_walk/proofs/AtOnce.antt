@@ -108,7 +108,7 @@ assigns old new v d e (Err stop.NoMemory) r s = tt
 assigns old new v d e (Err stop.Done) r s = absurd s
 assigns old new v d e (Err (stop.Halted line)) r s = absurd s
 assigns old new v d e (Err stop.Turns) r s = absurd s
-assigns old new v d e (Err stop.Fault) r s = absurd s
+assigns old new v d e (Err (stop.Fault number)) r s = absurd s
 
 -- a variable that is not determined at once
 pub unassigned : (old : code.Evaluation) (v : Place) (e : Expression) (h : Hurdle) → ReadsPlace v (Err h) old → AssignsAtOnce v e (left_to_frames h) old old
@@ -141,7 +141,7 @@ module _ (old mid : code.Evaluation) (v : Place) (e : Expression) where
   made_stops stop.Done s r levels system enough = absurd r
   made_stops (stop.Halted line) s r levels system enough = absurd r
   made_stops stop.Turns s r levels system enough = absurd r
-  made_stops stop.Fault s r levels system enough = absurd r
+  made_stops (stop.Fault number) s r levels system enough = absurd r
 
   -- as a statement of a process
   abbrev then_on : List Work → Unit {0} → World → Evaluation Asks
@@ -174,7 +174,7 @@ module _ (old mid : code.Evaluation) (v : Place) (e : Expression) where
   made_stop t stop.Done r left position work b = absurd r
   made_stop t (stop.Halted line) r left position work b = absurd r
   made_stop t stop.Turns r left position work b = absurd r
-  made_stop t stop.Fault r left position work b = absurd r
+  made_stop t (stop.Fault number) r left position work b = absurd r
 
 -- ---- the parts of an assignment at once
 

@@ -263,7 +263,7 @@ forked_calm index share branches (Err stop.Done) old new h = tt
 forked_calm index share branches (Err (stop.Halted line)) old new h = tt
 forked_calm index share branches (Err (stop.Failed c line)) old new h = tt
 forked_calm index share branches (Err stop.Turns) old new h = tt
-forked_calm index share branches (Err stop.Fault) old new h = h
+forked_calm index share branches (Err (stop.Fault number)) old new h = h
 
 -- ---- its limits
 
@@ -367,7 +367,7 @@ module _ (index : ℕ) (branches : Rattle.std.specs.Borrow.Bor (List ℕ)) (line
     room_for_all fits (Err stop.Done) h unit bound s p q w left others work m b = absurd h
     room_for_all fits (Err (stop.Halted l)) h unit bound s p q w left others work m b = absurd h
     room_for_all fits (Err (stop.Failed d l)) h unit bound s p q w left others work m b = absurd h
-    room_for_all fits (Err stop.Fault) h unit bound s p q w left others work m b = absurd h
+    room_for_all fits (Err (stop.Fault number)) h unit bound s p q w left others work m b = absurd h
 
 -- ---- shares
 

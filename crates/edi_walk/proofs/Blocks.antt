@@ -77,4 +77,4 @@ procedure_left levels system old new (Err stop.NoMemory) g l none = tt
 procedure_left levels system old new (Err stop.Done) g l none = absurd l
 procedure_left levels system old new (Err (stop.Halted line)) g l none = absurd l
 procedure_left levels system old new (Err (stop.Failed c line)) g l none = absurd l
-procedure_left levels system old new (Err stop.Fault) g l none = absurd l
+procedure_left levels system old new (Err (stop.Fault number)) g l none = absurd l

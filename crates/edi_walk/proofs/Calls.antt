@@ -4,10 +4,11 @@ use Rattle.std.specs.Prelude.{map, OnOk, OnErr}
 use Rattle.edi_calls.specs.declared.kinds.Cause.TheVariants as cause
 use Rattle.edi_calls.specs.declared.ends.CallEnd.TheVariants as call_end
 use Rattle.edi_calls.specs.Calls.{CallResult, answered, no_file, file_limit, call}
-use Rattle.edi_calls.specs.Ends.{IsTorn, Meets}
+use Rattle.edi_calls.specs.Ends.{Blames, IsTorn, IsUsed, Meets}
 use Rattle.edi_told.specs.Told.{WhereTold}
 use Rattle.edi_told.proofs.Told.{WhereTold-map, WhereTold-then}
 use Rattle.edi_calls.specs.declared.ends.CallEnd.{CallEnd}
+use Rattle.edi_calls.specs.declared.ends.Outside.{Outside}
 use Rattle.edi_calls.specs.Outcome as outcome
 use Rattle.edi_calls.specs.State.{State, Traced, after_call}
 use Rattle.edi_unit.specs.View.{unit_of}
@@ -22,6 +23,7 @@ use Rattle.edi_walk.specs.declared.frames.Frame as code_frame
 use Rattle.edi_walk.specs.declared.frames.Given.TheVariants as make
 use Rattle.edi_walk.specs.declared.stop.Stop.{Stop}
 use Rattle.edi_walk.specs.declared.stop.Stop.TheVariants as stop
+use Rattle.edi_walk.specs.Ends.{StopBlames}
 use Rattle.edi_walk.specs.Frames.{Given, nothing, some_cells, Frame, asks, makes_within}
 use Rattle.edi_walk.specs.Machine.{given_of, frame_of, deeper_of, rest_of, next_of, world_of, makes_of, IsSameProcess, Follows}
 use Rattle.edi_walk.specs.Memory.{store_of}
@@ -111,12 +113,11 @@ module _ (levels number line : ℕ) (old : code.Evaluation) (cells : List Cell) 
       record { system = system; system_is = s; is = ap of_result e ∙ ap (λ (x : code.Evaluation). ends (outcome.failed cause.FileLimit line) system x.turns) (sym same) }
 
   pub was_torn : (new : code.Evaluation) (words : List ℕ) (next t : State) → new ≡ old → answer_of ≡ answered words next → IsTorn system.now next t →
-      IsFailed (unit_of new.unit.now) new.name.items new.size levels system asking t
+      IsFailed number (unit_of new.unit.now) new.name.items new.size levels system asking t
   was_torn new words next t same e torn =
-      subst (λ (x : code.Evaluation). IsFailed (unit_of x.unit.now) x.name.items x.size levels system asking t) (sym same) (record {
+      subst (λ (x : code.Evaluation). IsFailed number (unit_of x.unit.now) x.name.items x.size levels system asking t) (sym same) (record {
         world = world_of old system;
         grew = grows_same system;
-        number = number;
         line = line;
         cells = cells;
         frames = map frame_of old.frames.items;
@@ -192,7 +193,7 @@ step_goes levels (Err stop.Done) old new m system now up e f = record { system =
 step_goes levels (Err (stop.Halted line)) old new m system now up e f = record { system = system; system_is = e; is = f }
 step_goes levels (Err (stop.Failed c line)) old new m system now up e f = record { system = system; system_is = e; is = f }
 step_goes levels (Err stop.Turns) old new m system now up e f = record { system = system; system_is = e; is = f }
-step_goes levels (Err stop.Fault) old new m system now up e f = absurd f
+step_goes levels (Err (stop.Fault number)) old new m system now up e f = absurd f
 step_goes levels (Err stop.NoMemory) old new m system now up e f = up
 
 -- a call without an answer
@@ -245,13 +246,18 @@ module _ (number line : ℕ) (self new : code.Evaluation) (cells : List Cell) (a
       was_full levels number line self cells system enough new t (asked_so system s file_limit b n.0) same (b ∙ sym n.1))
       (subst Made is made)
 
-  pub told_torn : (e : CallEnd) → e ≡ call_end.OutsideFault → Made e → new ≡ self → Told (Err stop.Fault)
+  pub told_torn : (e : CallEnd) → e ≡ call_end.OutsideFault → Made e → new ≡ self → Told (Err (stop.Fault number))
   told_torn e is made same =
       WhereTold-map _ _ old now
       (λ s t m levels system b enough. let n = met_fault (call number arguments s) answer s t m in
       was_torn levels number line self cells system enough new n.words n.next t same (asked_so system s (answered n.words n.next) b n.is)
       (subst (λ x. IsTorn x n.next t) (sym b) n.torn))
       (subst Made is made)
+
+-- what has failed is an object that the call uses
+pub blamed_so : (number : ℕ) (e : CallEnd) → e ≡ call_end.OutsideFault → (failed : Option Outside → Type 0) (before now : Outside → ℕ) →
+    Blames e failed before now → IsUsed number failed → StopBlames (Err (stop.Fault number)) failed before now
+blamed_so number e is failed before now blames used = let h = subst (λ x. Blames x failed before now) is blames in (h.0, h.1, h.2, used h.0 h.1)
 
 -- given up before the call
 pub told_up : (number line : ℕ) (g : Given) (result : Result (Unit {0}) Stop) (old new : code.Evaluation) (o : Option State) → result ≡ Err stop.NoMemory →
@@ -309,9 +315,8 @@ further levels (Err stop.Done) new t from on m g h = h
 further levels (Err (stop.Halted line)) new t from on m g h = h
 further levels (Err (stop.Failed c line)) new t from on m g h = h
 further levels (Err stop.Turns) new t from on m g h = h
-further levels (Err stop.Fault) new t from on m g h = record {
+further levels (Err (stop.Fault number)) new t from on m g h = record {
   world = h.world;
-  number = h.number;
   line = h.line;
   cells = h.cells;
   frames = h.frames;

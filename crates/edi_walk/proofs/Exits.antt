@@ -100,7 +100,7 @@ leaves_parent index old mid new parent at (Err stop.Done) lives notifies gone un
 leaves_parent index old mid new parent at (Err (stop.Halted line)) lives notifies gone unit bound s p q w left others a m b = absurd notifies
 leaves_parent index old mid new parent at (Err (stop.Failed c line)) lives notifies gone unit bound s p q w left others a m b = absurd notifies
 leaves_parent index old mid new parent at (Err stop.Turns) lives notifies gone unit bound s p q w left others a m b = absurd notifies
-leaves_parent index old mid new parent at (Err stop.Fault) lives notifies gone unit bound s p q w left others a m b = absurd notifies
+leaves_parent index old mid new parent at (Err (stop.Fault number)) lives notifies gone unit bound s p q w left others a m b = absurd notifies
 
 -- ---- the parent
 
@@ -151,17 +151,17 @@ lost zero parent index stop.Done old new h = h
 lost zero parent index (stop.Halted line) old new h = h
 lost zero parent index (stop.Failed c line) old new h = h
 lost zero parent index stop.Turns old new h = h
-lost zero parent index stop.Fault old new h = h
+lost zero parent index (stop.Fault number) old new h = h
 lost (suc zero) parent index stop.Done old new h = h
 lost (suc zero) parent index (stop.Halted line) old new h = h
 lost (suc zero) parent index (stop.Failed c line) old new h = h
 lost (suc zero) parent index stop.Turns old new h = h
-lost (suc zero) parent index stop.Fault old new h = h
+lost (suc zero) parent index (stop.Fault number) old new h = h
 lost (suc (suc n)) parent index stop.Done old new h = h
 lost (suc (suc n)) parent index (stop.Halted line) old new h = h
 lost (suc (suc n)) parent index (stop.Failed c line) old new h = h
 lost (suc (suc n)) parent index stop.Turns old new h = h
-lost (suc (suc n)) parent index stop.Fault old new h = h
+lost (suc (suc n)) parent index (stop.Fault number) old new h = h
 
 less_so : (old new : code_walker.Walker) (parent : Name) (index n : ℕ) (c : code_process.Process) (x : Unit {0}) →
     slice_get old.live.items index ≡ Some c → c.standing ≡ stands.Waiting n → LessOne n parent index (Ok x) old new → Notifies parent index (Ok x) old new
@@ -216,7 +216,7 @@ less_calm parent index (Err stop.Done) old new h = tt
 less_calm parent index (Err (stop.Halted line)) old new h = tt
 less_calm parent index (Err (stop.Failed c line)) old new h = tt
 less_calm parent index (Err stop.Turns) old new h = tt
-less_calm parent index (Err stop.Fault) old new h = h
+less_calm parent index (Err (stop.Fault number)) old new h = h
 
 -- children are left; or none is
 pub fewer_left : (old new : code_walker.Walker) (parent : Name) (index n : ℕ) → 1 < n → StandsThere index (stands.Waiting (n - 1)) old.live.items new.live.items →

@@ -20,7 +20,7 @@ resume_blames f g (Err stop.Done) old new r failed before now h = h
 resume_blames f g (Err (stop.Halted line)) old new r failed before now h = h
 resume_blames f g (Err (stop.Failed c line)) old new r failed before now h = h
 resume_blames f g (Err stop.Turns) old new r failed before now h = h
-resume_blames f g (Err stop.Fault) old new r failed before now h = absurd (r old.turns (record { now = some_state; past = [] }) (omega arith))
+resume_blames f g (Err (stop.Fault number)) old new r failed before now h = absurd (r old.turns (record { now = some_state; past = [] }) (omega arith))
 resume_blames f g (Err stop.NoMemory) old new r failed before now h = h
 
 pub lasts_on : {C R : Type 0} (faults : C → Outside → ℕ) (references : C → R) (leads : C → C → Type 0) (a b c : C) → CallsLast faults references leads a b →

@@ -21,12 +21,13 @@ pub up_goes : (unit : ProgramUnit) (p : Name) (size levels : ℕ) (from : Traced
 up_goes unit p size levels from m now u = subst (Both (GoesFrom u.world)) (sym u.is) (makes_grow unit p size levels u.frames u.given u.world u.enough)
 
 -- what has failed would have come through the state in which that call was to leave the system
-abbrev pub behind : {unit : ProgramUnit} {p : Name} {size levels : ℕ} {from : Traced} {m : Evaluation Given} {now : State} → IsFailed unit p size levels from m now → World
+abbrev pub behind : {number : ℕ} {unit : ProgramUnit} {p : Name} {size levels : ℕ} {from : Traced} {m : Evaluation Given} {now : State} → IsFailed number unit p size levels from m now → World
 behind f = record { store = answer_in f.cells f.words f.world.store; system = after_call f.next f.world.system; turns = f.world.turns }
 
-pub failed_goes : (unit : ProgramUnit) (p : Name) (size levels : ℕ) (from : Traced) (m : Evaluation Given) (now : State) (f : IsFailed unit p size levels from m now) →
+pub failed_goes : (number : ℕ) (unit : ProgramUnit) (p : Name) (size levels : ℕ) (from : Traced) (m : Evaluation Given) (now : State)
+    (f : IsFailed number unit p size levels from m now) →
     Both (GoesFrom (behind f)) m
-failed_goes unit p size levels from m now f =
+failed_goes number unit p size levels from m now f =
     subst (Both (GoesFrom (behind f)))
     (sym (f.is ∙ ap (λ r. answered_by r f.cells f.line f.world >>= λ _ w. makes_within unit p size levels f.frames nothing w) f.answers))
     (makes_grow unit p size levels f.frames nothing (behind f) f.enough)

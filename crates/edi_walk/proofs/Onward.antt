@@ -98,10 +98,13 @@ module _ (unit : ProgramUnit) (s : Processes) (p : Name) (q : Process) (found : 
   stops_step bound others (stop.Halted line) last new t h = ended_so (outcome.halted line) new t h
   stops_step bound others (stop.Failed c line) last new t h = ended_so (outcome.failed c line) new t h
   stops_step bound others stop.Turns last new t h = ended_so outcome.turns new t h
-  stops_step bound others stop.Fault last new t h = record {
+  stops_step bound others (stop.Fault number) last new t h = record {
     before = h.before;
     grew = h.grew;
     next = h.next;
+    arguments = h.arguments;
+    answer = h.answer;
+    answers = h.answers;
     torn = h.torn;
     world = h.world;
     world_is = h.world_is;
@@ -137,7 +140,7 @@ module _ (unit : ProgramUnit) (s : Processes) (p : Name) (q : Process) (found : 
   }
   follows_step bound others a w (Err stop.Done) new t e grew i k = absurd k
   follows_step bound others a w (Err (stop.Halted line)) new t e grew i k = absurd k
-  follows_step bound others a w (Err stop.Fault) new t e grew i k = absurd k
+  follows_step bound others a w (Err (stop.Fault number)) new t e grew i k = absurd k
 
 -- ---- a process that was found in the code's list
 

@@ -131,5 +131,5 @@ turned_does Q x b (Err stop.Turns) old new s q h = out_here Q old new (λ w. giv
 turned_does Q x b (Err stop.Done) old new s q h = absurd h
 turned_does Q x b (Err (stop.Halted line)) old new s q h = absurd h
 turned_does Q x b (Err (stop.Failed c line)) old new s q h = absurd h
-turned_does Q x b (Err stop.Fault) old new s q h = absurd h
+turned_does Q x b (Err (stop.Fault number)) old new s q h = absurd h
 turned_does Q x b (Err stop.NoMemory) old new s q h = absurd h

@@ -92,7 +92,7 @@ module _ (old new : code.Evaluation) (s : State) where
       by_stop stop.Done h work = absurd h
       by_stop (stop.Halted line) h work = absurd h
       by_stop (stop.Failed c line) h work = absurd h
-      by_stop stop.Fault h work = absurd h
+      by_stop (stop.Fault number) h work = absurd h
 
   -- a branch
   pub branch_over : (result : Result code_asked.Asked Stop) (todo : List code_work.Work) → TurnsTo make.Leaves result old new →
@@ -153,7 +153,7 @@ module _ (old new : code.Evaluation) (s : State) where
       by_stop stop.Done h work = absurd h
       by_stop (stop.Halted line) h work = absurd h
       by_stop (stop.Failed c line) h work = absurd h
-      by_stop stop.Fault h work = absurd h
+      by_stop (stop.Fault number) h work = absurd h
 
 -- ---- calls
 
@@ -211,7 +211,7 @@ module _ (old new : code.Evaluation) (s : State) (number : ℕ) (parent : Spot) 
           (called_continues (unit_of old.unit.now) old.name.items old.size (block_procedure number parent) cells line work) system i
       by_stop stop.Done h system i = absurd h
       by_stop (stop.Halted l) h system i = absurd h
-      by_stop stop.Fault h system i = absurd h
+      by_stop (stop.Fault number) h system i = absurd h
 
 -- a call of the system, with these cells
 module _ (old mid new : code.Evaluation) (s t : State) (number line : ℕ) (given : code_given.Given) (cells : List Cell) (took : mid ≡ record old { given = given })
@@ -356,7 +356,7 @@ act_stop old s a some todo rest before after stop.Done h = absurd h
 act_stop old s a some todo rest before after (stop.Halted line) h = absurd h
 act_stop old s a some todo rest before after (stop.Failed c line) h = absurd h
 act_stop old s a some todo rest before after stop.Turns h = absurd h
-act_stop old s a some todo rest before after stop.Fault h = absurd h
+act_stop old s a some todo rest before after (stop.Fault number) h = absurd h
 
 -- nothing is left to do
 pub no_work : (old : code.Evaluation) (s : State) (rest : List code_work.Work) → Works [] rest (Err stop.Turns) old old s s
@@ -393,7 +393,7 @@ leaves_calm old new stop.NoMemory h = tt
 leaves_calm old new stop.Done h = tt
 leaves_calm old new (stop.Halted line) h = tt
 leaves_calm old new (stop.Failed c line) h = tt
-leaves_calm old new stop.Fault h = h
+leaves_calm old new (stop.Fault number) h = h
 
 pub enters_calm : (old new : code.Evaluation) (number : ℕ) (parent : Spot) (cells : List Cell) (line : ℕ) (x : Stop) →
     EntersBlock number parent cells line (Err x) old new → IsCalm {T = code_asked.Asked} (Err x)
@@ -402,7 +402,7 @@ enters_calm old new number parent cells line stop.NoMemory h = tt
 enters_calm old new number parent cells line stop.Done h = tt
 enters_calm old new number parent cells line (stop.Halted l) h = tt
 enters_calm old new number parent cells line (stop.Failed c l) h = tt
-enters_calm old new number parent cells line stop.Fault h = h
+enters_calm old new number parent cells line (stop.Fault asked) h = h
 
 abbrev pub Alike : {T : Type 0} → Result T Stop → Result T Stop → Type 0
 Alike a b = a ≡ b
@@ -432,4 +432,4 @@ program_calm old new stop.NoMemory h = tt
 program_calm old new stop.Done h = tt
 program_calm old new (stop.Halted line) h = tt
 program_calm old new (stop.Failed c line) h = tt
-program_calm old new stop.Fault h = h
+program_calm old new (stop.Fault number) h = h

@@ -3,7 +3,9 @@ use Rattle.std.proofs.Common.{◌≡◌, ℕ, zero, suc, ◌+◌, ◌-◌, ◌<�
 use Rattle.std.proofs.Common.{refl, sym, subst, ap, ◌∙◌, arith, append_assoc}
 use Rattle.std.specs.Prelude.{⊤, Contains}
 use Rattle.std.proofs.lemmas.List.{append-nil}
+use Rattle.edi_calls.specs.Calls.{answered, call}
 use Rattle.edi_calls.specs.Choice.{Choices}
+use Rattle.edi_calls.specs.Ends.{IsTorn}
 use Rattle.edi_calls.specs.Names.{Name}
 use Rattle.edi_calls.specs.Outcome as outcome
 use Rattle.edi_calls.specs.Outcome.{Ending}
@@ -19,7 +21,7 @@ use Rattle.edi_meaning.proofs.Going.{goes_all, goes_same, grows_all, step_goes}
 use Rattle.edi_walk.specs.declared.stop.Stop.{Stop}
 use Rattle.edi_walk.specs.declared.stop.Stop.TheVariants as stop
 use Rattle.edi_walk.specs.declared.walker.Walker as code_walker
-use Rattle.edi_walk.specs.Ends.{end_for, StopBlames, WalkBlames, WalkedTo, WalkFails, WalkIsCut, WalksTo}
+use Rattle.edi_walk.specs.Ends.{end_for, StopBlames, WalkBlames, WalkedTo, WalkFails, WalkFailsBy, WalkFaultsBy, WalkIsCut, WalksTo}
 use Rattle.edi_walk.specs.declared.walking.WalkEnd.{WalkEnd}
 use Rattle.edi_calls.specs.declared.ends.Outside.{Outside}
 use Rattle.edi_told.specs.Faults.{CountRose}
@@ -146,6 +148,12 @@ reached_next unit bound old mid_drawn new mid w first t u same few r walks =
 
 -- ---- the end of a walk
 
+-- a call of this number leads from the one state to the other
+record IsMade (number : ℕ) (before next : State) : Type 0 where
+  arguments : List ℕ
+  answer : List ℕ
+  is : call number arguments before ≡ answered answer next
+
 -- every walk from here ends
 ends_somehow : (unit : ProgramUnit) (choices : Choices) (s : Processes) (listed : List Name) (drawn : ℕ) →
     (n : ℕ) × (ending : Ending) × (last : Traced) × (turns : ℕ) × (d : ℕ) × (order : List Name)
@@ -219,26 +227,30 @@ module _ (unit : ProgramUnit) (bound : ℕ) (old mid_drawn : Drawn) (mid : code_
       ∙ ap (λ c. finished ending h.system h.turns c (p ∷ [])) (sym drawn)) in
       record { last = h.system; turns = h.turns; order = g.0; is = g.1; system_is = h.system_is }
 
-  fails_so : (new : Drawn) (p : Name) (others : List Name) (d : ℕ) (u : State) → take_next mid_drawn.source mid_drawn.drawn r.listed ≡ taking p others d →
-      new.drawn ≡ d → StepFails unit r.processes p u → WalkFails unit first bound old u new
-  fails_so new p others d u taken drawn h =
+  fails_so : (number : ℕ) (new : Drawn) (p : Name) (others : List Name) (d : ℕ) (u : State) →
+      take_next mid_drawn.source mid_drawn.drawn r.listed ≡ taking p others d → new.drawn ≡ d → StepFails number unit r.processes p u → (f : WalkFails unit first bound old u new)
+      × IsMade number (newest first f.earlier) f.next
+  fails_so number new p others d u taken drawn h =
       let e = through p others d h.world taken h.goes in
       let grew = grows_all (begun first) r.processes.world.system h.before r.grew h.grew in
       let after : Grows (after_call h.next h.before) e.1 = subst (λ y. Grows y e.1) h.world_is e.6.2 in
-      record {
-        ending = e.0;
-        last = e.1;
-        turns = e.2;
-        drawn = e.3;
-        order = e.4;
-        is = e.5;
-        later = after.0;
-        earlier = h.before.past;
-        next = h.next;
-        past = after.1;
-        torn = subst (λ y. Rattle.edi_calls.specs.Ends.IsTorn y h.next u) (sym (ap (newest first) (grew.1 ∙ append-nil grew.0) ∙ grew.2)) h.torn;
-        draws = omega (arith, drawn, e.7);
-      }
+      let same : h.before.now ≡ newest first h.before.past = sym (ap (newest first) (grew.1 ∙ append-nil grew.0) ∙ grew.2) in (
+        record {
+          ending = e.0;
+          last = e.1;
+          turns = e.2;
+          drawn = e.3;
+          order = e.4;
+          is = e.5;
+          later = after.0;
+          earlier = h.before.past;
+          next = h.next;
+          past = after.1;
+          torn = subst (λ y. IsTorn y h.next u) same h.torn;
+          draws = omega (arith, drawn, e.7);
+        },
+        record { arguments = h.arguments; answer = h.answer; is = subst (λ y. call number h.arguments y ≡ answered h.answer h.next) same h.answers },
+      )
 
   cut_so : (new : Drawn) (p : Name) (others : List Name) (d : ℕ) (u : State) → take_next mid_drawn.source mid_drawn.drawn r.listed ≡ taking p others d →
       new.drawn ≡ d → StepIsCut unit r.processes p u → WalkIsCut unit first bound old u new
@@ -273,14 +285,37 @@ module _ (unit : ProgramUnit) (bound : ℕ) (old mid_drawn : Drawn) (mid : code_
       by_taking nobody e stop.Done h = absurd h
       by_taking nobody e (stop.Halted line) h = absurd h
       by_taking nobody e (stop.Failed c line) h = absurd h
-      by_taking nobody e stop.Fault h = absurd h
+      by_taking nobody e (stop.Fault number) h = absurd h
       by_taking nobody e stop.NoMemory h = absurd h
       by_taking (taking p others d) e stop.Turns h = ended_so new p others d outcome.turns u e h.0 h.1
       by_taking (taking p others d) e stop.Done h = ended_so new p others d outcome.done u e h.0 h.1
       by_taking (taking p others d) e (stop.Halted line) h = ended_so new p others d (outcome.halted line) u e h.0 h.1
       by_taking (taking p others d) e (stop.Failed c line) h = ended_so new p others d (outcome.failed c line) u e h.0 h.1
-      by_taking (taking p others d) e stop.Fault h = fails_so new p others d u e h.0 h.1
+      by_taking (taking p others d) e (stop.Fault number) h = (fails_so number new p others d u e h.0 h.1).0
       by_taking (taking p others d) e stop.NoMemory h = cut_so new p others d u e h.0 h.1
+
+  -- the call in which it failed is of the number that is told
+  pub walk_asks : (failed : Option Outside → Type 0) (faults now : Outside → ℕ) (new : Drawn) (w : code_walker.Walker) (u : State) (x : Stop) →
+      StopBlames (Err x) failed faults now → Walks (Err x) mid w mid_drawn new t u → WalkFaultsBy failed unit first bound old (end_for x) u new
+  walk_asks failed faults now new w u stop.Done b walks = tt
+  walk_asks failed faults now new w u (stop.Halted line) b walks = tt
+  walk_asks failed faults now new w u (stop.Failed c line) b walks = tt
+  walk_asks failed faults now new w u stop.Turns b walks = tt
+  walk_asks failed faults now new w u stop.NoMemory b walks = tt
+  walk_asks failed faults now new w u (stop.Fault number) b walks =
+      by_taking (take_next mid_drawn.source mid_drawn.drawn r.listed) refl (walks unit bound r.processes r.listed few r.holds r.system_is)
+    where
+      by_taking : (k : Taking) → take_next mid_drawn.source mid_drawn.drawn r.listed ≡ k →
+          TakenMakes unit bound r.processes k mid_drawn.drawn new.drawn (Err (stop.Fault number)) w u → WalkFailsBy failed unit first bound old u new
+      by_taking nobody e h = absurd h
+      by_taking (taking p others d) e h =
+          let f = fails_so number new p others d u e h.0 h.1 in
+          record {
+            fails = f.0;
+            outside = b.0;
+            failed_is = b.1;
+            asks = record { number = number; arguments = f.1.arguments; answer = f.1.answer; is = f.1.is; uses_it = b.3 };
+          }
 
 -- it was given up before there was anything
 pub cut_first : (unit : ProgramUnit) (bound : ℕ) (old : Drawn) (s : State) → WalkIsCut unit s bound old s old
@@ -311,5 +346,5 @@ blames_since x e failed first before now less is h = subst (λ k. WalkBlames k f
     by_stop (stop.Halted line) h = h
     by_stop (stop.Failed c line) h = h
     by_stop stop.Turns h = h
-    by_stop stop.Fault h = (h.0, h.1, rose_since (first h.0) (before h.0) (now h.0) (less h.0) h.2)
+    by_stop (stop.Fault number) h = (h.0, h.1, rose_since (first h.0) (before h.0) (now h.0) (less h.0) h.2)
     by_stop stop.NoMemory h = h

@@ -3,6 +3,7 @@ use Rattle.std.proofs.Common.{ℕ, refl, ap}
 use Rattle.edi_calls.specs.State.{State, Traced}
 use Rattle.edi_meaning.specs.Laws.{GoesFrom}
 use Rattle.edi_meaning.specs.Evaluation.{World, Evaluation, gives, ends, ◌>>=◌}
+use Rattle.edi_meaning.specs.Whole.{words_of_cells}
 use Rattle.edi_meaning.proofs.Going.{goes_all}
 use Rattle.edi_walk.specs.declared.evaluation.Evaluation as code
 use Rattle.edi_walk.specs.declared.stop.Stop.{Stop}
@@ -33,10 +34,13 @@ stops_then from stop.Done new now m f h k = record { system = h.system; system_i
 stops_then from (stop.Halted line) new now m f h k = record { system = h.system; system_is = h.system_is; is = ap (λ x. x >>= f) h.is }
 stops_then from (stop.Failed c line) new now m f h k = record { system = h.system; system_is = h.system_is; is = ap (λ x. x >>= f) h.is }
 stops_then from stop.Turns new now m f h k = record { system = h.system; system_is = h.system_is; is = ap (λ x. x >>= f) h.is }
-stops_then from stop.Fault new now m f h k = record {
+stops_then from (stop.Fault number) new now m f h k = record {
   before = h.before;
   grew = h.grew;
   next = h.next;
+  arguments = h.arguments;
+  answer = h.answer;
+  answers = h.answers;
   torn = h.torn;
   world = h.world;
   world_is = h.world_is;
@@ -57,14 +61,17 @@ stop_of_run levels from stop.Done new now m h = record { system = h.system; syst
 stop_of_run levels from (stop.Halted line) new now m h = record { system = h.system; system_is = h.system_is; is = h.is }
 stop_of_run levels from (stop.Failed c line) new now m h = record { system = h.system; system_is = h.system_is; is = h.is }
 stop_of_run levels from stop.Turns new now m h = record { system = h.system; system_is = h.system_is; is = h.is }
-stop_of_run levels from stop.Fault new now m h = record {
+stop_of_run levels from (stop.Fault number) new now m h = record {
   before = h.world.system;
   grew = h.grew;
   next = h.next;
+  arguments = words_of_cells h.cells;
+  answer = h.words;
+  answers = h.answers;
   torn = h.torn;
   world = behind h;
   world_is = refl;
-  goes = both_continues (behind h) m (failed_goes _ _ _ levels from m now h);
+  goes = both_continues (behind h) m (failed_goes number _ _ _ levels from m now h);
 }
 stop_of_run levels from stop.NoMemory new now m h = record {
   world = h.world;

@@ -178,7 +178,7 @@ puts_here old new s m work some (Err stop.Done) before left is on b h = absurd h
 puts_here old new s m work some (Err (stop.Halted line)) before left is on b h = absurd h
 puts_here old new s m work some (Err (stop.Failed c line)) before left is on b h = absurd h
 puts_here old new s m work some (Err stop.Turns) before left is on b h = absurd h
-puts_here old new s m work some (Err stop.Fault) before left is on b h = absurd h
+puts_here old new s m work some (Err (stop.Fault number)) before left is on b h = absurd h
 
 -- the choice of a list: the list comes first, then this, and then what there was
 module _ (cs : Clauses) (after : Position → List Work) (lower : List Bare) (same : (position : Position) → bare_all (after position) ≡ lower)
@@ -314,7 +314,7 @@ puts_both upper lower a (Err stop.Done) old mid new h k = absurd k
 puts_both upper lower a (Err (stop.Halted line)) old mid new h k = absurd k
 puts_both upper lower a (Err (stop.Failed c line)) old mid new h k = absurd k
 puts_both upper lower a (Err stop.Turns) old mid new h k = absurd k
-puts_both upper lower a (Err stop.Fault) old mid new h k = absurd k
+puts_both upper lower a (Err (stop.Fault number)) old mid new h k = absurd k
 
 pub puts_failed : (some more : List Bare) (x : Stop) (old new last : List code_work.Work) → PutsFirst some (Err x) old new → PutsFirst more (Err x) old last
 puts_failed some more stop.NoMemory old new last h = tt
@@ -322,7 +322,7 @@ puts_failed some more stop.Done old new last h = absurd h
 puts_failed some more (stop.Halted line) old new last h = absurd h
 puts_failed some more (stop.Failed c line) old new last h = absurd h
 puts_failed some more stop.Turns old new last h = absurd h
-puts_failed some more stop.Fault old new last h = absurd h
+puts_failed some more (stop.Fault number) old new last h = absurd h
 
 -- who puts pieces has failed no object outside
 pub puts_calm : (some : List Bare) (result : Result code_asked.Asked Stop) (old new : List code_work.Work) → PutsFirst some result old new → IsCalm result
@@ -332,7 +332,7 @@ puts_calm some (Err stop.Done) old new h = tt
 puts_calm some (Err (stop.Halted line)) old new h = tt
 puts_calm some (Err (stop.Failed c line)) old new h = tt
 puts_calm some (Err stop.Turns) old new h = tt
-puts_calm some (Err stop.Fault) old new h = h
+puts_calm some (Err (stop.Fault number)) old new h = h
 
 pub chosen_calm : (lower : List Bare) (body : Option (Bor (List code_act.Act))) (result : Result code_asked.Asked Stop) (old new : List code_work.Work) →
     PutsChosen lower body result old new → IsCalm result
@@ -347,7 +347,7 @@ calm_blames (Err stop.Done) h failed before now none = none
 calm_blames (Err (stop.Halted line)) h failed before now none = none
 calm_blames (Err (stop.Failed c line)) h failed before now none = none
 calm_blames (Err stop.Turns) h failed before now none = none
-calm_blames (Err stop.Fault) h failed before now none = absurd h
+calm_blames (Err (stop.Fault number)) h failed before now none = absurd h
 calm_blames (Err stop.NoMemory) h failed before now none = none
 
 -- ---- two frames alone

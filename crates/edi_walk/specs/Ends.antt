@@ -1,8 +1,9 @@
 -- Words of contracts. What the answer of a walk means.
-use Rattle.std.specs.Prelude.{◌≡◌, ◌≤◌, ◌<◌, ◌+◌, ◌-◌, ◌^◌, ◌%◌, ℕ, Bool, true, false, List, ◌∷◌, ◌++◌, Option, Some, None, Result, Err, Contains}
+use Rattle.std.specs.Prelude.{◌≡◌, ◌≤◌, ◌<◌, ◌+◌, ◌-◌, ◌^◌, ◌%◌, ℕ, Bool, true, false, List, ◌∷◌, ◌++◌, Option, Some, None, Result, Err, Contains, ⊤}
 use Rattle.edi_told.specs.Faults.{CountRose}
 use Rattle.edi_calls.specs.declared.ends.Outside.{Outside}
 use Rattle.edi_calls.specs.Choice.{choice}
+use Rattle.edi_calls.specs.Asked.{Asks, uses}
 use Rattle.edi_calls.specs.Ends.{IsTorn}
 use Rattle.edi_calls.specs.Names.{Name}
 use Rattle.edi_calls.specs.Outcome as outcome
@@ -67,13 +68,24 @@ WalksTo unit system bound old end.Turns now new = WalkedTo unit system bound old
 WalksTo unit system bound old end.Fault now new = WalkFails unit system bound old now new
 WalksTo unit system bound old end.NoMemory now new = WalkIsCut unit system bound old now new
 
+-- It failed so in a call that uses the object which has failed.
+pub record WalkFailsBy (failed : Option Outside → Type 0) (unit : ProgramUnit) (system : State) (bound : ℕ) (old : Drawn) (now : State) (new : Drawn) : Type 0 where
+  pub fails : WalkFails unit system bound old now new
+  pub outside : Outside
+  pub failed_is : failed (Some outside)
+  pub asks : Asks outside (newest system fails.earlier) fails.next
+
+abbrev pub WalkFaultsBy : (failed : Option Outside → Type 0) → ProgramUnit → State → (bound : ℕ) → (old : Drawn) → WalkEnd → (now : State) → (new : Drawn) → Type 0
+WalkFaultsBy failed unit system bound old end.Fault now new = WalkFailsBy failed unit system bound old now new
+WalkFaultsBy failed unit system bound old _ now new = ⊤
+
 -- the answer of a walk whose step goes no further
 abbrev pub end_for : Stop → WalkEnd
 end_for stop.Done = end.Done
 end_for (stop.Halted line) = end.Halted line
 end_for (stop.Failed cause line) = end.Failed cause line
 end_for stop.Turns = end.Turns
-end_for stop.Fault = end.Fault
+end_for (stop.Fault number) = end.Fault
 end_for stop.NoMemory = end.NoMemory
 
 -- an object outside has failed exactly at a fault, and its count of faults rose
@@ -81,11 +93,13 @@ abbrev pub WalkBlames : WalkEnd → (failed : Option Outside → Type 0) → (ol
 WalkBlames end.Fault failed old new = (outside : Outside) × failed (Some outside) × CountRose (old outside) (new outside)
 WalkBlames _ failed old new = failed None
 
--- the same of a part of a walk
+-- the same of a part of a walk, where the object is one that the call of this number uses
 abbrev pub StopBlames : Result (Unit {0}) Stop → (failed : Option Outside → Type 0) → (old new : Outside → ℕ) → Type 0
-StopBlames (Err stop.Fault) failed old new = (outside : Outside) × failed (Some outside) × CountRose (old outside) (new outside)
+StopBlames (Err (stop.Fault number)) failed old new =
+    (outside : Outside) × failed (Some outside) × CountRose (old outside) (new outside) × (uses number outside ≡ true)
 StopBlames _ failed old new = failed None
 
 abbrev pub PartBlames : {T : Type 0} → Result T Stop → (failed : Option Outside → Type 0) → (old new : Outside → ℕ) → Type 0
-PartBlames (Err stop.Fault) failed old new = (outside : Outside) × failed (Some outside) × CountRose (old outside) (new outside)
+PartBlames (Err (stop.Fault number)) failed old new =
+    (outside : Outside) × failed (Some outside) × CountRose (old outside) (new outside) × (uses number outside ≡ true)
 PartBlames _ failed old new = failed None

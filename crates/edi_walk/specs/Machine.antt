@@ -89,7 +89,7 @@ Stops stop.Done m system left = m ≡ ends outcome.done system left
 Stops (stop.Halted line) m system left = m ≡ ends (outcome.halted line) system left
 Stops (stop.Failed c line) m system left = m ≡ ends (outcome.failed c line) system left
 Stops stop.Turns m system left = m ≡ ends outcome.turns system left
-Stops stop.Fault m system left = ⊥
+Stops (stop.Fault number) m system left = ⊥
 Stops stop.NoMemory m system left = ⊤
 
 -- what was to make is what now is to make; or it ends the program so

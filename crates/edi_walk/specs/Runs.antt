@@ -38,10 +38,9 @@ pub record EndsWith (ending : Ending) (m : Evaluation Given) (new : code_evaluat
   pub system_is : system.now ≡ now
   pub is : m ≡ ends ending system new.turns
 
--- an object outside failed in a call of the system that was to be answered, before these frames
-pub record IsFailed (unit : ProgramUnit) (p : Name) (size levels : ℕ) (from : Traced) (m : Evaluation Given) (now : State) : Type 0 where
+-- an object outside failed in a call of this number that was to be answered, before these frames
+pub record IsFailed (number : ℕ) (unit : ProgramUnit) (p : Name) (size levels : ℕ) (from : Traced) (m : Evaluation Given) (now : State) : Type 0 where
   pub world : World
-  pub number : ℕ
   pub line : ℕ
   pub cells : List Cell
   pub frames : List Frame
@@ -69,7 +68,7 @@ StopsTo levels from stop.Done new now m = EndsWith outcome.done m new now
 StopsTo levels from (stop.Halted line) new now m = EndsWith (outcome.halted line) m new now
 StopsTo levels from (stop.Failed c line) new now m = EndsWith (outcome.failed c line) m new now
 StopsTo levels from stop.Turns new now m = EndsWith outcome.turns m new now
-StopsTo levels from stop.Fault new now m = IsFailed (unit_of new.unit.now) new.name.items new.size levels from m now
+StopsTo levels from (stop.Fault number) new now m = IsFailed number (unit_of new.unit.now) new.name.items new.size levels from m now
 StopsTo levels from stop.NoMemory new now m = IsGivenUp (unit_of new.unit.now) new.name.items new.size levels from m now
 
 -- what was to make is what now is to make, where the system is so; or it goes no further

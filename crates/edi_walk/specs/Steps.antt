@@ -1,6 +1,7 @@
 -- Words of contracts. What a part of a step of one process leaves, whatever it makes.
 use Rattle.std.specs.Borrow.{Bor}
 use Rattle.std.specs.Prelude.{◌≡◌, ℕ, Bool, List, map, Option, Some, None, Result, Ok, Err, ⊤}
+use Rattle.edi_calls.specs.Calls.{answered, call}
 use Rattle.edi_calls.specs.Ends.{IsTorn}
 use Rattle.edi_calls.specs.Outcome as outcome
 use Rattle.edi_calls.specs.Outcome.{Ending}
@@ -39,11 +40,14 @@ pub record Ended {A : Type 0} (ending : Ending) (new : code_evaluation.Evaluatio
   pub system_is : system.now ≡ now
   pub is : m ≡ ends ending system new.turns
 
--- an object outside failed in a call that was to lead from the world before it to the next state
-pub record Failed {A : Type 0} (from : Traced) (now : State) (m : Evaluation A) : Type 0 where
+-- an object outside failed in a call of this number that was to lead from the world before it to the next state
+pub record Failed {A : Type 0} (number : ℕ) (from : Traced) (now : State) (m : Evaluation A) : Type 0 where
   pub before : Traced
   pub grew : Grows from before
   pub next : State
+  pub arguments : List ℕ
+  pub answer : List ℕ
+  pub answers : call number arguments before.now ≡ answered answer next
   pub torn : IsTorn before.now next now
   pub world : World
   pub world_is : world.system ≡ after_call next before
@@ -61,7 +65,7 @@ StopsSo from stop.Done new now m = Ended outcome.done new now m
 StopsSo from (stop.Halted line) new now m = Ended (outcome.halted line) new now m
 StopsSo from (stop.Failed c line) new now m = Ended (outcome.failed c line) new now m
 StopsSo from stop.Turns new now m = Ended outcome.turns new now m
-StopsSo from stop.Fault new now m = Failed from now m
+StopsSo from (stop.Fault number) new now m = Failed number from now m
 StopsSo from stop.NoMemory new now m = GivenUp from now m
 
 -- what the code gives stands for what is given; or it goes no further

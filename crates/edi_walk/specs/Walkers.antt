@@ -1,5 +1,6 @@
 -- Words of contracts. A step of the walk: the choice of its process, what the process does, and what that asks for all processes.
 use Rattle.std.specs.Prelude.{◌≡◌, ◌≤◌, ◌<◌, ◌+◌, ◌-◌, ◌^◌, ℕ, zero, suc, Bool, false, List, [], ◌∷◌, ◌++◌, length, map, slice_get, slice_set, Result, Ok, Err, Some, ⊤}
+use Rattle.edi_calls.specs.Calls.{answered, call}
 use Rattle.edi_calls.specs.Ends.{IsTorn}
 use Rattle.edi_calls.specs.Names.{Name, Table, find, with_at}
 use Rattle.edi_calls.specs.Outcome as outcome
@@ -51,11 +52,14 @@ pub record StepEnds (unit : ProgramUnit) (s : Processes) (p : Name) (ending : En
   pub is : step unit s p ≡ ended ending system turns
   pub system_is : system.now ≡ now
 
--- an object outside failed in a call of the system that was to lead from the system before it to the next state
-pub record StepFails (unit : ProgramUnit) (s : Processes) (p : Name) (now : State) : Type 0 where
+-- an object outside failed in a call of this number that was to lead from the system before it to the next state
+pub record StepFails (number : ℕ) (unit : ProgramUnit) (s : Processes) (p : Name) (now : State) : Type 0 where
   pub before : Traced
   pub grew : Grows s.world.system before
   pub next : State
+  pub arguments : List ℕ
+  pub answer : List ℕ
+  pub answers : call number arguments before.now ≡ answered answer next
   pub torn : IsTorn before.now next now
   pub world : World
   pub world_is : world.system ≡ after_call next before
@@ -74,7 +78,7 @@ StepMakes unit bound s p others (Err stop.Done) new now = StepEnds unit s p outc
 StepMakes unit bound s p others (Err (stop.Halted line)) new now = StepEnds unit s p (outcome.halted line) now
 StepMakes unit bound s p others (Err (stop.Failed c line)) new now = StepEnds unit s p (outcome.failed c line) now
 StepMakes unit bound s p others (Err stop.Turns) new now = StepEnds unit s p outcome.turns now
-StepMakes unit bound s p others (Err stop.Fault) new now = StepFails unit s p now
+StepMakes unit bound s p others (Err (stop.Fault number)) new now = StepFails number unit s p now
 StepMakes unit bound s p others (Err stop.NoMemory) new now = StepIsCut unit s p now
 
 -- the process of this name, which is not in the list, has stepped

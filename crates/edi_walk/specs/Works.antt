@@ -154,5 +154,5 @@ Attempted cs false result old new = TurnsTo (asks.Stands cs) result old new
 
 -- no object outside has failed
 abbrev pub IsCalm : {T : Type 0} → Result T Stop → Type 0
-IsCalm (Err stop.Fault) = ⊥
+IsCalm (Err (stop.Fault number)) = ⊥
 IsCalm _ = ⊤

@@ -4,7 +4,7 @@ ghost use Rattle.std.specs.Prelude.{◌≡◌, ◌≤◌, ◌++◌, ◌∷◌, [
 ghost use Rattle.edi_told.specs.Told.{WhereTold};
 ghost use Rattle.edi_calls.specs.declared.ends.Outside.{Outside};
 ghost use Rattle.edi_calls.specs.Calls.{answer_words, argument_words, call};
-ghost use Rattle.edi_calls.specs.Ends.{Blames, CallsLast, Meets};
+ghost use Rattle.edi_calls.specs.Ends.{Blames, CallsLast, IsUsed, Meets};
 ghost use Rattle.edi_unit.specs.Types as types;
 ghost use Rattle.edi_unit.specs.Values.{ordinal as spec_ordinal, values};
 ghost use Rattle.edi_meaning.specs.Store.{put, Store};
@@ -42,6 +42,7 @@ fn make_call<C: Calls>(calls: &mut C, number: u8, arguments: &[u16]) -> Made
     ensures exact { WhereTold (C.state calls.old) (C.state calls.new)
         (λ s t. Meets (call number arguments.now s) result.end (take (answer_words number) (result.word ∷ [])) s t) }
     ensures blame { Blames result.end (C.failed calls.new) (C.faults calls.old) (C.faults calls.new) }
+    ensures used { IsUsed number (C.failed calls.new) }
     ensures lasts { CallsLast C.faults C.references C.leads calls.old calls.new }
 {
     let (_, answers) = words_of(number);
@@ -200,7 +201,7 @@ impl<'u> Evaluation<'u> {
             CallEnd::Ok => self.put_answer(number, cells, made.word),
             CallEnd::NoFile => Err(Stop::Failed(Cause::NoFile, line)),
             CallEnd::FileLimit => Err(Stop::Failed(Cause::FileLimit, line)),
-            CallEnd::OutsideFault => Err(Stop::Fault),
+            CallEnd::OutsideFault => Err(Stop::Fault(number)),
         }
     }
 

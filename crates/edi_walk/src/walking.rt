@@ -4,7 +4,7 @@ ghost use Rattle.std.specs.Prelude.{◌≡◌, None};
 ghost use Rattle.edi_told.specs.Told.{WhereTold};
 ghost use Rattle.edi_unit.specs.View.{unit_of};
 ghost use Rattle.edi_calls.specs.Ends.{CallsLast};
-ghost use Rattle.edi_walk.specs.Ends.{end_for, WalkBlames, WalksTo};
+ghost use Rattle.edi_walk.specs.Ends.{end_for, WalkBlames, WalkFaultsBy, WalksTo};
 
 use crate::stop::Stop;
 use crate::walker::Walker;
@@ -39,7 +39,7 @@ fn end_of(stop: Stop) -> WalkEnd
         Stop::Halted(line) => WalkEnd::Halted(line),
         Stop::Failed(cause, line) => WalkEnd::Failed(cause, line),
         Stop::Turns => WalkEnd::Turns,
-        Stop::Fault => WalkEnd::Fault,
+        Stop::Fault(_) => WalkEnd::Fault,
         Stop::NoMemory => WalkEnd::NoMemory,
     }
 }
@@ -57,6 +57,9 @@ pub fn walk<C: Calls>(
 ) -> WalkEnd
     requires working { C.failed calls.old None }
     ensures exact { WhereTold (C.state calls.old) (C.state calls.new) (λ s t. WalksTo (unit_of unit.now) s bound choices.old result t choices.new) }
+    // The call in which an object failed is one that uses this object.
+    ensures asked { WhereTold (C.state calls.old) (C.state calls.new)
+        (λ s t. WalkFaultsBy (C.failed calls.new) (unit_of unit.now) s bound choices.old result t choices.new) }
     ensures source { choices.new.source ≡ choices.old.source }
     ensures blame { WalkBlames result (C.failed calls.new) (C.faults calls.old) (C.faults calls.new) }
     ensures lasts { CallsLast C.faults C.references C.leads calls.old calls.new }

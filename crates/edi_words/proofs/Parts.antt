@@ -30,7 +30,7 @@ rules = shape.rules
 pub is_simple_app : is_simple app ≡ true
 is_simple_app = refl
 
--- ---- the seven arguments
+-- ---- the arguments
 
 pub data Name : Type 0 where
   turns : Name
@@ -39,6 +39,8 @@ pub data Name : Type 0 where
   record_ : Name
   from : Name
   states : Name
+  shown : Name
+  timeline : Name
 
 pub data Id : Type 0 where
   words : Id
@@ -51,6 +53,8 @@ bare_name seed = codes "seed"
 bare_name record_ = codes "record"
 bare_name from = codes "from"
 bare_name states = codes "states"
+bare_name shown = codes "shown"
+bare_name timeline = codes "timeline"
 
 abbrev pub name_of : Name → Text
 name_of name = 45 ∷ 45 ∷ bare_name name
@@ -148,6 +152,8 @@ settle_passes_at rows (Some (of seed, v)) = refl
 settle_passes_at rows (Some (of record_, v)) = refl
 settle_passes_at rows (Some (of from, v)) = refl
 settle_passes_at rows (Some (of states, v)) = refl
+settle_passes_at rows (Some (of shown, v)) = refl
+settle_passes_at rows (Some (of timeline, v)) = refl
 
 abbrev added : Id → Pending → List Text
 added k None = []
@@ -162,6 +168,8 @@ settle_gives k (Some (of seed, v)) rows = with_gives (text_of k) (text_of (of se
 settle_gives k (Some (of record_, v)) rows = with_gives (text_of k) (text_of (of record_)) _ (v ∷ []) rows
 settle_gives k (Some (of from, v)) rows = with_gives (text_of k) (text_of (of from)) _ (v ∷ []) rows
 settle_gives k (Some (of states, v)) rows = with_gives (text_of k) (text_of (of states)) _ (v ∷ []) rows
+settle_gives k (Some (of shown, v)) rows = with_gives (text_of k) (text_of (of shown)) _ (v ∷ []) rows
+settle_gives k (Some (of timeline, v)) rows = with_gives (text_of k) (text_of (of timeline)) _ (v ∷ []) rows
 
 -- ---- one word of the walk
 
@@ -215,6 +223,10 @@ name_step from rows p true = refl
 name_step from rows p false = refl
 name_step states rows p true = refl
 name_step states rows p false = refl
+name_step shown rows p true = refl
+name_step shown rows p false = refl
+name_step timeline rows p true = refl
+name_step timeline rows p false = refl
 
 name_passes : (name : Name) (rows : List Row) (p : Option (Text × List Text)) (word : Bool)
     → settle_passes rules shape.args_override_self (held_at rows p) ≡ true → turn_passes shape [] (stands rows p word) (name_of name) ≡ true
@@ -231,6 +243,10 @@ name_passes from rows p true s = rw s refl
 name_passes from rows p false s = rw s refl
 name_passes states rows p true s = rw s refl
 name_passes states rows p false s = rw s refl
+name_passes shown rows p true s = rw s refl
+name_passes shown rows p false s = rw s refl
+name_passes timeline rows p true s = rw s refl
+name_passes timeline rows p false s = rw s refl
 
 value_walked : (name : Name) (v : Text) → is_plain v ≡ true → (rows : List Row)
     → (walked rules [] (opened name rows) v ≡ stands rows (Some (bare_name name, v ∷ [])) false) × (turn_passes shape [] (opened name rows) v ≡ true)
@@ -257,6 +273,8 @@ of_word (of seed) w parts = refl
 of_word (of record_) w parts = refl
 of_word (of from) w parts = refl
 of_word (of states) w parts = refl
+of_word (of shown) w parts = refl
+of_word (of timeline) w parts = refl
 
 joins : (k : Id) (p : Pending) (rows : List Row) (rest : List Text)
     → vals (text_of k) (settle p rows) ++ rest ≡ vals (text_of k) rows ++ (added k p ++ rest)
@@ -307,6 +325,8 @@ of_option words seed v parts = refl
 of_option words record_ v parts = refl
 of_option words from v parts = refl
 of_option words states v parts = refl
+of_option words shown v parts = refl
+of_option words timeline v parts = refl
 of_option (of wanted) name v parts = joined (bytes_eq (bare_name name) (bare_name wanted)) v (values_of (name_of wanted) parts)
 
 after_option : (name : Name) (v : Text) (ws : List Text) (parts : List Part) (rows : List Row) (p : Pending) → is_plain v ≡ true
@@ -345,7 +365,13 @@ name_found word e = elim (or_cases _ _ e) [
           | inl h ↦ (from, (bytes_eq-Decides word _).0 h)
           | inr more ↦ elim (or_cases _ _ more) [
             | inl h ↦ (states, (bytes_eq-Decides word _).0 h)
-            | inr h ↦ absurd (true≢false (sym h))
+            | inr more ↦ elim (or_cases _ _ more) [
+              | inl h ↦ (shown, (bytes_eq-Decides word _).0 h)
+              | inr more ↦ elim (or_cases _ _ more) [
+                | inl h ↦ (timeline, (bytes_eq-Decides word _).0 h)
+                | inr h ↦ absurd (true≢false (sym h))
+              ]
+            ]
           ]
         ]
       ]
@@ -449,6 +475,8 @@ given_is ws parts e = λ i. record {
   record_files = matches_parts ws parts e (of record_) i;
   old_disks = matches_parts ws parts e (of from) i;
   states = matches_parts ws parts e (of states) i;
+  shown = matches_parts ws parts e (of shown) i;
+  timelines = matches_parts ws parts e (of timeline) i;
 }
 
 -- and the command in their matches is that of the words

@@ -1,20 +1,21 @@
--- Computed rows. Words of the command `explore`, and the option that is its own.
+-- Computed rows. Words of the command `explore`, and the options that are its own. And the words of a run with a timeline.
 use Rattle.std.specs.Prelude.{◌≡◌, [], ◌∷◌, Some, None, codes, refl}
-use Rattle.edi_words.specs.Words.{command_of, explore, run, nowhere}
+use Rattle.edi_words.specs.Words.{command_of, explore, file, nowhere, run, time, time_code}
 
 pub what_is_not_given : command_of (codes "explore" ∷ codes "p" ∷ []) ≡ Some (explore (codes "p") (record {
   states = 1000000;
   turns = 1000000;
   record_file = None;
+  shown = None;
 }))
 what_is_not_given = refl
 
 pub what_is_given : command_of (codes "explore" ∷ codes "p" ∷ codes "--record" ∷ codes "r" ∷ codes "--states" ∷ codes "100" ∷ codes "--turns" ∷ codes "7" ∷ [])
-    ≡ Some (explore (codes "p") (record { states = 100; turns = 7; record_file = Some (codes "r") }))
+    ≡ Some (explore (codes "p") (record { states = 100; turns = 7; record_file = Some (codes "r"); shown = None }))
 what_is_given = refl
 
 pub most_states : command_of (codes "explore" ∷ codes "p" ∷ codes "--states" ∷ codes "100000000" ∷ [])
-    ≡ Some (explore (codes "p") (record { states = 100000000; turns = 1000000; record_file = None }))
+    ≡ Some (explore (codes "p") (record { states = 100000000; turns = 1000000; record_file = None; shown = None }))
 most_states = refl
 
 pub too_many_states : command_of (codes "explore" ∷ codes "p" ∷ codes "--states" ∷ codes "100000001" ∷ []) ≡ None
@@ -22,6 +23,27 @@ too_many_states = refl
 
 pub no_states : command_of (codes "explore" ∷ codes "p" ∷ codes "--states" ∷ codes "0" ∷ []) ≡ None
 no_states = refl
+
+-- output is looked at where a number of endings is given
+pub output_is_looked_at : command_of (codes "explore" ∷ codes "p" ∷ codes "--shown" ∷ codes "20" ∷ [])
+    ≡ Some (explore (codes "p") (record { states = 1000000; turns = 1000000; record_file = None; shown = Some 20 }))
+output_is_looked_at = refl
+
+pub most_shown : command_of (codes "explore" ∷ codes "p" ∷ codes "--shown" ∷ codes "1000" ∷ [])
+    ≡ Some (explore (codes "p") (record { states = 1000000; turns = 1000000; record_file = None; shown = Some 1000 }))
+most_shown = refl
+
+pub too_many_shown : command_of (codes "explore" ∷ codes "p" ∷ codes "--shown" ∷ codes "1001" ∷ []) ≡ None
+too_many_shown = refl
+
+pub none_shown : command_of (codes "explore" ∷ codes "p" ∷ codes "--shown" ∷ codes "0" ∷ []) ≡ None
+none_shown = refl
+
+pub shown_without_number : command_of (codes "explore" ∷ codes "p" ∷ codes "--shown" ∷ []) ≡ None
+shown_without_number = refl
+
+pub shown_twice : command_of (codes "explore" ∷ codes "p" ∷ codes "--shown" ∷ codes "2" ∷ codes "--shown" ∷ codes "2" ∷ []) ≡ None
+shown_twice = refl
 
 -- it takes no choices, no seed and no old image
 pub without_choices : command_of (codes "explore" ∷ codes "p" ∷ codes "--choices" ∷ codes "c" ∷ []) ≡ None
@@ -33,11 +55,59 @@ without_seed = refl
 pub without_old_disk : command_of (codes "explore" ∷ codes "p" ∷ codes "--from" ∷ codes "d" ∷ []) ≡ None
 without_old_disk = refl
 
--- and no other command takes its option
+-- and no other command takes its options
 pub of_explore_alone : command_of (codes "run" ∷ codes "p" ∷ codes "--states" ∷ codes "5" ∷ []) ≡ None
 of_explore_alone = refl
+
+pub shown_of_explore_alone : command_of (codes "run" ∷ codes "p" ∷ codes "--shown" ∷ codes "5" ∷ []) ≡ None
+shown_of_explore_alone = refl
+
+pub shown_of_no_walk : command_of (codes "walk" ∷ codes "p" ∷ codes "c" ∷ codes "--shown" ∷ codes "5" ∷ []) ≡ None
+shown_of_no_walk = refl
 
 -- as it takes the others
 pub others_are_taken : command_of (codes "run" ∷ codes "p" ∷ codes "--turns" ∷ codes "5" ∷ [])
     ≡ Some (run (codes "p") (record { turns = 5; choices = nowhere; record_file = None }))
 others_are_taken = refl
+
+-- ---- a timeline
+
+-- the place of the option among the words does not matter
+pub timed_run : command_of (codes "--timeline" ∷ codes "t" ∷ codes "run" ∷ codes "p" ∷ codes "--record" ∷ codes "r" ∷ [])
+    ≡ Some (time (codes "p") (codes "t") (record { turns = 1000000; choices = nowhere; record_file = Some (codes "r") }))
+timed_run = refl
+
+pub timed_replay : command_of (codes "replay" ∷ codes "p" ∷ codes "c" ∷ codes "--timeline" ∷ codes "t" ∷ codes "--turns" ∷ codes "9" ∷ [])
+    ≡ Some (time (codes "p") (codes "t") (record { turns = 9; choices = file (codes "c"); record_file = None }))
+timed_replay = refl
+
+pub timed_code : command_of (codes "exec" ∷ codes "p" ∷ codes "--timeline" ∷ codes "t" ∷ [])
+    ≡ Some (time_code (codes "p") (codes "t") (record { turns = 1000000; choices = nowhere; record_file = None }))
+timed_code = refl
+
+-- it is given once, with a name
+pub two_timelines : command_of (codes "run" ∷ codes "p" ∷ codes "--timeline" ∷ codes "t" ∷ codes "--timeline" ∷ codes "t" ∷ []) ≡ None
+two_timelines = refl
+
+pub no_timeline : command_of (codes "run" ∷ codes "p" ∷ codes "--timeline" ∷ []) ≡ None
+no_timeline = refl
+
+-- a replay takes no record with it either
+pub no_record : command_of (codes "replay" ∷ codes "p" ∷ codes "c" ∷ codes "--timeline" ∷ codes "t" ∷ codes "--record" ∷ codes "r" ∷ []) ≡ None
+no_record = refl
+
+-- no other command takes it
+pub not_explore : command_of (codes "explore" ∷ codes "p" ∷ codes "--timeline" ∷ codes "t" ∷ []) ≡ None
+not_explore = refl
+
+pub not_watch : command_of (codes "watch" ∷ codes "p" ∷ codes "s" ∷ codes "l" ∷ codes "--timeline" ∷ codes "t" ∷ []) ≡ None
+not_watch = refl
+
+pub not_walk : command_of (codes "walk" ∷ codes "p" ∷ codes "c" ∷ codes "--timeline" ∷ codes "t" ∷ []) ≡ None
+not_walk = refl
+
+pub not_demo : command_of (codes "demo" ∷ codes "5" ∷ codes "--timeline" ∷ codes "t" ∷ []) ≡ None
+not_demo = refl
+
+pub not_boot : command_of (codes "boot" ∷ codes "--timeline" ∷ codes "t" ∷ []) ≡ None
+not_boot = refl

@@ -28,7 +28,12 @@ options_of o = record {
 }
 
 abbrev pub exploring_of : ExploreOptions → words.ExploreOptions
-exploring_of o = record { states = o.states; turns = o.turns; record_file = option_map (λ name. name.now) o.record_file }
+exploring_of o = record {
+  states = o.states;
+  turns = o.turns;
+  record_file = option_map (λ name. name.now) o.record_file;
+  shown = o.shown;
+}
 
 abbrev pub view : Command → words.Command
 view (command.Run file options) = words.run file.now (options_of options)
@@ -46,6 +51,8 @@ view (command.Explain file) = words.explain file.now
 view (command.Walk file choices turns) = words.walk file.now choices.now turns
 view (command.Watch file stops out options) = words.watch file.now stops.now out.now (options_of options)
 view (command.Explore file options) = words.explore file.now (exploring_of options)
+view (command.Time file out options) = words.time file.now out.now (options_of options)
+view (command.TimeCode file out options) = words.time_code file.now out.now (options_of options)
 
 -- Titles are titles, and numbers are in their ranges.
 abbrev pub IsInRange : Command → Type 0

@@ -25,11 +25,12 @@ pub record Options : Type 0 where
   pub record_file : Option (List ℕ)
 
 -- how an exploration is to go: how many states are kept, how many turns a stint may have, and the name of the files that are to keep the choices
--- of its endings
+-- of its endings; and how many endings are told, if those with other output are others
 pub record ExploreOptions : Type 0 where
   pub states : ℕ
   pub turns : ℕ
   pub record_file : Option (List ℕ)
+  pub shown : Option ℕ
 
 pub data Command : Type 0 where
   run : (file : List ℕ) → Options → Command
@@ -47,6 +48,9 @@ pub data Command : Type 0 where
   walk : (file choices : List ℕ) → (turns : ℕ) → Command
   watch : (file stops out : List ℕ) → Options → Command
   explore : (file : List ℕ) → ExploreOptions → Command
+  -- a run with a timeline: `run FILE --timeline OUT` and `replay FILE CHOICES --timeline OUT`, and `exec CODEFILE --timeline OUT`
+  time : (file out : List ℕ) → Options → Command
+  time_code : (file out : List ℕ) → Options → Command
 
 -- ---- operands and options
 
@@ -62,7 +66,8 @@ is_plain (b ∷ more) = not (b == 45)
 
 abbrev pub option_names : List Text
 option_names =
-    codes "--turns" ∷ codes "--choices" ∷ codes "--seed" ∷ codes "--record" ∷ codes "--from" ∷ codes "--states" ∷ []
+    codes "--turns" ∷ codes "--choices" ∷ codes "--seed" ∷ codes "--record" ∷ codes "--from" ∷ codes "--states" ∷ codes "--shown"
+    ∷ codes "--timeline" ∷ []
 
 abbrev pub is_option_name : Text → Bool
 is_option_name word = list_any (bytes_eq word) option_names
@@ -71,7 +76,7 @@ abbrev pub before_parts : Part → Option (List Part) → Option (List Part)
 before_parts part None = None
 before_parts part (Some parts) = Some (part ∷ parts)
 
--- A word is an operand, or one of the six option names, which the word behind it follows as its value. Every other word
+-- A word is an operand, or one of the option names, which the word behind it follows as its value. Every other word
 -- is refused: an empty one, one that begins with `-` and is no option name, and an option name without a value.
 abbrev pub parts_of : List Text → Option (List Part)
 parts_of [] = Some []
@@ -102,6 +107,8 @@ pub record Given : Type 0 where
   pub record_files : List (List ℕ)
   pub old_disks : List (List ℕ)
   pub states : List (List ℕ)
+  pub shown : List (List ℕ)
+  pub timelines : List (List ℕ)
 
 abbrev pub given_of : List Part → Given
 given_of parts = record {
@@ -112,25 +119,27 @@ given_of parts = record {
   record_files = values_of (codes "--record") parts;
   old_disks = values_of (codes "--from") parts;
   states = values_of (codes "--states") parts;
+  shown = values_of (codes "--shown") parts;
+  timelines = values_of (codes "--timeline") parts;
 }
 
 abbrev pub at_most : ℕ → List Text → Bool
 at_most n values = nat_le (length values) n
 
--- The options but for `--states` are only those that a command takes: `--turns` at most so many times, `--choices`, `--seed` and `--record`
--- each at most so many times, and `--from` at most so many times. No command takes one twice.
+-- The options but for `--states`, `--shown` and `--timeline` are only those that a command takes: `--turns` at most so many times, `--choices`,
+-- `--seed` and `--record` each at most so many times, and `--from` at most so many times. No command takes one twice.
 abbrev pub takes : (turns others from : ℕ) → Given → Bool
 takes turns others from g =
     at_most turns g.turns && at_most others g.choices && at_most others g.seeds && at_most others g.record_files
     && at_most from g.old_disks
 
--- `--states` is not given
-abbrev pub has_no_states : Given → Bool
-has_no_states g = at_most 0 g.states
+-- neither `--states` nor `--shown` is given
+abbrev pub has_no_exploring : Given → Bool
+has_no_exploring g = at_most 0 g.states && at_most 0 g.shown
 
--- The options are those of an exploration: `--states`, `--turns` and `--record`, each at most once.
+-- The options are those of an exploration: `--states`, `--shown`, `--turns` and `--record`, each at most once.
 abbrev pub takes_exploring : Given → Bool
-takes_exploring g = at_most 1 g.states && at_most 0 g.choices && at_most 0 g.seeds && takes 1 1 0 g
+takes_exploring g = at_most 1 g.states && at_most 1 g.shown && at_most 0 g.choices && at_most 0 g.seeds && takes 1 1 0 g
 
 -- ---- numbers
 
@@ -160,6 +169,11 @@ abbrev pub states_by : List Text → Option ℕ
 states_by [] = Some 1000000
 states_by (value ∷ more) = number_in 1 100000000 value
 
+-- how many endings are told where output is looked at, which is not where no number is given
+abbrev pub shown_by : List Text → Option (Option ℕ)
+shown_by [] = Some None
+shown_by (value ∷ more) = option_map Some (number_in 1 1000 value)
+
 -- `--choices` and `--seed` exclude each other
 abbrev pub choices_by : (files seeds : List Text) → Option ChoicesFrom
 choices_by [] [] = Some nowhere
@@ -183,11 +197,14 @@ options_with_turns g turns = option_map (options_with g turns) (choices_by g.cho
 abbrev pub options_in : Given → Option Options
 options_in g = option_and_then (options_with_turns g) (turns_in g)
 
-abbrev pub exploring_with : Given → (states turns : ℕ) → ExploreOptions
-exploring_with g states turns = record { states = states; turns = turns; record_file = first_of g.record_files }
+abbrev pub exploring_with : Given → (states turns : ℕ) → (shown : Option ℕ) → ExploreOptions
+exploring_with g states turns shown = record { states = states; turns = turns; record_file = first_of g.record_files; shown = shown }
+
+abbrev pub exploring_with_turns : Given → (states turns : ℕ) → Option ExploreOptions
+exploring_with_turns g states turns = option_map (exploring_with g states turns) (shown_by g.shown)
 
 abbrev pub exploring_with_states : Given → ℕ → Option ExploreOptions
-exploring_with_states g states = option_map (exploring_with g states) (turns_in g)
+exploring_with_states g states = option_and_then (exploring_with_turns g states) (turns_in g)
 
 -- the options of an exploration
 abbrev pub exploring_in : Given → Option ExploreOptions
@@ -287,7 +304,7 @@ named_more name operands g =
     else (if bytes_eq name (codes "watch") then option_map (λ p. watch p.0.0 p.0.1 p.0.2 p.1) (watched_run operands g)
     else None)))))))
 
--- the command of this name, without `--states`
+-- the command of this name, without `--states` and `--shown`
 abbrev pub named_plain : Text → List Text → Given → Option Command
 named_plain name operands g =
     if bytes_eq name (codes "run") then option_map (λ p. run p.0 p.1) (file_run operands g)
@@ -298,16 +315,32 @@ named_plain name operands g =
     else (if bytes_eq name (codes "newdisk") then option_map (λ p. newdisk p.0 p.1) (new_disk operands g)
     else named_more name operands g)))))
 
--- the command of this name; `--states` is an option of `explore` alone
+-- the command of this name; `--states` and `--shown` are options of `explore` alone
 abbrev pub named : Text → List Text → Given → Option Command
 named name operands g =
     if bytes_eq name (codes "explore") then option_map (λ p. explore p.0 p.1) (explored_file operands g)
-    else (if has_no_states g then named_plain name operands g else None)
+    else (if has_no_exploring g then named_plain name operands g else None)
 
--- the first operand names the command, the others are its own
+-- The command with a timeline of this name. Only runs of files have one; a replay is then a run with the choices of its file.
+abbrev pub timed : (out : Text) → Command → Option Command
+timed out (run file_ o) = Some (time file_ out o)
+timed out (replay file_ choices turns) = Some (time file_ out (record { turns = turns; choices = file choices; record_file = None }))
+timed out (exec file_ o) = Some (time_code file_ out o)
+timed out c = None
+
+abbrev pub named_timed : (out name : Text) → List Text → Given → Option Command
+named_timed out name operands g = option_and_then (timed out) (named name operands g)
+
+-- `--timeline` is not given
+abbrev pub has_no_timeline : Given → Bool
+has_no_timeline g = at_most 0 g.timelines
+
+-- The first operand names the command, the others are its own. `--timeline` is given at most once.
 abbrev pub command_by : List Text → Given → Option Command
 command_by [] g = None
-command_by (name ∷ operands) g = named name operands g
+command_by (name ∷ operands) g =
+    if has_no_timeline g then named name operands g
+    else option_and_then (λ out. named_timed out name operands g) (one_operand g.timelines)
 
 abbrev pub command_in : Given → Option Command
 command_in g = command_by g.operands g

@@ -31,6 +31,8 @@ pub struct ExploreOptions<'a> {
     pub turns: u32,
     /// The name of the files that are to keep the choices of the endings.
     pub record_file: Option<&'a str>,
+    /// How many endings are told at most where endings with other output are others, 1 to 1,000; none where output is not looked at.
+    pub shown: Option<u32>,
 }
 
 /// A command. Its names of files and titles are texts of the words.
@@ -110,5 +112,17 @@ pub enum Command<'a> {
     Explore {
         file: &'a str,
         options: ExploreOptions<'a>,
+    },
+    /// `run FILE --timeline OUT` and `replay FILE CHOICES --timeline OUT`: runs the program of a text and keeps a timeline.
+    Time {
+        file: &'a str,
+        out: &'a str,
+        options: Options<'a>,
+    },
+    /// `exec CODEFILE --timeline OUT`: runs the program of a code file and keeps a timeline.
+    TimeCode {
+        file: &'a str,
+        out: &'a str,
+        options: Options<'a>,
     },
 }

@@ -17,6 +17,8 @@ pub(crate) struct Given<'m, 'a> {
     pub(crate) record_files: &'m [&'a str],
     pub(crate) old_disks: &'m [&'a str],
     pub(crate) states: &'m [&'a str],
+    pub(crate) shown: &'m [&'a str],
+    pub(crate) timelines: &'m [&'a str],
 }
 
 fn are_digits(word: &[u8]) -> bool
@@ -65,6 +67,19 @@ fn states_by(values: &[&str]) -> Option<u32>
     }
 }
 
+/// How many endings are told where output is looked at.
+fn shown_by(values: &[&str]) -> Option<Option<u32>>
+    ensures { result ≡ words.shown_by (texts values.now) }
+{
+    match values.first() {
+        Some(value) => {
+            let most = number_in(1, 1000, value)?;
+            Some(Some(most))
+        }
+        None => Some(None),
+    }
+}
+
 fn first_of<'a>(values: &[&'a str]) -> Option<&'a str>
     ensures { option_map (λ text. text.now) result ≡ words.first_of (texts values.now) }
 {
@@ -92,8 +107,8 @@ fn at_most(most: usize, values: &[&str]) -> bool
 }
 
 impl<'m, 'a> Given<'m, 'a> {
-    /// Whether of the options but for `--states` only these are given, each at most so many times: `--turns`; `--choices`, `--seed` and
-    /// `--record`; and `--from`.
+    /// Whether of the options but for `--states`, `--shown` and `--timeline` only these are given, each at most so many times: `--turns`;
+    /// `--choices`, `--seed` and `--record`; and `--from`.
     pub(crate) fn takes(&self, turns: usize, others: usize, from: usize) -> bool
         ensures { result ≡ words.takes turns others from (given_view self.now) }
     {
@@ -104,18 +119,26 @@ impl<'m, 'a> Given<'m, 'a> {
             && at_most(from, self.old_disks)
     }
 
-    /// Whether `--states` is not given.
-    pub(crate) fn has_no_states(&self) -> bool
-        ensures { result ≡ words.has_no_states (given_view self.now) }
+    /// Whether neither `--states` nor `--shown` is given.
+    pub(crate) fn has_no_exploring(&self) -> bool
+        ensures { result ≡ words.has_no_exploring (given_view self.now) }
     {
-        at_most(0, self.states)
+        at_most(0, self.states) && at_most(0, self.shown)
     }
 
-    /// Whether only `--states`, `--turns` and `--record` are given, each at most once.
+    /// Whether `--timeline` is not given.
+    pub(crate) fn has_no_timeline(&self) -> bool
+        ensures { result ≡ words.has_no_timeline (given_view self.now) }
+    {
+        at_most(0, self.timelines)
+    }
+
+    /// Whether only `--states`, `--shown`, `--turns` and `--record` are given, each at most once.
     pub(crate) fn takes_exploring(&self) -> bool
         ensures { result ≡ words.takes_exploring (given_view self.now) }
     {
         at_most(1, self.states)
+            && at_most(1, self.shown)
             && at_most(0, self.choices)
             && at_most(0, self.seeds)
             && self.takes(1, 1, 0)
@@ -155,11 +178,13 @@ impl<'m, 'a> Given<'m, 'a> {
     {
         let states = states_by(self.states)?;
         let turns = self.bound()?;
+        let shown = shown_by(self.shown)?;
         let record_file = first_of(self.record_files);
         Some(ExploreOptions {
             states,
             turns,
             record_file,
+            shown,
         })
     }
 }

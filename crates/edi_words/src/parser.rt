@@ -35,6 +35,8 @@ fn is_option_name(word: &str) -> bool
         || word == "--record"
         || word == "--from"
         || word == "--states"
+        || word == "--shown"
+        || word == "--timeline"
 }
 
 /// Whether the words are operands and options, each with its value.
@@ -86,6 +88,8 @@ fn parser<'a>(alloc: Global) -> Result<clap::Command<'a>, AllocError>
         .arg(option_of(alloc, "record"))?
         .arg(option_of(alloc, "from"))?
         .arg(option_of(alloc, "states"))?
+        .arg(option_of(alloc, "shown"))?
+        .arg(option_of(alloc, "timeline"))?
         .arg(operands_of(alloc))
 }
 
@@ -109,6 +113,8 @@ fn given<'m, 'a>(matches: &'m ArgMatches<'a>, none: &'m [&'a str]) -> Given<'m, 
         record_files: values(matches, none, "record"),
         old_disks: values(matches, none, "from"),
         states: values(matches, none, "states"),
+        shown: values(matches, none, "shown"),
+        timelines: values(matches, none, "timeline"),
     }
 }
 

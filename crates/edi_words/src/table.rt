@@ -5,8 +5,9 @@ ghost use Rattle.edi_words.specs.Words as words;
 ghost use Rattle.edi_words.specs.View.{texts, view, IsInRange};
 ghost use Rattle.edi_words.specs.Inside.{given_view};
 
-use crate::commands::Command;
+use crate::commands::{ChoicesFrom, Command, Options};
 use crate::given::Given;
+use crate::operands::one_operand;
 use crate::rows::{
     bare_run, explored_file, file_run, get_file, guided_run, new_disk, only_file, only_files,
     put_file, sized_run, watched_run,
@@ -192,7 +193,7 @@ fn named_more<'a>(name: &str, operands: &[&'a str], given: &Given<'_, 'a>) -> Op
     None
 }
 
-/// The command of this name, without `--states`.
+/// The command of this name, without `--states` and `--shown`.
 fn named_plain<'a>(name: &str, operands: &[&'a str], given: &Given<'_, 'a>) -> Option<Command<'a>>
     ensures exact { option_map view result ≡ words.named_plain name.now (texts operands.now) (given_view given.now) }
     ensures range { IfSome result IsInRange }
@@ -218,7 +219,7 @@ fn named_plain<'a>(name: &str, operands: &[&'a str], given: &Given<'_, 'a>) -> O
     named_more(name, operands, given)
 }
 
-/// The command of this name. Only `explore` takes `--states`.
+/// The command of this name. Only `explore` takes `--states` and `--shown`.
 fn named<'a>(name: &str, operands: &[&'a str], given: &Given<'_, 'a>) -> Option<Command<'a>>
     ensures exact { option_map view result ≡ words.named name.now (texts operands.now) (given_view given.now) }
     ensures range { IfSome result IsInRange }
@@ -226,10 +227,49 @@ fn named<'a>(name: &str, operands: &[&'a str], given: &Given<'_, 'a>) -> Option<
     if name == "explore" {
         return explore(operands, given);
     }
-    if !given.has_no_states() {
+    if !given.has_no_exploring() {
         return None;
     }
     named_plain(name, operands, given)
+}
+
+/// The command with a timeline of this name, if it runs a file.
+fn timed<'a>(out: &'a str, command: Command<'a>) -> Option<Command<'a>>
+    ensures exact { option_map view result ≡ words.timed out.entry.now (view command.entry) }
+    ensures range { IfSome result IsInRange }
+{
+    match command {
+        Command::Run { file, options } => Some(Command::Time { file, out, options }),
+        Command::Replay {
+            file,
+            choices,
+            turns,
+        } => Some(Command::Time {
+            file,
+            out,
+            options: Options {
+                turns,
+                choices: ChoicesFrom::File(choices),
+                record_file: None,
+            },
+        }),
+        Command::Exec { file, options } => Some(Command::TimeCode { file, out, options }),
+        _ => None,
+    }
+}
+
+/// The command of this name with a timeline.
+fn named_timed<'a>(
+    out: &'a str,
+    name: &str,
+    operands: &[&'a str],
+    given: &Given<'_, 'a>,
+) -> Option<Command<'a>>
+    ensures exact { option_map view result ≡ words.named_timed out.entry.now name.now (texts operands.now) (given_view given.now) }
+    ensures range { IfSome result IsInRange }
+{
+    let command = named(name, operands, given)?;
+    timed(out, command)
 }
 
 /// The command that the operands and options are: the first operand is its name.
@@ -238,5 +278,9 @@ pub(crate) fn command_in<'a>(given: &Given<'_, 'a>) -> Option<Command<'a>>
     ensures range { IfSome result IsInRange }
 {
     let (name, operands) = given.operands.split_first()?;
-    named(name, operands, given)
+    if given.has_no_timeline() {
+        return named(name, operands, given);
+    }
+    let out = one_operand(given.timelines)?;
+    named_timed(out, name, operands, given)
 }

@@ -9,20 +9,23 @@ use std::io::IsTerminal;
 const USAGES: [(&str, &str); 15] = [
     (
         "run",
-        "run FILE [--turns N] [--choices FILE | --seed N] [--record FILE]",
+        "run FILE [--turns N] [--choices FILE | --seed N] [--record FILE] [--timeline NAME]",
     ),
-    ("replay", "replay FILE CHOICES [--turns N]"),
+    (
+        "replay",
+        "replay FILE CHOICES [--turns N] [--timeline NAME]",
+    ),
     ("compile", "compile FILE OUT"),
     (
         "exec",
-        "exec CODEFILE [--turns N] [--choices FILE | --seed N] [--record FILE]",
+        "exec CODEFILE [--turns N] [--choices FILE | --seed N] [--record FILE] [--timeline NAME]",
     ),
     ("list", "list CODEFILE"),
     ("check", "check FILE"),
     ("explain", "explain FILE"),
     (
         "explore",
-        "explore FILE [--states N] [--turns N] [--record NAME]",
+        "explore FILE [--states N] [--shown N] [--turns N] [--record NAME]",
     ),
     ("walk", "walk FILE CHOICES [--turns N]"),
     (

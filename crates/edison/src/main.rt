@@ -2,10 +2,12 @@
 #![tactic(auto)]
 
 mod hints;
+mod progress;
 
 use edi_host::{DRIVE_FILE, HostDrive, HostFiles, HostSink, HostSource};
 use edi_kernel::Kernel;
 use edi_main::{Status, edison};
+use progress::Progress;
 use std::env;
 use std::fs::{File, OpenOptions, TryLockError};
 use std::io::{self, ErrorKind, Input};
@@ -66,6 +68,7 @@ fn main(rt: HostRuntime) -> ExitCode {
     let (_held, mut drive) = held_drive(&rt, &words);
     let mut input = HostSource::new(rt.reader());
     let mut terminal = HostSink::new(io::writer(&rt));
+    let mut progress = Progress::new(&rt);
     let status = edison(
         rt.alloc(),
         &words,
@@ -75,6 +78,7 @@ fn main(rt: HostRuntime) -> ExitCode {
         &mut terminal,
         &mut printer,
         &mut kernel,
+        &mut progress,
     );
     hints::show(&rt, &words, status);
     ExitCode::from(status.number())

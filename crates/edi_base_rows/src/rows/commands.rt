@@ -20,7 +20,7 @@ fn is_refused(alloc: Global, line: &str) -> Option<bool> {
     Some(found.is_none())
 }
 
-const REFUSED: [&str; 9] = [
+const REFUSED: [&str; 15] = [
     "run",
     "--version",
     "run a --turns=5",
@@ -30,6 +30,12 @@ const REFUSED: [&str; 9] = [
     "replay a b --record c",
     "boot a",
     "demo 1001",
+    "run a --timeline",
+    "run a --timeline b --timeline b",
+    "replay a b --timeline c --record d",
+    "watch a b c --timeline d",
+    "explore a --timeline b",
+    "demo 5 --timeline a",
 ];
 
 fn are_refused(rt: &impl Abort, alloc: Global, table: &[&str]) {
@@ -59,6 +65,22 @@ fn options_anywhere(rt: HostRuntime) {
         record_file: Some("r"),
     };
     let expected = Command::Run { file: "a", options };
+    assert!(rt; is_command(rt.alloc(), line, expected) == Some(true));
+}
+
+#[test]
+fn a_timeline(rt: HostRuntime) {
+    let options = Options {
+        turns: 9,
+        choices: ChoicesFrom::File("c"),
+        record_file: None,
+    };
+    let expected = Command::Time {
+        file: "a",
+        out: "t",
+        options,
+    };
+    let line = "replay a --timeline t c --turns 9";
     assert!(rt; is_command(rt.alloc(), line, expected) == Some(true));
 }
 

@@ -1,8 +1,8 @@
 -- What a status says of the drive by itself: of the number of its blocks, and of its image.
-use Rattle.std.proofs.Common.{◌≡◌, ℕ, true, true≢false, List, sym, inl, inr}
+use Rattle.std.proofs.Common.{◌≡◌, ℕ, false, true, true≢false, List, refl, sym, inl, inr}
 use Rattle.edi_host.specs.declared.files.KeepEnd.{KeepEnd}
 use Rattle.edi_host.specs.declared.files.KeepEnd.TheVariants as keep
-use Rattle.edi_statuses.specs.EachObject.{FitsGet, KeepsImage, MayBeImage, is_before_drive}
+use Rattle.edi_statuses.specs.EachObject.{FitsGet, KeepsImage, MayBeImage, is_before_drive, is_unread}
 use Rattle.edi_statuses.specs.declared.status.Status.{Status}
 use Rattle.edi_statuses.specs.declared.status.Status.TheVariants as status
 use Rattle.edi_statuses.proofs.EachLeft.{same_valid}
@@ -41,3 +41,9 @@ put_valid status.DriveFault title bytes old new (inr far) = λ valid. elim far.2
       ]
 ]
 put_valid s title bytes old new h = absurd h
+
+-- nor is it that of a file that is not read
+pub kept_read : (end : KeepEnd) → is_unread (status_kept end) ≡ false
+kept_read keep.Ok = refl
+kept_read keep.Failed = refl
+kept_read keep.NoMemory = refl

@@ -16,7 +16,7 @@ use Rattle.edi_statuses.specs.Showing.{ShowsFar}
 use Rattle.edi_commands.specs.steps.NotMounted.{mount_status}
 use Rattle.edi_commands.specs.steps.OnFiles.{RecordEnd, RecordStep}
 use Rattle.edi_commands.proofs.steps.Unmounted.{unmounted_behind, unmounted_fits}
-use Rattle.edi_commands.specs.run.CodeRan.{object_status}
+use Rattle.edi_statuses.specs.Executions.{object_status}
 use Rattle.edi_commands.specs.run.OnMounted.{DriveAsked}
 
 -- another status that is the same

@@ -1,6 +1,7 @@
 -- The disk has the same number of blocks all through a run.
 use Rattle.std.proofs.Common.{◌≡◌, ◌∙◌, ℕ, ◌<◌, zero, suc, List, [], ◌∷◌, ◌++◌, length, Option, Some, None, refl, sym, ap, subst, arith}
 use Rattle.std.specs.Prelude.{slice_index_or, ⊤}
+use Rattle.edi_calls.specs.Asked.{IsFollowed}
 use Rattle.edi_calls.specs.Calls.{CallResult, answered, no_file, file_limit, call}
 use Rattle.edi_calls.specs.Choice.{Choices}
 use Rattle.edi_calls.specs.Names.{Name, find}
@@ -35,6 +36,10 @@ module _ (count : ℕ) where
   one_has [] s h i below is = absurd (omega arith)
   one_has (first ∷ states) s h zero below is = subst HasCount is h.0
   one_has (first ∷ states) s h (suc i) below is = one_has states s h.1 i (omega (arith, below)) is
+
+  behind_have : (later states : List State) → AllHave (later ++ states) → AllHave states
+  behind_have [] states h = h
+  behind_have (s ∷ later) states h = behind_have later states h.1
 
   -- ---- of one instruction
 
@@ -97,6 +102,14 @@ module _ (fetch : ℕ → Option (Instruction × ℕ)) (entry : ℕ) (calls : Li
   moment_blocks moment h =
       one_has system.blocks (moments_of system (history_from_start fetch entry calls system bound choices before h.0)) moment
       (both_have system.blocks (history_from_start fetch entry calls system bound choices before h.0) (system ∷ []) (all_have h.0) (refl, tt)) h.1.0 h.1.1 h.1.2
+
+  -- before and after each call
+  pub call_blocks : (n : ℕ) (from next : State) → IsFollowed system (history_from_start fetch entry calls system bound choices before n) from next
+      → (from.blocks ≡ system.blocks) × (next.blocks ≡ system.blocks)
+  call_blocks n from next h =
+      let all : AllHave system.blocks (h.later ++ next ∷ h.earlier) = subst (AllHave system.blocks) h.is (all_have n) in
+      let rest : AllHave system.blocks (next ∷ h.earlier) = behind_have system.blocks h.later (next ∷ h.earlier) all in
+      (subst (HasCount system.blocks) h.last (newest_has system.blocks system h.earlier refl rest.1), rest.0)
 
   -- at the end
   pub end_blocks : (n : ℕ) (ending : Ending) (m : Machine) (drawn : ℕ)

@@ -119,7 +119,7 @@ module _ (n : ℕ) (o : Options) (before after : Outside) (blocks : SameBlocks b
       uses = tt;
       far = (
         same_but (names_in o.record_file) before.files after.files h.0,
-        (choices, steps, inl (on_its_own (λ b a. SameFiles b a × BrokeRun (text (demo_text n)) o.turns choices b a shown) disk left (h.0, h.2))),
+        (choices, steps, inl (on_its_own (λ b a. SameFiles b a × BrokeRun status.OutputFault (text (demo_text n)) o.turns choices b a shown) disk left (h.0, h.2))),
       );
     }
     ran_means status.DriveFault of_ not_ok h = absurd of_

@@ -5,7 +5,7 @@ use Rattle.edi_calls.specs.declared.ends.Outside as failing
 use Rattle.edi_calls.specs.declared.ends.Outside.TheVariants as object
 use Rattle.edi_calls.specs.Choice.{Choices}
 use Rattle.edi_calls.specs.Outcome as outcome
-use Rattle.edi_execute.specs.Objects.{HasRun, StandsAtMoment}
+use Rattle.edi_execute.specs.Objects.{HasRun, StandsAtCall}
 use Rattle.edi_image.specs.declared.faults.MountFault.{MountFault}
 use Rattle.edi_kernel.specs.declared.ends.Ending.{Ending}
 use Rattle.edi_kernel.specs.declared.ends.Ending.TheVariants as ending
@@ -15,13 +15,13 @@ use Rattle.edi_statuses.specs.declared.status.Status.{Status}
 use Rattle.edi_statuses.specs.Counts.{Counts, HasCause}
 use Rattle.edi_statuses.specs.Outside.{Outside, seen, system_on, with_kept, Keeps, SameFiles, Lent}
 use Rattle.edi_statuses.specs.Steps.{goes, Mounts}
-use Rattle.edi_statuses.specs.Executions.{Runnable, HasCode, HasMoment, StandsAt, Ran, BrokeRun, record_of, status_of}
+use Rattle.edi_statuses.specs.Executions.{Runnable, FailedAt, HasCall, HasCode, Ran, BrokeRun, object_status, record_of, status_of}
 use Rattle.edi_statuses.specs.Executions as statuses
 use Rattle.edi_statuses.specs.Commands.{Runs}
 use Rattle.edi_statuses.specs.Broken.{RanWhole}
 use Rattle.edi_commands.specs.steps.OnFiles.{RecordEnd, RecordStep}
 use Rattle.edi_commands.specs.steps.NotMounted.{mount_status}
-use Rattle.edi_commands.specs.run.CodeRan.{CodeRan, RanCode, ending_status, object_status}
+use Rattle.edi_commands.specs.run.CodeRan.{CodeRan, RanCode, ending_status}
 use Rattle.edi_commands.proofs.run.Mounting.{IsLeft, IsUnmounted, left_due, left_each, left_shows, mounts, shown_in, unkept, unmounted_by, unmounted_each}
 use Rattle.edi_commands.proofs.run.Left.{devices_told, told_by, ending_of, has_run, stands, IsNoFault}
 use Rattle.edi_statuses.proofs.Told.{same_told, still, shows_nothing}
@@ -33,7 +33,7 @@ pub unmounted : (parts : CodeParts) (bound : ℕ) (choices : Choices) (name : Op
 unmounted parts bound choices name s due before after kernel why is silent h = record {
   shown = [];
   ran = λ program code. subst (λ x. CodeRan program bound choices name x (seen before after) after [] kernel) (sym is)
-      (unmounted_by before after kernel why h name (BrokeRun program bound choices (seen before after) after [])
+      (unmounted_by before after kernel why h name (BrokeRun (mount_status why) program bound choices (seen before after) after [])
       (RanWhole program bound choices (seen before after) after [] kernel) (λ end. Runs program bound choices name end (seen before after) after [] kernel));
   shows = shows_nothing before.shown after.shown h.shown;
   due_is = silent;
@@ -66,14 +66,15 @@ module _ (parts : CodeParts) (bound : ℕ) (old : Drawn) (none : old.drawn ≡ 0
   shown_now = shown_in due before after
 
   -- an object has failed
-  pub broke_run : WhereTold (told_by before) (told_by after) (StandsAtMoment parts bound old) → (program : Runnable) → HasCode program parts
-      → BrokeRun program bound old.source (seen before after) after shown_now
-  broke_run moment program is =
-      devices_told before after shown_now (StandsAtMoment parts bound old) (λ d e. StandsAt (HasMoment program (system_on d) bound old.source) d e shown_now)
-      left.told.valid (left_shows due before after left) (stands program parts is bound old none shown_now) moment
+  pub broke_run : (failed : failing.Outside) → WhereTold (told_by before) (told_by after) (StandsAtCall parts bound old failed) → (program : Runnable)
+      → HasCode program parts → BrokeRun (object_status failed) program bound old.source (seen before after) after shown_now
+  broke_run failed at program is =
+      devices_told before after shown_now (StandsAtCall parts bound old failed)
+      (λ d e. FailedAt (object_status failed) (HasCall program (system_on d) bound old.source) d e shown_now)
+      left.told.valid (left_shows due before after left) (stands program parts is bound old none shown_now failed) at
 
   broke_by : (failed : failing.Outside) (name : Option (List ℕ)) (kernel : Lent) → SameFiles (seen before after) after → (program : Runnable)
-      → BrokeRun program bound old.source (seen before after) after shown_now
+      → BrokeRun (object_status failed) program bound old.source (seen before after) after shown_now
       → CodeRan program bound old.source name (object_status failed) (seen before after) after shown_now kernel
   broke_by object.Drive name kernel files program broke = (files, inr (mounts due before after left, broke))
   broke_by object.Input name kernel files program broke = (files, mounts due before after left, broke)
@@ -81,11 +82,11 @@ module _ (parts : CodeParts) (bound : ℕ) (old : Drawn) (none : old.drawn ≡ 0
   broke_by object.Printer name kernel files program broke = (files, mounts due before after left, broke)
 
   pub broke : (name : Option (List ℕ)) (s : Status) (failed : failing.Outside) (kernel : Lent) → s ≡ object_status failed → after.files ≡ before.files
-      → WhereTold (told_by before) (told_by after) (StandsAtMoment parts bound old) → RanCode parts bound old.source name s due before after kernel
-  broke name s failed kernel is files moment = record {
+      → WhereTold (told_by before) (told_by after) (StandsAtCall parts bound old failed) → RanCode parts bound old.source name s due before after kernel
+  broke name s failed kernel is files at = record {
     shown = shown_now;
     ran = λ program code. subst (λ x. CodeRan program bound old.source name x (seen before after) after shown_now kernel) (sym is)
-        (broke_by failed name kernel (same_told before.files after.files files) program (broke_run moment program code));
+        (broke_by failed name kernel (same_told before.files after.files files) program (broke_run failed at program code));
     shows = left_shows due before after left;
     due_is = left_due due before after left;
     each = left_each due before after left;
@@ -136,7 +137,7 @@ module _ (parts : CodeParts) (bound : ℕ) (old : Drawn) (none : old.drawn ≡ 0
     unrecorded name s step = record {
       shown = shown_now;
       ran = λ program is.
-          unkept due before after left new (Unit {0}) name s step (BrokeRun program bound old.source (seen before after) after shown_now)
+          unkept due before after left new (Unit {0}) name s step (BrokeRun s program bound old.source (seen before after) after shown_now)
           (RanWhole program bound old.source (seen before after) after shown_now kernel)
           (λ end. Runs program bound old.source name end (seen before after) after shown_now kernel) shown_now kernel (whole program is);
       shows = left_shows due before after left;

@@ -1,12 +1,14 @@
 -- What a run of the kernel leaves, in the words of commands.
-use Rattle.std.proofs.Common.{◌≡◌, ◌∙◌, ◌++◌, ℕ, List, Option, Some, None, IfSome, refl, sym, ap, subst}
+use Rattle.std.proofs.Common.{◌≡◌, ◌∙◌, ◌++◌, ℕ, List, Option, Some, None, IfSome, inl, inr, refl, sym, ap, subst}
 use Rattle.edi_told.specs.Told.{WhereTold}
+use Rattle.edi_calls.specs.declared.ends.Outside as failing
+use Rattle.edi_calls.specs.Asked.{IsFollowed}
 use Rattle.edi_calls.specs.Choice.{Choices}
 use Rattle.edi_calls.specs.Outcome as outcome
 use Rattle.edi_calls.specs.Outcome.{Outcome, outcome_of}
 use Rattle.edi_calls.specs.State.{State}
 use Rattle.edi_execute.specs.Objects as execute
-use Rattle.edi_execute.specs.Objects.{Contents, StandsAtMoment, contents_with}
+use Rattle.edi_execute.specs.Objects.{Contents, Show, StandsAtCall, contents_with}
 use Rattle.edi_image.specs.Image.{mount_fault_of}
 use Rattle.edi_kernel.specs.declared.ends.Ending.{Ending}
 use Rattle.edi_kernel.specs.declared.ends.Ending.TheVariants as ending
@@ -17,13 +19,13 @@ use Rattle.edi_system.specs.Parts.{IsValid}
 use Rattle.edi_system.specs.State.{all_told}
 use Rattle.edi_target.specs.Check.{CodeParts}
 use Rattle.edi_target.specs.Fetch.{fetch}
-use Rattle.edi_target.specs.Moments.{ComesThrough}
-use Rattle.edi_texts.specs.Run.{IsMomentOfCode, IsRunOfCode}
+use Rattle.edi_target.specs.Moments.{history_from_start}
+use Rattle.edi_texts.specs.Run.{IsCallOfCode, IsRunOfCode}
 use Rattle.edi_texts.proofs.Executions.{runs_are_never_bad}
 use Rattle.edi_trace.specs.Drawn.{Drawn}
-use Rattle.edi_statuses.specs.Outside.{Outside, Devices, devices_of, devices_with, seen, still_told, system_on, Shows, kernel_of}
-use Rattle.edi_commands.proofs.run.Blocks.{end_blocks, moment_blocks}
-use Rattle.edi_statuses.specs.Executions.{Runnable, text, code, HasCode, HasMoment, HasOutcome, HasRun, NeverBad, StandsAt, StoreIs}
+use Rattle.edi_statuses.specs.Outside.{Outside, Devices, devices_of, devices_with, seen, still_told, system_on, DevicesAreAt, Shows, kernel_of}
+use Rattle.edi_commands.proofs.run.Blocks.{call_blocks, end_blocks}
+use Rattle.edi_statuses.specs.Executions.{Runnable, text, code, FailedAt, HasCall, HasCode, HasOutcome, HasRun, NeverBad, StoreIs, object_status}
 
 -- ---- what the four objects tell
 
@@ -110,10 +112,10 @@ has_outcome : (program : Runnable) (parts : CodeParts) (system : State) (bound :
 has_outcome (text bytes) parts system bound choices o is run = (is.same system bound choices o).0 run
 has_outcome (code own) parts system bound choices o is run = subst (λ p. IsRunOfCode p system bound choices o) is run
 
-has_moment : (program : Runnable) (parts : CodeParts) (system : State) (bound : ℕ) (choices : Choices) (moment : State) → HasCode program parts
-    → IsMomentOfCode parts system bound choices moment → HasMoment program system bound choices moment
-has_moment (text bytes) parts system bound choices moment is through = (is.through system bound choices moment).0 through
-has_moment (code own) parts system bound choices moment is through = subst (λ p. IsMomentOfCode p system bound choices moment) is through
+has_call : (program : Runnable) (parts : CodeParts) (system : State) (bound : ℕ) (choices : Choices) (before next : State) → HasCode program parts
+    → IsCallOfCode parts system bound choices before next → HasCall program system bound choices before next
+has_call (text bytes) parts system bound choices before next is calls = (is.calls system bound choices before next).0 calls
+has_call (code own) parts system bound choices before next is calls = subst (λ p. IsCallOfCode p system bound choices before next) is calls
 
 never_bad : (program : Runnable) (system : State) (bound : ℕ) (choices : Choices) (o : Outcome) → HasOutcome program system bound choices o
     → NeverBad program o.ending
@@ -156,19 +158,36 @@ module _ (program : Runnable) (parts : CodeParts) (is : HasCode program parts) (
         };
       }
 
-  -- a run in which an object has failed
-  pub stands : (x y : Contents) → mount_fault_of y.disk ≡ None → y.shown ≡ x.shown ++ shown → StandsAtMoment parts bound old x y
-      → StandsAt (HasMoment program (system_on (devices x)) bound old.source) (devices x) (devices y) shown
-  stands x y valid shows h = record {
-    moment = h.moment;
-    comes = has_moment program parts (system_on (devices x)) bound old.source h.moment is
-        (subst (λ n. ComesThrough (fetch parts.words) parts.entry parts.calls (execute.system_on x) bound old.source n h.moment) none h.comes);
-    at = record {
-      input = h.shows.input;
-      shown_ = sym shows ∙ h.shows.shown;
-      printed = h.shows.printed;
-      disk = record { valid = valid; files = h.shows.slots };
-      count = h.shows.blocks
-          ∙ moment_blocks (fetch parts.words) parts.entry parts.calls (execute.system_on x) bound old.source old.drawn h.moment h.comes;
-    };
+  -- what is shown of a state with as many blocks as before
+  at_state : (state : State) (x y : Contents) → mount_fault_of y.disk ≡ None → y.shown ≡ x.shown ++ shown
+      → state.blocks ≡ (execute.system_on x).blocks → Show state y → DevicesAreAt state (devices x) (devices y) shown
+  at_state state x y valid shows blocks h = record {
+    input = h.input;
+    shown_ = sym shows ∙ h.shown;
+    printed = h.printed;
+    disk = record { valid = valid; files = h.slots };
+    count = h.blocks ∙ blocks;
   }
+
+  -- a run in which an object has failed
+  pub stands : (failed : failing.Outside) (x y : Contents) → mount_fault_of y.disk ≡ None → y.shown ≡ x.shown ++ shown
+      → StandsAtCall parts bound old failed x y
+      → FailedAt (object_status failed) (HasCall program (system_on (devices x)) bound old.source) (devices x) (devices y) shown
+  stands failed x y valid shows h =
+      let both = call_blocks (fetch parts.words) parts.entry parts.calls (execute.system_on x) bound old.source old.drawn h.calls.0 h.from h.next h.calls.1 in
+      record {
+        failed = failed;
+        status_is = refl;
+        before = h.from;
+        next = h.next;
+        calls = has_call program parts (system_on (devices x)) bound old.source h.from h.next is (
+          h.calls.0,
+          subst (λ n. IsFollowed (execute.system_on x) (history_from_start (fetch parts.words) parts.entry parts.calls (execute.system_on x) bound old.source n
+              h.calls.0) h.from h.next) none h.calls.1,
+        );
+        asks = h.asks;
+        at = elim h.shows [
+          | inl first ↦ inl (at_state h.from x y valid shows both.0 first)
+          | inr then_ ↦ inr (at_state h.next x y valid shows both.1 then_)
+        ];
+      }

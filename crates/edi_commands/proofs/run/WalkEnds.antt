@@ -1,14 +1,15 @@
 -- The exits of a walk: the drive is not mounted, an object has failed, memory ran out, or the walk has come to its end.
 use Rattle.std.proofs.Common.{◌≡◌, ◌∙◌, ◌++◌, ℕ, Bool, false, List, [], Option, Some, None, IsSome, unwrap_or, refl, sym, ap, subst, inl, inr}
+use Rattle.std.specs.Prelude.{Contains}
 use Rattle.edi_told.specs.Told.{WhereTold}
 use Rattle.edi_calls.specs.declared.ends.Outside as failing
 use Rattle.edi_calls.specs.declared.ends.Outside.TheVariants as object
 use Rattle.edi_calls.specs.Choice.{Choices}
 use Rattle.edi_calls.specs.Outcome as outcome
 use Rattle.edi_calls.specs.Outcome.{Ending}
-use Rattle.edi_calls.specs.State.{State}
+use Rattle.edi_calls.specs.State.{State, moments_of}
 use Rattle.edi_execute.specs.Objects as execute
-use Rattle.edi_execute.specs.Objects.{Contents}
+use Rattle.edi_execute.specs.Objects.{Contents, Show}
 use Rattle.edi_image.specs.Image.{mount_fault_of}
 use Rattle.edi_image.specs.declared.faults.MountFault.{MountFault}
 use Rattle.edi_image.specs.declared.faults.MountFault.TheVariants as mount
@@ -20,21 +21,21 @@ use Rattle.edi_walk.specs.Walk.{WalkEnds}
 use Rattle.edi_walk.specs.declared.walking.WalkEnd.{WalkEnd}
 use Rattle.edi_walk.specs.declared.walking.WalkEnd.TheVariants as end
 use Rattle.edi_runs.specs.walk.Leaves as leaves
-use Rattle.edi_runs.specs.walk.Walks.{IsMomentOfWalk, IsWalkEnding}
-use Rattle.edi_runs.proofs.walk.Chained.{walk_end_blocks, walk_moment_blocks}
+use Rattle.edi_runs.specs.walk.Leaves.{BrokeAtCall}
+use Rattle.edi_runs.specs.walk.Walks.{IsCallOfWalk, IsMomentOfWalk, IsWalkEnding}
+use Rattle.edi_runs.proofs.walk.Chained.{followed_among, walk_end_blocks, walk_moment_blocks}
 use Rattle.edi_runs.proofs.walk.Left.{IsBrokenOff, StandsInWalk, stands_in_walk}
 use Rattle.edi_texts.specs.Texts.{IsUnit}
 use Rattle.edi_statuses.specs.declared.status.Status.{Status}
 use Rattle.edi_statuses.specs.declared.status.Status.TheVariants as status
 use Rattle.edi_statuses.specs.Counts.{Counts, HasCause}
 use Rattle.edi_statuses.specs.EachObject.{MayBeImage}
-use Rattle.edi_statuses.specs.Outside.{Outside, KernelLeft, Lent, idle, seen, system_on}
+use Rattle.edi_statuses.specs.Outside.{Outside, DevicesAreAt, KernelLeft, Lent, idle, seen, system_on}
 use Rattle.edi_statuses.specs.Steps.{goes, Mounts}
-use Rattle.edi_statuses.specs.Executions.{StandsAt, status_of}
-use Rattle.edi_statuses.specs.Walked.{BrokeWalk, HasWalked, Walks}
+use Rattle.edi_statuses.specs.Executions.{FailedAt, StandsAt, object_status, status_of}
+use Rattle.edi_statuses.specs.Walked.{BrokeWalk, FailedWalk, HasWalked, Walks}
 use Rattle.edi_statuses.proofs.Told.{same_told, shows_nothing}
 use Rattle.edi_commands.specs.steps.NotMounted.{mount_status}
-use Rattle.edi_commands.specs.run.CodeRan.{object_status}
 use Rattle.edi_commands.specs.run.OnMounted.{DriveAsked, OnMounted}
 use Rattle.edi_commands.specs.run.OnWalked.{end_status, OnWalked, RanWalk, TextWalked}
 use Rattle.edi_commands.proofs.run.Asked.{asked_so, ended_asked}
@@ -110,6 +111,45 @@ module _ (unit : ProgramUnit) (bytes : List ℕ) (is : IsUnit bytes unit) (bound
     };
   }
 
+  at_so : (x y : Contents) (s : State) → mount_fault_of y.disk ≡ None → y.shown ≡ x.shown ++ shown → s.blocks ≡ (execute.system_on x).blocks → Show s y
+      → DevicesAreAt s (devices x) (devices y) shown
+  at_so x y s valid shows blocks h = record {
+    input = h.input;
+    shown_ = sym shows ∙ h.shown;
+    printed = h.printed;
+    disk = record { valid = valid; files = h.slots };
+    count = h.blocks ∙ blocks;
+  }
+
+  fails_at : (failed : failing.Outside) (x y : Contents) → mount_fault_of y.disk ≡ None → y.shown ≡ x.shown ++ shown → BrokeAtCall failed unit bound old x y
+      → FailedAt (object_status failed) (IsCallOfWalk bytes (system_on (devices x)) bound old.source) (devices x) (devices y) shown
+  fails_at failed x y valid shows h =
+      let among = followed_among (execute.system_on x) h.last.past h.one h.next h.followed in
+      let same : (s : State) → Contains (moments_of (execute.system_on x) h.last.past) s → s.blocks ≡ (execute.system_on x).blocks =
+      walk_moment_blocks unit (execute.system_on x) bound old.source old.drawn h.ending h.last h.turns h.drawn h.order h.is in
+      record {
+        failed = failed;
+        status_is = refl;
+        before = h.one;
+        next = h.next;
+        calls = record {
+          unit = unit;
+          unit_is = is;
+          ending = h.ending;
+          end = h.last;
+          turns = h.turns;
+          drawn = h.drawn;
+          order = h.order;
+          walk = subst (λ n. WalkEnds unit (execute.system_on x) bound old.source n h.ending h.last h.turns h.drawn h.order) none h.is;
+          followed = h.followed;
+        };
+        asks = h.asks;
+        at = elim h.shows [
+          | inl first ↦ inl (at_so x y h.one valid shows (same h.one among.0) first)
+          | inr then_ ↦ inr (at_so x y h.next valid shows (same h.next among.1) then_)
+        ];
+      }
+
   has_walked : (e : WalkEnd) (new : Drawn) (x y : Contents) → IsOver e → mount_fault_of y.disk ≡ None → y.shown ≡ x.shown ++ shown
       → leaves.HasWalked unit bound old e new x y → HasWalked bytes bound old.source (ending_of e) (devices x) (devices y) shown
   has_walked e new x y over valid shows h =
@@ -142,20 +182,20 @@ none_there : (name : Option (List ℕ)) → name ≡ None → IsSome name → �
 none_there None e there = absurd (cc)
 none_there (Some name) e there = absurd (cc)
 
-unmounted_walked : (broken whole : Type 0) (comes comes' : Status → Type 0) (before after : Outside) (shown : List ℕ) (kernel : Lent) (why : MountFault)
-    → OnMounted None broken whole comes (mount_status why) before after shown kernel
-    → OnWalked broken comes' (mount_status why) before after shown kernel
-unmounted_walked broken whole comes comes' before after shown kernel mount.Fault h = elim h.1 [
+unmounted_walked : (failed whole broken : Type 0) (comes comes' : Status → Type 0) (before after : Outside) (shown : List ℕ) (kernel : Lent) (why : MountFault)
+    → OnMounted None failed whole comes (mount_status why) before after shown kernel
+    → OnWalked broken failed comes' (mount_status why) before after shown kernel
+unmounted_walked failed whole broken comes comes' before after shown kernel mount.Fault h = elim h.1 [
   | inl none ↦ inl (h.0, none)
   | inr far ↦ inr far
 ]
-unmounted_walked broken whole comes comes' before after shown kernel mount.NoMemory (inl h) = inl h
-unmounted_walked broken whole comes comes' before after shown kernel mount.NoMemory (inr h) = absurd (none_there None refl h.0)
-unmounted_walked broken whole comes comes' before after shown kernel mount.Short h = h
-unmounted_walked broken whole comes comes' before after shown kernel mount.Header h = h
-unmounted_walked broken whole comes comes' before after shown kernel (mount.Entry slot) h = h
-unmounted_walked broken whole comes comes' before after shown kernel (mount.Page slot block) h = h
-unmounted_walked broken whole comes comes' before after shown kernel (mount.Shared block) h = h
+unmounted_walked failed whole broken comes comes' before after shown kernel mount.NoMemory (inl h) = inl h
+unmounted_walked failed whole broken comes comes' before after shown kernel mount.NoMemory (inr h) = absurd (none_there None refl h.0)
+unmounted_walked failed whole broken comes comes' before after shown kernel mount.Short h = h
+unmounted_walked failed whole broken comes comes' before after shown kernel mount.Header h = h
+unmounted_walked failed whole broken comes comes' before after shown kernel (mount.Entry slot) h = h
+unmounted_walked failed whole broken comes comes' before after shown kernel (mount.Page slot block) h = h
+unmounted_walked failed whole broken comes comes' before after shown kernel (mount.Shared block) h = h
 
 module _ (unit : ProgramUnit) (bound : ℕ) (before after : Outside) (kernel : KernelLeft) where
   pub not_mounted : (choices : Choices) (s : Status) (due : Bool) (why : MountFault) → s ≡ mount_status why → due ≡ false
@@ -165,10 +205,11 @@ module _ (unit : ProgramUnit) (bound : ℕ) (before after : Outside) (kernel : K
     ran = λ bytes whose.
         let x : Outside = seen before after in
         let broken : Type 0 = BrokeWalk bytes bound choices x after [] (idle kernel) in
+        let failed : Type 0 = FailedWalk (mount_status why) bytes bound choices x after [] (idle kernel) in
         let comes : Status → Type 0 = λ end. Walks bytes bound choices end x after [] (idle kernel) in
         subst (λ t. TextWalked bytes bound choices t x after [] (idle kernel)) (sym is)
-        (unmounted_walked broken broken comes comes x after [] (idle kernel) why
-        (unmounted_by before after (idle kernel) why h None broken broken comes));
+        (unmounted_walked failed failed broken comes comes x after [] (idle kernel) why
+        (unmounted_by before after (idle kernel) why h None failed failed comes));
     shows = shows_nothing before.shown after.shown h.shown;
     due_is = silent;
     each = unmounted_each before after (idle kernel) why h;
@@ -200,12 +241,23 @@ module _ (unit : ProgramUnit) (bound : ℕ) (before after : Outside) (kernel : K
       kernel_same = refl;
     }
 
-    broke_by : (failed : failing.Outside) (bytes : List ℕ) → BrokeWalk bytes bound old.source (seen before after) after shown_now (idle kernel)
+    failed_at : (failed : failing.Outside) → WhereTold (told_by before) (told_by after) (BrokeAtCall failed unit bound old) → (bytes : List ℕ) → IsUnit bytes unit
+        → FailedWalk (object_status failed) bytes bound old.source (seen before after) after shown_now (idle kernel)
+    failed_at failed told bytes is = record {
+      at = devices_told before after shown_now (BrokeAtCall failed unit bound old)
+          (λ d e. FailedAt (object_status failed) (IsCallOfWalk bytes (system_on d) bound old.source) d e shown_now) left.told.valid
+          (left_shows due before after left) (fails_at unit bytes is bound old none shown_now failed) told;
+      files = same_told before.files after.files files;
+      kernel_same = refl;
+    }
+
+    failed_by : (failed : failing.Outside) (bytes : List ℕ)
+        → FailedWalk (object_status failed) bytes bound old.source (seen before after) after shown_now (idle kernel)
         → TextWalked bytes bound old.source (object_status failed) (seen before after) after shown_now (idle kernel)
-    broke_by object.Drive bytes h = inr (mounts due before after left, h)
-    broke_by object.Input bytes h = (mounts due before after left, h)
-    broke_by object.Terminal bytes h = (mounts due before after left, h)
-    broke_by object.Printer bytes h = (mounts due before after left, h)
+    failed_by object.Drive bytes h = inr (mounts due before after left, h)
+    failed_by object.Input bytes h = (mounts due before after left, h)
+    failed_by object.Terminal bytes h = (mounts due before after left, h)
+    failed_by object.Printer bytes h = (mounts due before after left, h)
 
     stood : (e : WalkEnd) (new : Drawn) → IsBrokenOff e → WhereTold (told_by before) (told_by after) (leaves.HasWalked unit bound old e new)
         → WhereTold (told_by before) (told_by after) (StandsInWalk unit bound old)
@@ -214,11 +266,11 @@ module _ (unit : ProgramUnit) (bound : ℕ) (before after : Outside) (kernel : K
         (λ x y h. stands_in_walk unit bound old e new x y off h) told
 
     -- an object has failed
-    pub failed_so : (s : Status) (failed : failing.Outside) → s ≡ object_status failed → (e : WalkEnd) (new : Drawn) → e ≡ end.Fault
-        → WhereTold (told_by before) (told_by after) (leaves.HasWalked unit bound old e new) → RanWalk unit bound old.source s due before after (idle kernel)
-    failed_so s failed is e new fault told =
+    pub failed_so : (s : Status) (failed : failing.Outside) → s ≡ object_status failed
+        → WhereTold (told_by before) (told_by after) (BrokeAtCall failed unit bound old) → RanWalk unit bound old.source s due before after (idle kernel)
+    failed_so s failed is told =
         ran_so s (λ bytes whose. subst (λ t. TextWalked bytes bound old.source t (seen before after) after shown_now (idle kernel)) (sym is)
-        (broke_by failed bytes (broke (stood e new (inl fault) told) bytes whose)))
+        (failed_by failed bytes (failed_at failed told bytes whose)))
 
     -- memory ran out
     wants_so : (s : Status) → s ≡ status.NoMemory → WhereTold (told_by before) (told_by after) (StandsInWalk unit bound old)

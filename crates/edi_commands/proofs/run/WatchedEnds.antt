@@ -6,7 +6,7 @@ use Rattle.edi_calls.specs.declared.ends.Outside.TheVariants as object
 use Rattle.edi_calls.specs.Choice.{Choices}
 use Rattle.edi_calls.specs.Outcome as outcome
 use Rattle.edi_execute.specs.Objects as execute
-use Rattle.edi_execute.specs.Objects.{HasRun, StandsAtMoment}
+use Rattle.edi_execute.specs.Objects.{HasRun, StandsAtCall}
 use Rattle.edi_image.specs.declared.faults.MountFault.{MountFault}
 use Rattle.edi_image.specs.declared.faults.MountFault.TheVariants as mount
 use Rattle.edi_kernel.specs.declared.ends.Ending.{Ending}
@@ -21,13 +21,13 @@ use Rattle.edi_runs.proofs.watch.Meant.{unit_is}
 use Rattle.edi_statuses.specs.declared.status.Status.{Status}
 use Rattle.edi_statuses.specs.declared.status.Status.TheVariants as status
 use Rattle.edi_statuses.specs.Outside.{Outside, seen, system_on, with_kept, SameFiles, Lent}
-use Rattle.edi_statuses.specs.Executions.{text, HasCode, BrokeRun, record_of, status_of}
+use Rattle.edi_statuses.specs.Executions.{text, HasCode, BrokeRun, object_status, record_of, status_of}
 use Rattle.edi_statuses.specs.Commands.{Runs, Watches, IsLog, IsNothing}
 use Rattle.edi_statuses.specs.Broken.{KeepsLog, LosesRecord, RanWhole}
 use Rattle.edi_statuses.proofs.EachLeft.{each_same}
 use Rattle.edi_statuses.proofs.Told.{same_told, still, shows_nothing}
 use Rattle.edi_commands.specs.steps.NotMounted.{mount_status}
-use Rattle.edi_commands.specs.run.CodeRan.{ending_status, object_status}
+use Rattle.edi_commands.specs.run.CodeRan.{ending_status}
 use Rattle.edi_commands.specs.run.OnMounted.{OnMounted}
 use Rattle.edi_commands.specs.run.OnWatched.{LogEnd, LogUnkept, OnWatched, RanWatched, TextWatched}
 use Rattle.edi_commands.proofs.run.Endings.{broke_run, has_ran, status_is, whole}
@@ -77,7 +77,7 @@ module _ (w : Watchable) (points : List Watched) (bound : ℕ) (out : List ℕ) 
     shown = [];
     ran = λ bytes whose.
         let x : Outside = seen before after in
-        let broken : Type 0 = BrokeRun (text bytes) bound choices x after [] in
+        let broken : Type 0 = BrokeRun (mount_status why) (text bytes) bound choices x after [] in
         let whole_ : Type 0 = RanWhole (text bytes) bound choices x after [] kernel in
         let comes : Status → Type 0 = λ end. Runs (text bytes) bound choices None end x after [] kernel in
         let comes' : Status → Type 0 = λ end. Watches bytes points bound choices out name end x after [] kernel in
@@ -95,7 +95,7 @@ module _ (w : Watchable) (points : List Watched) (bound : ℕ) (out : List ℕ) 
     shown_now = shown_in due before after
 
     broke_watched : (bytes : List ℕ) (failed : failing.Outside) (kernel : Lent) → SameFiles (seen before after) after
-        → BrokeRun (text bytes) bound old.source (seen before after) after shown_now
+        → BrokeRun (object_status failed) (text bytes) bound old.source (seen before after) after shown_now
         → TextWatched bytes points bound old.source out name (object_status failed) (seen before after) after shown_now kernel
     broke_watched bytes object.Drive kernel files broke = (files, inr (mounts due before after left, broke))
     broke_watched bytes object.Input kernel files broke = (files, mounts due before after left, broke)
@@ -103,13 +103,13 @@ module _ (w : Watchable) (points : List Watched) (bound : ℕ) (out : List ℕ) 
     broke_watched bytes object.Printer kernel files broke = (files, mounts due before after left, broke)
 
     pub failed_so : (s : Status) (failed : failing.Outside) (kernel : Lent) → s ≡ object_status failed → after.files ≡ before.files
-        → ((v : IsWhole w) → WhereTold (told_by before) (told_by after) (StandsAtMoment (parts_of v.unit) bound old))
+        → ((v : IsWhole w) → WhereTold (told_by before) (told_by after) (StandsAtCall (parts_of v.unit) bound old failed))
         → RanWatched w points bound old.source out name s due before after kernel
-    failed_so s failed kernel is files moment = record {
+    failed_so s failed kernel is files at = record {
       shown = shown_now;
       ran = λ bytes whose. subst (λ t. TextWatched bytes points bound old.source out name t (seen before after) after shown_now kernel) (sym is)
           (broke_watched bytes failed kernel (same_told before.files after.files files)
-          (broke_run (parts_of whose.whole.unit) bound old none due before after left (moment whose.whole) (text bytes) (has_code bytes w whose)));
+          (broke_run (parts_of whose.whole.unit) bound old none due before after left failed (at whose.whole) (text bytes) (has_code bytes w whose)));
       shows = left_shows due before after left;
       due_is = left_due due before after left;
       each = left_each due before after left;

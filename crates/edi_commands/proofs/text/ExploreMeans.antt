@@ -1,6 +1,6 @@
 -- What the statuses of `explore` mean, by what its steps answer.
 use Rattle.std.specs.Prelude.{⊤}
-use Rattle.std.proofs.Common.{◌≡◌, ◌∙◌, inl, inr, ◌<◌, ℕ, Bool, true, false, List, [], append-nil, length, drop, Option, Some, Result, Ok, Err}
+use Rattle.std.proofs.Common.{◌≡◌, ◌∙◌, inl, inr, ◌<◌, ℕ, Bool, true, false, List, [], append-nil, length, drop, Option, Some, is_some, Result, Ok, Err}
 use Rattle.std.proofs.Common.{refl, sym, ap, subst}
 use Rattle.std.proofs.Math.Seq.{drop-append_seam}
 use Rattle.std.specs.FinMap as map
@@ -141,11 +141,11 @@ module _ (file : List ℕ) (o : ExploreOptions) (old new : Option Contents) (lef
 
       -- ---- the lines were shown
 
-      module _ (f : Findings) (explored_is : IsExplorationOf text bytes o.states o.turns f) where
+      module _ (f : Findings) (explored_is : IsExplorationOf text bytes o.states o.turns o.shown f) where
         explored : Explored text unit o f then_ after
         explored = record { input = bytes; takes = takes_all; is = explored_is; blocks = same_blocks; printed = same_printed }
 
-        cut_means : (front : List ℕ) → IsFront front (report_text o.record_file f) → WhereTold old new (λ a b. b ≡ a) → MeansHere status.OutputFault front
+        cut_means : (front : List ℕ) → IsFront front (report_text (is_some o.shown) o.record_file f) → WhereTold old new (λ a b. b ≡ a) → MeansHere status.OutputFault front
         cut_means front h same = record {
           uses = tt;
           far = (still (λ a b. b ≡ a) old new same, ((text, unit), begun, record { findings = f; explored = explored; front = h }));
@@ -153,12 +153,12 @@ module _ (file : List ℕ) (o : ExploreOptions) (old new : Option Contents) (lef
 
         explores : (s : Status) → s ≡ status_of_summary (summary_of f)
             → WhereTold then_.files new (λ a b. b ≡ with_kept (records_of o.record_file f.endings) a)
-            → Explores text unit o s then_ after (report_text o.record_file f)
+            → Explores text unit o s then_ after (report_text (is_some o.shown) o.record_file f)
         explores s is keeps = record { findings = f; explored = explored; status_is = is; shown_ = refl; keeps = keeps }
 
         done_means : (m : Summary) → summary_of f ≡ m
             → WhereTold then_.files new (λ a b. b ≡ with_kept (records_of o.record_file f.endings) a)
-            → MeansHere (status_of_summary m) (report_text o.record_file f)
+            → MeansHere (status_of_summary m) (report_text (is_some o.shown) o.record_file f)
         done_means summary.Fine e keeps =
             inr ((text, unit), begun, inl (explores status.Ok (ap status_of_summary (sym e)) keeps))
         done_means summary.Endless e keeps =
@@ -169,11 +169,11 @@ module _ (file : List ℕ) (o : ExploreOptions) (old new : Option Contents) (lef
             inr ((text, unit), begun, inl (explores (status.Found n) (ap status_of_summary (sym e)) keeps))
 
         then_kept : (Leaves : List Kept → Outside → Outside → Type 0) → Leaves (records_of o.record_file f.endings) then_ after
-            → ExploredThen Leaves text unit o then_ after (report_text o.record_file f)
+            → ExploredThen Leaves text unit o then_ after (report_text (is_some o.shown) o.record_file f)
         then_kept Leaves h = record { findings = f; explored = explored; shown_ = refl; files = h }
 
         kept_means : (end : KeepEnd) → WhereTold then_.files new (KeepsInTurn end (records_of o.record_file f.endings))
-            → (is_kept end ≡ false → 0 < length (records_of o.record_file f.endings)) → MeansHere (kept_status f end) (report_text o.record_file f)
+            → (is_kept end ≡ false → 0 < length (records_of o.record_file f.endings)) → MeansHere (kept_status f end) (report_text (is_some o.shown) o.record_file f)
         kept_means keep.Ok h some =
             done_means (summary_of f) refl (told_so _ _ then_.files new (λ a b k. all_kept (records_of o.record_file f.endings) a b k) h)
         kept_means keep.Failed h some = record {
@@ -190,7 +190,7 @@ module _ (file : List ℕ) (o : ExploreOptions) (old new : Option Contents) (lef
           inr (inr (then_kept KeepsFirst (keeps_first (records_of o.record_file f.endings) (some refl) then_ after h))),
         )
 
-        pub ended_means : WhereTold old mid (λ a b. b ≡ a) → (s : Status) (front : List ℕ) → EndsAs o.record_file f s front (report_text o.record_file f) mid new
+        pub ended_means : WhereTold old mid (λ a b. b ≡ a) → (s : Status) (front : List ℕ) → EndsAs o.record_file f s front (report_text (is_some o.shown) o.record_file f) mid new
             → MeansHere s front
         ended_means unchanged s front (inl h) =
             subst (λ t. MeansHere t front) (sym h.0) (cut_means front h.1 (in_turn old mid new unchanged h.2))

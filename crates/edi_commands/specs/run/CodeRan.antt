@@ -1,8 +1,6 @@
 -- Words of contracts. What is left where a code is run on a drive that is mounted for it and the record of its choices is kept, by
 -- the status to which that comes.
 use Rattle.std.specs.Prelude.{◌≡◌, ℕ, Bool, List, Option, Some, None}
-use Rattle.edi_calls.specs.declared.ends.Outside as failing
-use Rattle.edi_calls.specs.declared.ends.Outside.TheVariants as object
 use Rattle.edi_calls.specs.declared.kinds.Cause.TheVariants as cause
 use Rattle.edi_calls.specs.Choice.{Choices}
 use Rattle.edi_kernel.specs.declared.ends.Ending.{Ending}
@@ -27,13 +25,6 @@ abbrev pub refusal_status : Refusal → Status
 refusal_status (At pass kind line) = status.Refused kind line
 refusal_status NoMemory = status.NoMemory
 
--- of an object that has failed in a run
-abbrev pub object_status : failing.Outside → Status
-object_status object.Drive = status.DriveFault
-object_status object.Input = status.InputFault
-object_status object.Terminal = status.OutputFault
-object_status object.Printer = status.OutputFault
-
 -- of a run that has come to its ending; after a fault it has come to none
 abbrev pub ending_status : Ending → Option Status
 ending_status ending.Done = Some status.Ok
@@ -46,11 +37,11 @@ ending_status ending.Fault = None
 
 -- ---- what is left
 
--- The program was broken off at one moment of its execution, or came to its ending.
+-- The program was broken off in one call of its execution, or came to its ending.
 abbrev pub CodeRan : Runnable → (bound : ℕ) → Choices → (record_file : Option (List ℕ)) → Status → Outside → Outside → (shown : List ℕ)
     → Lent → Type 0
 CodeRan program bound choices name s before after shown kernel =
-    OnMounted name (BrokeRun program bound choices before after shown) (RanWhole program bound choices before after shown kernel)
+    OnMounted name (BrokeRun s program bound choices before after shown) (RanWhole program bound choices before after shown kernel)
     (λ end. Runs program bound choices name end before after shown kernel) s before after shown kernel
 
 -- So it is of every program that this code was made of; a line feed is due before the line of the status, or not. What

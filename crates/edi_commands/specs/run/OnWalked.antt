@@ -17,7 +17,7 @@ use Rattle.edi_statuses.specs.Lines.{is_due}
 use Rattle.edi_statuses.specs.Steps.{goes, stops, Mounts}
 use Rattle.edi_statuses.specs.Commands.{IsNothing}
 use Rattle.edi_statuses.specs.Broken.{HasNotBegun}
-use Rattle.edi_statuses.specs.Walked.{BrokeWalk, Walks}
+use Rattle.edi_statuses.specs.Walked.{BrokeWalk, FailedWalk, Walks}
 
 -- the unit of the bytes of a file, or their text is refused; memory may run out at any text
 abbrev pub UnitStep : (bytes : List ℕ) → Result Unit Status → Type 0
@@ -34,23 +34,24 @@ end_status end.Turns = Some status.Turns
 end_status end.NoMemory = Some status.NoMemory
 end_status end.Fault = None
 
--- The drive was not mounted; or the walk was `broken` off, for memory ran out or an object failed; or the status says to which end it `comes`.
-abbrev pub OnWalked : (broken : Type 0) → (comes : Status → Type 0) → Status → Outside → Outside → (shown : List ℕ) → Lent → Type 0
-OnWalked broken comes status.NoMemory before after shown kernel = IsNothing before after shown kernel ⊎ (Mounts before (goes tt) × broken)
-OnWalked broken comes status.FileFault before after shown kernel = ⊥
-OnWalked broken comes status.DriveFault before after shown kernel =
-    (SameFiles before after × HasNotBegun before after shown kernel) ⊎ (Mounts before (goes tt) × broken)
-OnWalked broken comes status.InputFault before after shown kernel = Mounts before (goes tt) × broken
-OnWalked broken comes status.OutputFault before after shown kernel = Mounts before (goes tt) × broken
-OnWalked broken comes (status.BadImage fault) before after shown kernel =
+-- The drive was not mounted; or the walk was `broken` off, as memory ran out; or an object has `failed` in it; or the status says to which end
+-- it `comes`.
+abbrev pub OnWalked : (broken failed : Type 0) → (comes : Status → Type 0) → Status → Outside → Outside → (shown : List ℕ) → Lent → Type 0
+OnWalked broken failed comes status.NoMemory before after shown kernel = IsNothing before after shown kernel ⊎ (Mounts before (goes tt) × broken)
+OnWalked broken failed comes status.FileFault before after shown kernel = ⊥
+OnWalked broken failed comes status.DriveFault before after shown kernel =
+    (SameFiles before after × HasNotBegun before after shown kernel) ⊎ (Mounts before (goes tt) × failed)
+OnWalked broken failed comes status.InputFault before after shown kernel = Mounts before (goes tt) × failed
+OnWalked broken failed comes status.OutputFault before after shown kernel = Mounts before (goes tt) × failed
+OnWalked broken failed comes (status.BadImage fault) before after shown kernel =
     Mounts before (stops (status.BadImage fault)) × IsNothing before after shown kernel
-OnWalked broken comes s before after shown kernel = Mounts before (goes tt) × comes s
+OnWalked broken failed comes s before after shown kernel = Mounts before (goes tt) × comes s
 
 -- so of a text
 abbrev pub TextWalked : (bytes : List ℕ) → (bound : ℕ) → Choices → Status → Outside → Outside → (shown : List ℕ) → Lent → Type 0
 TextWalked bytes bound choices s before after shown kernel =
-    OnWalked (BrokeWalk bytes bound choices before after shown kernel) (λ end. Walks bytes bound choices end before after shown kernel) s before after shown
-    kernel
+    OnWalked (BrokeWalk bytes bound choices before after shown kernel) (FailedWalk s bytes bound choices before after shown kernel)
+    (λ end. Walks bytes bound choices end before after shown kernel) s before after shown kernel
 
 -- So it is of every text of this unit; a line feed is due before the line of the status, or not. What is left of each object is told whatever the
 -- others tell.

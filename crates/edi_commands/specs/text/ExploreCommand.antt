@@ -1,5 +1,5 @@
 -- Words of contracts. What the steps of `explore` answer: its program, its input, what is found, and how it ends.
-use Rattle.std.specs.Prelude.{◌≡◌, ◌<◌, ◌⊎◌, ℕ, Bool, true, false, List, ◌++◌, length, Option, None, Result, Ok, Err}
+use Rattle.std.specs.Prelude.{◌≡◌, ◌<◌, ◌⊎◌, ℕ, Bool, true, false, List, ◌++◌, length, Option, None, is_some, Result, Ok, Err}
 use Rattle.std.specs.Global.{Vec}
 use Rattle.edi_told.specs.Told.{WhereTold}
 use Rattle.edi_host.specs.declared.files.KeepEnd.{KeepEnd}
@@ -71,10 +71,10 @@ TakesInput asks (Err s) old new = ⊥
 
 -- ---- what is found
 
--- it is found of the text with this input, and the lines tell it, where choices are kept under this name or not
-pub record IsExplored (text input : List ℕ) (states turns : ℕ) (name : Option (List ℕ)) (e : Explored) : Type 0 where
-  pub is : IsExplorationOf text input states turns (findings_of e.report)
-  pub lines_are : e.lines.items ≡ report_text name (findings_of e.report)
+-- It is found of the text with this input, and the lines tell it. Output is looked at or not, and choices are kept under this name or not.
+pub record IsExplored (text input : List ℕ) (states turns : ℕ) (shown : Option ℕ) (name : Option (List ℕ)) (e : Explored) : Type 0 where
+  pub is : IsExplorationOf text input states turns shown (findings_of e.report)
+  pub lines_are : e.lines.items ≡ report_text (is_some shown) name (findings_of e.report)
 
 -- ---- the end
 

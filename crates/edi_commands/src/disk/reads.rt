@@ -4,7 +4,7 @@ ghost use Rattle.std.specs.Prelude.{◌≡◌, ◌≤◌, true, length, Err, IfE
 ghost use Rattle.edi_told.specs.Told.{WhereTold};
 ghost use Rattle.edi_calls.specs.State.{is_title};
 ghost use Rattle.edi_words.specs.Words.{get};
-ghost use Rattle.edi_statuses.specs.EachObject.{FitsGet, MayBeImage};
+ghost use Rattle.edi_statuses.specs.EachObject.{FitsGet, MayBeImage, is_unread};
 ghost use Rattle.edi_commands.specs.disk.OnDisk.{HasCauseOnDisk, MeansOnDisk};
 ghost use Rattle.edi_commands.specs.disk.OnDrive.{IsOfRead, KeepsCounts, ReadsOn, status_kept};
 
@@ -77,6 +77,8 @@ pub fn get<F: Files, D: Drive>(
     ensures fits { FitsGet result (D.count drive.old) }
     // The drive keeps its blocks, whatever the files tell.
     ensures same { WhereTold (D.contents drive.old) (D.contents drive.new) (λ old new. new ≡ old) }
+    // The files are not touched before the file is read, whatever they tell.
+    ensures unread { is_unread result ≡ true → files.new ≡ files.old }
 {
     let title = title_of(title);
     let Ok(mut into) = vec![in alloc; 0; MOST] else {

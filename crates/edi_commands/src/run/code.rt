@@ -4,7 +4,9 @@ ghost use Rattle.std.specs.Prelude.{◌≡◌, ⊤, None, Some, option_map};
 ghost use Rattle.edi_told.specs.Told.{WhereTold};
 ghost use Rattle.edi_statuses.specs.Outside.{lent, outside_of};
 ghost use Rattle.edi_statuses.specs.Counts.{counts_of, HasCause, NoneFalls};
-ghost use Rattle.edi_commands.specs.run.CodeRan.{ending_status, object_status, RanCode};
+ghost use Rattle.edi_statuses.specs.EachObject.{RunStays, handed, is_at_drive};
+ghost use Rattle.edi_statuses.specs.Executions.{object_status};
+ghost use Rattle.edi_commands.specs.run.CodeRan.{ending_status, RanCode};
 ghost use Rattle.edi_commands.specs.run.OnMounted.{DriveAsked};
 
 use crate::steps::{end_with_record, mount_status, stopped};
@@ -74,6 +76,9 @@ pub(crate) fn run_code<F: Files, D: Drive, S: Source, T: Sink, P: Sink>(
     ensures untouched { record_file.entry ≡ None → files.new ≡ files.old }
     ensures size { D.count drive.new ≡ D.count drive.old }
     ensures asked { DriveAsked result.status (D.count drive.old) }
+    ensures unmounted { is_at_drive result.status ≡ true
+        → RunStays (handed files.old drive.old input.old terminal.old printer.old kernel.old)
+        (handed files.new drive.new input.new terminal.new printer.new kernel.new) }
 {
     let ran = match run_on(
         alloc,

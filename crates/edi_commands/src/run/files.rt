@@ -2,7 +2,7 @@
 
 ghost use Rattle.std.specs.Prelude.{◌≡◌, true, Some};
 ghost use Rattle.edi_words.specs.View.{options_of};
-ghost use Rattle.edi_statuses.specs.EachObject.{DevicesStay, FitsCount, handed, is_before_drive};
+ghost use Rattle.edi_statuses.specs.EachObject.{DevicesStay, FitsCount, RunStays, handed, is_at_drive, is_before_drive};
 ghost use Rattle.edi_statuses.specs.Outside.{lent, outside_of};
 ghost use Rattle.edi_statuses.specs.Counts.{counts_of, HasCause, NoneFalls};
 ghost use Rattle.edi_statuses.specs.Decided.{Came};
@@ -29,7 +29,7 @@ pub enum Form {
 }
 
 /// As many bytes as decide what a file is.
-fn limit_of(form: Form) -> usize
+pub(crate) fn limit_of(form: Form) -> usize
     ensures exact { result ≡ limit_of form }
 {
     match form {
@@ -103,6 +103,9 @@ pub fn run_file<F: Files, D: Drive, S: Source, T: Sink, P: Sink>(
     ensures fits { FitsCount result.status (D.count drive.old) }
     ensures early { is_before_drive result.status ≡ true
         → DevicesStay (handed files.old drive.old input.old terminal.old printer.old kernel.old)
+        (handed files.new drive.new input.new terminal.new printer.new kernel.new) }
+    ensures unmounted { is_at_drive result.status ≡ true
+        → RunStays (handed files.old drive.old input.old terminal.old printer.old kernel.old)
         (handed files.new drive.new input.new terminal.new printer.new kernel.new) }
 {
     let bytes = match fetch(alloc, files, file, limit_of(form)) {

@@ -8,6 +8,7 @@ ghost use Rattle.edi_debug.specs.Points.{ArePoints, watched_in};
 ghost use Rattle.edi_runs.specs.watch.Watchable.{program_in};
 ghost use Rattle.edi_statuses.specs.Outside.{lent, outside_of, still_told};
 ghost use Rattle.edi_statuses.specs.Counts.{counts_of, HasCause, NoneFalls};
+ghost use Rattle.edi_statuses.specs.EachObject.{RunStays, handed, is_at_drive};
 ghost use Rattle.edi_commands.specs.steps.OnFiles.{OnlyReadsFiles, files_only};
 ghost use Rattle.edi_commands.specs.run.OnMounted.{DriveAsked};
 ghost use Rattle.edi_commands.specs.run.OnWatched.{LogEnd, RanWatched};
@@ -117,6 +118,9 @@ pub(crate) fn watch_program<F: Files, D: Drive, S: Source, T: Sink, P: Sink>(
         (counts_of F.faults D.faults S.faults T.faults P.faults files.new drive.new input.new terminal.new printer.new) }
     ensures size { D.count drive.new ≡ D.count drive.old }
     ensures asked { DriveAsked result.status (D.count drive.old) }
+    ensures unmounted { is_at_drive result.status ≡ true
+        → RunStays (handed files.old drive.old input.old terminal.old printer.old kernel.old)
+        (handed files.new drive.new input.new terminal.new printer.new kernel.new) }
 {
     let Ok(mut log) = Log::new(alloc) else {
         return stopped(Status::NoMemory);

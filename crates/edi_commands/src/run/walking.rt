@@ -4,7 +4,7 @@ ghost use Rattle.std.specs.Prelude.{◌≡◌, ◌≤◌, ℕ, Option, Some, tru
 ghost use Rattle.edi_host.specs.Contents.{Contents};
 ghost use Rattle.edi_unit.specs.View.{unit_of};
 ghost use Rattle.edi_words.specs.Words.{walk as walk_words};
-ghost use Rattle.edi_statuses.specs.EachObject.{DevicesStay, FitsCount, handed, is_before_drive};
+ghost use Rattle.edi_statuses.specs.EachObject.{DevicesStay, FitsCount, handed, is_at_drive, is_before_drive};
 ghost use Rattle.edi_statuses.specs.Outside.{KernelLeft, idle, outside_of, outside_with};
 ghost use Rattle.edi_statuses.specs.Counts.{counts_of, counts_with, HasCause, NoneFalls};
 ghost use Rattle.edi_statuses.specs.Decided.{Came};
@@ -77,6 +77,7 @@ fn walk_unit<D: Drive, S: Source, T: Sink, P: Sink>(
     ensures later_printer { P.faults printer.old ≤ P.faults printer.new }
     ensures size { D.count drive.new ≡ D.count drive.old }
     ensures asked { DriveAsked result.status (D.count drive.old) }
+    ensures unmounted { is_at_drive result.status ≡ true → (input.new ≡ input.old) × (printer.new ≡ printer.old) }
 {
     let walked = match walk_on(
         alloc,
@@ -135,6 +136,7 @@ pub fn walk_file<F: Files, D: Drive, S: Source, T: Sink, P: Sink>(
     ensures early { is_before_drive result.status ≡ true
         → DevicesStay (handed files.old drive.old input.old terminal.old printer.old (tt {0}))
         (handed files.new drive.new input.new terminal.new printer.new (tt {0})) }
+    ensures unmounted { is_at_drive result.status ≡ true → (input.new ≡ input.old) × (printer.new ≡ printer.old) }
 {
     let bytes = match fetch(alloc, files, file, LIMIT) {
         Ok(bytes) => bytes,

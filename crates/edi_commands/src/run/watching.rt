@@ -3,7 +3,7 @@
 ghost use Rattle.std.specs.Prelude.{◌≡◌, true, Some};
 ghost use Rattle.edi_words.specs.Words.{watch};
 ghost use Rattle.edi_words.specs.View.{options_of};
-ghost use Rattle.edi_statuses.specs.EachObject.{DevicesStay, FitsCount, handed, is_before_drive};
+ghost use Rattle.edi_statuses.specs.EachObject.{DevicesStay, FitsCount, RunStays, handed, is_at_drive, is_before_drive};
 ghost use Rattle.edi_statuses.specs.Outside.{lent, outside_of};
 ghost use Rattle.edi_statuses.specs.Counts.{counts_of, HasCause, NoneFalls};
 ghost use Rattle.edi_statuses.specs.Decided.{Came};
@@ -64,6 +64,9 @@ pub fn watch_file<F: Files, D: Drive, S: Source, T: Sink, P: Sink>(
     ensures fits { FitsCount result.status (D.count drive.old) }
     ensures early { is_before_drive result.status ≡ true
         → DevicesStay (handed files.old drive.old input.old terminal.old printer.old kernel.old)
+        (handed files.new drive.new input.new terminal.new printer.new kernel.new) }
+    ensures unmounted { is_at_drive result.status ≡ true
+        → RunStays (handed files.old drive.old input.old terminal.old printer.old kernel.old)
         (handed files.new drive.new input.new terminal.new printer.new kernel.new) }
 {
     let bytes = match fetch(alloc, files, file, LIMIT) {

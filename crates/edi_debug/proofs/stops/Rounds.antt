@@ -1,6 +1,8 @@
 -- A round of a watched run: what is logged after its stint is what its process has left in the memory where it arrived.
 use Rattle.std.proofs.Common.{◌≡◌, ℕ, ◌-◌, ◌≤◌, false, if◌then◌else◌, List, [], ◌∷◌, ◌++◌, Option, Some, None, refl, sym, ap, ◌∙◌, subst, arith}
 use Rattle.std.proofs.Common.{append-nil}
+use Rattle.edi_calls.specs.declared.ends.Outside.{Outside}
+use Rattle.edi_calls.specs.Ends.{IsUsed}
 use Rattle.edi_calls.specs.Names.{Name, find}
 use Rattle.edi_calls.specs.Outcome as outcome
 use Rattle.edi_calls.specs.Ready.{take_next}
@@ -23,8 +25,8 @@ use Rattle.edi_kernel.specs.declared.ends.StintEnd.{StintEnd}
 use Rattle.edi_kernel.specs.declared.ends.StintEnd.TheVariants as stint_end
 use Rattle.edi_kernel.specs.declared.state.KernelState.{KernelState}
 use Rattle.edi_kernel.specs.declared.table.Table.{Table}
-use Rattle.edi_kernel.specs.Kernel.{Holds, EndsAs, EndsRun, BreaksOff, Switches, StandsArrived, GoesTo, StandsAfter, used_in, ended_by}
-use Rattle.edi_kernel.specs.Runs.{IsAt, IsAtBy, Proceeds, RunsAs, FailsIn}
+use Rattle.edi_kernel.specs.Kernel.{Holds, EndsAs, EndsRun, BreaksOff, BreaksBy, Switches, StandsArrived, GoesTo, StandsAfter, used_in, ended_by}
+use Rattle.edi_kernel.specs.Runs.{IsAt, IsAtBy, Proceeds, RunsAs, FailsIn, FailsInBy, FaultsBy}
 use Rattle.edi_kernel.specs.Moments.{moment_at}
 use Rattle.edi_debug.specs.stops.Kept.{Kept, after_lines}
 use Rattle.edi_debug.specs.stops.Stops.{Watched, line_of, each_in}
@@ -312,3 +314,59 @@ module _ (unit : ProgramUnit) (points : List Watched) (s : State) (bound : ℕ) 
       by_end (stint_end.Exited n) is turns st g =
           let h : Switches (code_of unit) (left - n) k y w.machine w.name w.others = g.0 in
           on n turns h (nobody_stops k (arrived_in h.machine w.name (find h.machine.activities w.name)) st (ap (arrived_in h.machine w.name) g.1))
+
+  -- ---- the object that has failed
+
+  -- the call at which the last stint broke off uses it
+  breaks_by : (failed : Option Outside → Type 0) (k : KernelState) (y : State) (now : Drawn) (m : Machine) (p : Name) (others : List Name) (seen : List Arrived)
+      → Underway (fetch (code_of unit)) first.source 0 unit.calls s bound first.drawn m p others now.drawn seen → k.used ≤ bound
+      → (h : BreaksOff (code_of unit) (bound - k.used) y m p others) → IsUsed h.fails.number failed
+      → FailsInBy failed (parts_of unit) s bound first k.used y now
+  breaks_by failed k y now m p others seen u small h uses =
+      let r = breaks_here (fetch (code_of unit)) first.source 0 unit.calls s bound first.drawn h.steps m p others now.drawn h.machine seen u h.is in (
+        record {
+          steps = r.0;
+          at = moment_at h.machine p others now.drawn;
+          is = r.1;
+          fails = h.fails;
+          drawn = refl;
+          turns = omega (arith, h.turns, small);
+        },
+        uses,
+      )
+
+  -- the same of any end of a stint
+  abbrev Breaks : (failed : Option Outside → Type 0) → (left : ℕ) → State → Machine → Name → List Name → Type 0
+  Breaks failed left y m p others = (h : BreaksOff (code_of unit) left y m p others) × IsUsed h.fails.number failed
+
+  ended_by_it : (failed : Option Outside → Type 0) (x : Ending) (used left : ℕ) (k : KernelState) (y : State) (now : Drawn) (m : Machine) (p : Name)
+      (others : List Name) (seen : List Arrived)
+      → Underway (fetch (code_of unit)) first.source 0 unit.calls s bound first.drawn m p others now.drawn seen → k.used ≤ bound
+      → left - used ≡ bound - k.used → BreaksBy failed (code_of unit) (stint_end.Over used x) left y m p others
+      → FaultsBy failed (parts_of unit) s bound first x k.used y now
+  ended_by_it failed ending.Fault used left k y now m p others seen u small turns g =
+      let h : Breaks failed (bound - k.used) y m p others = subst (λ n. Breaks failed n y m p others) turns g in
+      breaks_by failed k y now m p others seen u small h.0 h.1
+  ended_by_it failed ending.Done used left k y now m p others seen u small turns g = tt
+  ended_by_it failed (ending.Halted line) used left k y now m p others seen u small turns g = tt
+  ended_by_it failed (ending.Failed cause line) used left k y now m p others seen u small turns g = tt
+  ended_by_it failed ending.Turns used left k y now m p others seen u small turns g = tt
+  ended_by_it failed ending.Standstill used left k y now m p others seen u small turns g = tt
+  ended_by_it failed (ending.Bad at) used left k y now m p others seen u small turns g = tt
+
+  pub round_asks : (failed : Option Outside → Type 0) (end : StintEnd) (x : Ending) (k0 k : KernelState) (at y : State) (now : Drawn) (before : Kept)
+      (code : CodeParts) (left : ℕ) → ended_by end ≡ Some x → code ≡ parts_of unit → left ≡ bound - k0.used → left - used_in end ≡ bound - k.used
+      → k.used ≤ bound
+      → ((m : Machine) (p : Name) (others : List Name) → IsAt code k0 at left m p others → BreaksBy failed code.words end left y m p others)
+      → Going unit points s bound first start k0 at now before → FaultsBy failed (parts_of unit) s bound first x k.used y now
+  round_asks failed (stint_end.Over used z) x k0 k at y now before code left is same all turns small breaks w =
+      let one : z ≡ x = (cc) in
+      subst (λ e. FaultsBy failed (parts_of unit) s bound first e k.used y now) one
+      (ended_by_it failed z used left k y now w.machine w.name w.others w.seen w.underway small turns
+      (subst (λ (c : CodeParts). BreaksBy failed c.words (stint_end.Over used z) left y w.machine w.name w.others) same
+      (breaks w.machine w.name w.others
+      (subst (λ n. IsAt code k0 at n w.machine w.name w.others) (sym all)
+      (subst (λ (c : CodeParts). IsAt c k0 at (bound - k0.used) w.machine w.name w.others) (sym same) w.at)))))
+  round_asks failed (stint_end.Arrived used) x k0 k at y now before code left is same all turns small breaks w = absurd (cc)
+  round_asks failed (stint_end.Forked used) x k0 k at y now before code left is same all turns small breaks w = absurd (cc)
+  round_asks failed (stint_end.Exited used) x k0 k at y now before code left is same all turns small breaks w = absurd (cc)

@@ -1,5 +1,6 @@
 -- Helper. How far a watched run has come, and what it has logged.
-use Rattle.std.specs.Prelude.{◌≡◌, ℕ, ◌-◌, List, [], ◌++◌, Option, Some, None}
+use Rattle.std.specs.Prelude.{◌≡◌, ℕ, ◌-◌, List, [], ◌++◌, Option, Some, None, ⊤}
+use Rattle.edi_calls.specs.declared.ends.Outside.{Outside}
 use Rattle.edi_calls.specs.Choice.{Choices}
 use Rattle.edi_calls.specs.Names.{Name}
 use Rattle.edi_calls.specs.State.{State}
@@ -14,7 +15,7 @@ use Rattle.edi_trace.specs.Drawn.{Drawn}
 use Rattle.edi_kernel.specs.declared.ends.Ending.{Ending}
 use Rattle.edi_kernel.specs.declared.state.KernelState.{KernelState}
 use Rattle.edi_kernel.specs.Moments.{Moment, moment, moment_after}
-use Rattle.edi_kernel.specs.Runs.{IsAt, RunsTo}
+use Rattle.edi_kernel.specs.Runs.{FaultsBy, IsAt, RunsTo}
 use Rattle.edi_debug.specs.stops.Kept.{Kept, after_lines}
 use Rattle.edi_debug.specs.stops.Stops.{Watched}
 use Rattle.edi_debug.specs.stops.Watching.{run_lines, LogsRun}
@@ -55,3 +56,8 @@ module _ (unit : ProgramUnit) (points : List Watched) (s : State) (bound : ℕ) 
   abbrev pub Watches : Option Ending → KernelState → State → Drawn → Kept → Type 0
   Watches None = Going
   Watches (Some e) = Ended e
+
+  -- where it has ended by a fault, the call that failed uses the object that has failed
+  abbrev pub AsksFailed : (failed : Option Outside → Type 0) → Option Ending → KernelState → State → Drawn → Type 0
+  AsksFailed failed None k x now = ⊤
+  AsksFailed failed (Some e) k x now = FaultsBy failed (parts_of unit) s bound first e k.used x now

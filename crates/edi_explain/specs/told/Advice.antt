@@ -23,16 +23,16 @@ advice_lines kind.NestingTooDeep =
     ∷ codes "Put an inner part into a procedure of its own, or an inner value into a variable."
     ∷ []
 advice_lines kind.NotInProfile =
-    codes "Edison has this, and this system leaves it out: 'lib', ':' behind a value to change its type,"
+    codes "Edison has this, and this system leaves it out: 'lib', ':' after a value (write char(x) or int(c)),"
     ∷ codes "and the standard names addr, obtain, place and sense."
     ∷ []
 advice_lines kind.UndeclaredName =
     codes "A name of this line means nothing here. Each of these may be the reason:"
-    ∷ codes "- It is display or another call of the system, and the heading of the program does not name it."
-    ∷ codes "- It is spelled in another way. Small and capital letters differ. The standard types are int, char and bool."
-    ∷ codes "- It is declared further down. A procedure may be announced before, by 'pre proc' with its heading."
-    ∷ codes "- It is declared in a procedure or a module that has ended. A name of a module is seen outside if it has a '*'."
-    ∷ codes "- It is a field that the record has not."
+    ∷ codes "- It is a call of the system that the heading does not name. Write proc main(proc display(c: char)) for display."
+    ∷ codes "- It is declared nowhere, or spelled in another way: 'Int' is not 'int'. The standard types are int, char and bool."
+    ∷ codes "- It is declared further down. Move it up; or put 'pre proc' and its heading above, and 'post' before the later 'proc'."
+    ∷ codes "- Its procedure or its module has ended. A module shows what has a '*' before its declaration, as in * var x: int."
+    ∷ codes "- It stands after a period, and the record has no field of this name."
     ∷ []
 advice_lines kind.AmbiguousName =
     codes "A name of this line is declared twice in one procedure, module, heading, record or enumeration; or it is"
@@ -46,7 +46,8 @@ advice_lines kind.InvalidNameKind =
 advice_lines kind.IncompatibleTypes =
     codes "Two types of this line do not fit. Each of these may be the reason:"
     ∷ codes "- Both sides of ':=' and of a comparison have one type. Each declaration of a type makes another type."
-    ∷ codes "- A condition is of type bool. 'and' and 'or' join conditions. 'not' takes the next operand alone: not (x = 0)."
+    ∷ codes "- A condition is of type bool. 'not' takes the next operand alone: not (x = 0)."
+    ∷ codes "- 'and' and 'or' come before a comparison: ready and x = 1 is (ready and x) = 1. Write ready and (x = 1)."
     ∷ codes "- '+', '-' and '*' take numbers or sets, 'div' and 'mod' numbers."
     ∷ codes "- int(c) is the number of the character c, and char(n) the character of the number n."
     ∷ codes "- Only an array has an index, which is of the type of its bounds. Only a record has fields."
@@ -73,8 +74,12 @@ advice_lines kind.InvalidSplitProcedure =
     ∷ codes "'post proc' with the same heading and the body. One of the two is missing, or the headings differ."
     ∷ []
 advice_lines kind.InvalidProgramHeading =
-    codes "The heading of the program names the calls of the system that it uses, each exactly as the manual has"
-    ∷ codes "it, as in proc main(proc display(value: char)). It has no result and no other parameter."
+    codes "The heading of the program names the calls of the system that it uses, as in proc main(proc display(c: char))."
+    ∷ codes "It has no result and no other parameter. The calls are these, where a name is an array [1:12] (char):"
+    ∷ codes "- accept(var c: char), display(c: char), print(c: char), fresh, more(var b: bool), read(var c: char),"
+    ∷ codes "- write(c: char), find(title: name; var found: bool), close(title: name; var done: bool) and"
+    ∷ codes "- remove(title: name; var done: bool)."
+    ∷ codes "- No call shows a number: display(char(int('0') + n)) shows the digit n."
     ∷ []
 
 abbrev pub line_text : List ℕ → List ℕ

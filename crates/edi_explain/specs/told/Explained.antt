@@ -45,12 +45,12 @@ stray_text b =
 -- what another language means by a byte, and how this one says it; empty where nothing is known of the byte
 abbrev pub stray_note : ℕ → List ℕ
 stray_note b =
-    if b == 33 then codes "'<>' compares for not being equal; 'not' stands before a condition."
-    else if b == 35 then codes "'<>' compares for not being equal; a comment stands between quotation marks."
-    else if b == 37 then codes "'mod' gives what a division leaves."
-    else if b == 38 || b == 124 then codes "conditions are joined by 'and' and 'or'."
+    if b == 33 then codes "not equal is written '<>', and 'not' stands before a condition."
+    else if b == 35 then codes "not equal is written '<>'; a comment stands between quotation marks."
+    else if b == 37 then codes "what a division leaves is written 'mod'."
+    else if b == 38 || b == 124 then codes "'and' and 'or' join conditions, as in (x > 0) and (y > 0)."
     else if b == 39 then codes "an apostrophe ends a string; ''' is the string of one apostrophe."
-    else if b == 47 then codes "'div' gives a quotient, and 'mod' what is left; a comment stands between quotation marks."
+    else if b == 47 then codes "a division is written 'div', and what it leaves 'mod'; a comment stands between quotation marks."
     else if b == 95 then codes "a name begins with a letter."
     else if b == 123 || b == 125 then codes "a comment stands between quotation marks; statements stand between 'do' and 'end'."
     else []

@@ -16,9 +16,9 @@ use Rattle.edi_explain.specs.told.Words.{is_text_of}
 abbrev pub word_notes : List (List ℕ × List ℕ)
 word_notes =
     (codes "then", codes "'then' is no word of the language: after a condition comes 'do'.")
-    ∷ (codes "for", codes "'for' is no word of the language: a loop is 'while CONDITION do ... end', with a variable that counts.")
-    ∷ (codes "repeat", codes "'repeat' is no word of the language: a loop is 'while CONDITION do ... end'.")
-    ∷ (codes "until", codes "'until' is no word of the language: a loop is 'while CONDITION do ... end'.")
+    ∷ (codes "for", codes "'for' is no word of the language: a loop is while i <= 9 do ...; i := i + 1 end, after i := 1.")
+    ∷ (codes "repeat", codes "'repeat' is no word of the language: a loop is while x <> 9 do ... end, which goes on as long as its condition is true.")
+    ∷ (codes "until", codes "'until' is no word of the language: a loop is while x <> 9 do ... end, which goes on as long as its condition is true.")
     ∷ (codes "loop", codes "'loop' is no word of the language: a loop is 'while CONDITION do ... end'.")
     ∷ (codes "return", codes "'return' is no word of the language: a function f gives its value by 'val f := ...'.")
     ∷ (codes "elsif", codes "'elsif' is no word of the language: a further case is 'else CONDITION do'.")
@@ -26,10 +26,10 @@ word_notes =
     ∷ (codes "case", codes "'case' is no word of the language: cases are 'if CONDITION do ... else CONDITION do ... end'.")
     ∷ (codes "procedure", codes "'procedure' is no word of the language: a procedure begins with 'proc'.")
     ∷ (codes "function", codes "'function' is no word of the language: a function begins with 'proc' and has a type, as in proc f: int.")
-    ∷ (codes "program", codes "'program' is no word of the language: a program is a procedure, as in proc main.")
+    ∷ (codes "program", codes "'program' is no word of the language: a program is a procedure, as in proc main, without a semicolon.")
     ∷ (codes "type", codes "'type' is no word of the language: a type is declared by 'array', 'enum', 'record' or 'set' and its name.")
     ∷ (codes "of", codes "'of' is no word of the language: an array is declared as array t [1:10] (int).")
-    ∷ (codes "let", codes "'let' is no word of the language: variables are declared as var x: int, before 'begin'.")
+    ∷ (codes "let", codes "'let' is no word of the language: variables are declared as var x: int, before 'begin', without a semicolon after the last.")
     ∷ []
 
 abbrev pub note_beside : List (List ℕ × List ℕ) → List ℕ → Option (List ℕ)
@@ -96,6 +96,16 @@ enders = kind.Begin ∷ kind.Close ∷ declaration
 abbrev pub worded : List ℕ
 worded = kind.Begin ∷ kind.Cobegin ∷ kind.If ∷ kind.When ∷ kind.While ∷ []
 
+abbrev pub words : List ℕ
+words =
+    kind.Also ∷ kind.And ∷ kind.Array ∷ kind.Begin ∷ kind.Cobegin ∷ kind.Const ∷ kind.Div ∷ kind.Do ∷ kind.Else ∷ kind.End ∷ kind.Enum ∷ kind.If ∷ kind.In
+    ∷ kind.Lib ∷ kind.Mod ∷ kind.Module ∷ kind.Not ∷ kind.Or ∷ kind.Post ∷ kind.Pre ∷ kind.Proc ∷ kind.Record ∷ kind.Set ∷ kind.Skip ∷ kind.Val ∷ kind.Var
+    ∷ kind.When ∷ kind.While ∷ []
+
+-- the words after which a name is declared
+abbrev pub namers : List ℕ
+namers = kind.Array ∷ kind.Const ∷ kind.Enum ∷ kind.Proc ∷ kind.Record ∷ kind.Set ∷ kind.Var ∷ []
+
 abbrev pub signs : List ℕ
 signs = kind.Plus ∷ kind.Minus ∷ []
 
@@ -108,10 +118,10 @@ abbrev pub branch_note : List ℕ
 branch_note = codes "each branch begins with a constant and 'do', as in cobegin 1 do p also 2 do q end."
 
 abbrev pub also_note : List ℕ
-also_note = codes "'also' stands between two branches."
+also_note = codes "'also' stands between two branches, in place of a semicolon."
 
 abbrev pub type_note : List ℕ
-type_note = codes "a type is declared as array t [1:10] (int), enum e (a, b), record r (a: int; b: char) or set s (int)."
+type_note = codes "after the name of a type come parentheses: array t [1:10] (int), enum e (a, b), record r (a: int; b: char) or set s (int)."
 
 -- THE TABLE
 abbrev pub note_rows : List Row
@@ -122,8 +132,9 @@ note_rows =
     ∷ record (asking [] [] branch_note) { last = kind.Cobegin ∷ kind.Also ∷ [] }
     ∷ record (asking (kind.Numeral ∷ kind.Char ∷ []) [] also_note) { last = kind.Semicolon ∷ []; inside = kind.Cobegin ∷ [] }
     ∷ record (asking (kind.Do ∷ []) (kind.Also ∷ []) also_note) { inside = kind.Cobegin ∷ [] }
-    ∷ record (asking (kind.Name ∷ []) [] (codes "a module has no name.")) { last = kind.Module ∷ [] }
-    ∷ record (asking [] [] (codes "after 'else' comes a condition: 'else CONDITION do' is a further case, and 'else true do' takes all other cases."))
+    ∷ record (asking (kind.Name ∷ []) [] (codes "a module has no name: its declarations come at once.")) { last = kind.Module ∷ [] }
+    ∷ record (asking words (kind.Name ∷ []) (codes "this is a word of the language, so it cannot be a name.")) { last = namers }
+    ∷ record (asking [] [] (codes "after 'else' comes a condition, without 'if': 'else x > 0 do' is a further case, and 'else true do' takes all other cases."))
     { last = kind.Else ∷ [] }
     ∷ asking (kind.Becomes ∷ []) (kind.Do ∷ [])
     (codes "a condition stands here, up to its 'do', and '=' compares two values; after 'else' comes a condition too: 'else true do'.")
@@ -133,7 +144,7 @@ note_rows =
     ∷ asking (kind.Equal ∷ []) (kind.Becomes ∷ []) (codes "'=' compares two values; ':=' assigns one.")
     ∷ record (asking (kind.Equal ∷ kind.Less ∷ kind.Greater ∷ []) [] (codes "the comparisons are '=', '<>', '<', '<=', '>' and '>='."))
     { last = kind.Equal ∷ kind.Less ∷ kind.Greater ∷ [] }
-    ∷ asking (kind.Begin ∷ []) (kind.Skip ∷ []) (codes "only a procedure and a module have a 'begin'; after 'do' stand statements, up to the 'end'.")
+    ∷ asking (kind.Begin ∷ []) (kind.Skip ∷ []) (codes "here come statements, without a 'begin': only a procedure and a module have one.")
     ∷ record (asking (kind.Semicolon ∷ ends) (kind.Skip ∷ []) (codes "a list of statements is never empty; 'skip' does nothing."))
     { last = kind.Begin ∷ kind.Do ∷ [] }
     ∷ record (asking (kind.Semicolon ∷ ends) (kind.Skip ∷ [])
@@ -142,21 +153,23 @@ note_rows =
     { last = kind.Semicolon ∷ []; not_these = kind.Skip ∷ [] }
     ∷ asking (kind.Semicolon ∷ []) (kind.Begin ∷ []) (codes "no semicolon stands after a heading, a declaration or a procedure.")
     ∷ record (asking (kind.Period ∷ []) [] (codes "a number is whole: it has no part after a period.")) { last = kind.Numeral ∷ []; not_these = kind.Colon ∷ [] }
-    ∷ record (asking (kind.Comma ∷ []) (kind.CloseBracket ∷ []) (codes "one index stands in brackets; of an array of arrays, as in a[1][2]."))
+    ∷ record (asking (kind.OpenBracket ∷ []) (kind.Semicolon ∷ [])
+    (codes "an array has a type of its own: array t [1:10] (int) and, after it, var x: t.")) { last = kind.Name ∷ [] }
+    ∷ record (asking (kind.Comma ∷ []) (kind.CloseBracket ∷ []) (codes "a pair of brackets holds one index: a[i][j], not a[i, j]."))
     { inside = kind.OpenBracket ∷ [] }
     ∷ asking comparison (kind.Do ∷ []) (codes "a condition has one comparison outside parentheses, as in (x > 0) and (x < 9).")
     ∷ asking (kind.Semicolon ∷ ends) (kind.Do ∷ [])
     (codes "after a condition comes 'do'; after 'else' comes a condition too: 'else true do' takes all other cases.")
-    ∷ asking [] (kind.Do ∷ []) (codes "after a condition comes 'do'.")
+    ∷ asking [] (kind.Do ∷ []) (codes "after a condition comes 'do', and no 'begin'.")
     ∷ asking (kind.Numeral ∷ kind.Char ∷ kind.Text ∷ []) (kind.Open ∷ kind.Becomes ∷ []) (codes "the arguments of a call stand in parentheses.")
     ∷ asking (kind.Plus ∷ kind.Minus ∷ []) (kind.Becomes ∷ []) (codes "a variable is changed by ':=', as in x := x + 1.")
     ∷ asking (kind.Colon ∷ []) (kind.Becomes ∷ []) (codes "':=' is one symbol; variables are declared before 'begin'.")
     ∷ asking statement (kind.Semicolon ∷ kind.End ∷ []) (codes "a semicolon stands between two statements.")
-    ∷ record (asking (kind.Name ∷ []) (kind.Comma ∷ kind.Colon ∷ []) (codes "a name stands before its type, as in x: int; a comma stands between two names."))
+    ∷ record (asking (kind.Name ∷ []) (kind.Comma ∷ kind.Colon ∷ []) (codes "the name comes first and then its type, as in x: int; a comma stands between two names."))
     { last = kind.Name ∷ [] }
-    ∷ record (asking (kind.Equal ∷ kind.Becomes ∷ []) (kind.Begin ∷ kind.Semicolon ∷ []) (codes "a variable gets its value by a statement, after 'begin', as in x := 1."))
+    ∷ record (asking (kind.Equal ∷ kind.Becomes ∷ []) (kind.Begin ∷ kind.Semicolon ∷ []) (codes "a declaration gives no value: write var x: int, and x := 1 after 'begin'."))
     { not_these = kind.Open ∷ [] }
-    ∷ record (asking signs (kind.Numeral ∷ []) (codes "a constant has no sign; a statement may compute 0 - 1.")) { not_these = kind.Not ∷ [] }
+    ∷ record (asking signs (kind.Numeral ∷ []) (codes "a constant has no sign: declare it without one, and write the sign where it is used, as in x := -c.")) { not_these = kind.Not ∷ [] }
     ∷ asking signs (kind.Numeral ∷ kind.Not ∷ []) (codes "a sign stands before the first operand alone, as in 2 * (-1).")
     ∷ record (asking [] (kind.Open ∷ []) type_note) { not_these = beside_open }
     ∷ record (asking [] (kind.OpenBracket ∷ []) type_note) { not_these = kind.Open ∷ beside_open }
@@ -169,7 +182,7 @@ note_rows =
     ∷ record (asking (kind.Close ∷ []) [] (codes "a heading or a call without parameters has no parentheses.")) { last = kind.Open ∷ [] }
     ∷ record (asking (kind.Else ∷ kind.Also ∷ []) [] (codes "one 'end' stands after the last branch, and none before 'else' or 'also'."))
     { last = kind.End ∷ [] }
-    ∷ record (asking declaration [] (codes "declarations stand before the 'begin' of their procedure; or an 'end' is missing before this one."))
+    ∷ record (asking declaration [] (codes "declarations stand before the 'begin' of their procedure, without a semicolon after the last; or an 'end' is missing here."))
     { inside = worded }
     ∷ asking (kind.End_of_text ∷ []) (kind.End ∷ []) (codes "each 'begin', 'if', 'while', 'when' and 'cobegin' has an 'end' of its own; count them from the last one.")
     ∷ asking declaration (kind.End_of_text ∷ [])
@@ -180,7 +193,7 @@ note_rows =
     ∷ record (asking (kind.Array ∷ kind.Enum ∷ kind.Record ∷ kind.Set ∷ []) (kind.Name ∷ [])
     (codes "here stands the name of a type that is declared before, as in array t [1:10] (int).")) { last = kind.Colon ∷ [] }
     ∷ record (asking [] (kind.Colon ∷ []) (codes "the bounds of an array stand as in [1:10].")) { inside = kind.OpenBracket ∷ [] }
-    ∷ record (asking statement (kind.Begin ∷ kind.Var ∷ []) (codes "the variables of a procedure stand after 'var', and its statements after 'begin'."))
+    ∷ record (asking statement (kind.Begin ∷ kind.Var ∷ []) (codes "variables stand after 'var', as in var x: int; statements stand after 'begin'."))
     { inside = kind.End_of_text ∷ [] }
     ∷ asking [] (kind.Becomes ∷ []) (codes "a statement that begins with a name is an assignment, as in x := 1, or a call, as in p(x).")
     ∷ record (asking [] (kind.Proc ∷ []) (codes "a program begins with its constants and types and then with its procedure, as in proc main."))
@@ -203,7 +216,7 @@ is_type_mark (Some m) = is_type_name m.symbol
 -- an assignment may go on here, and a name stands after one of these types
 abbrev pub type_before : (before : Option Mark) → Seen → Option (List ℕ)
 type_before before seen =
-    if (seen.found == kind.Name) && seen.may kind.Becomes && is_type_mark before then Some (codes "variables are declared as var x: int, before 'begin'.")
+    if (seen.found == kind.Name) && seen.may kind.Becomes && is_type_mark before then Some (codes "variables are declared as var x: int, before 'begin', without a semicolon after the last.")
     else None
 
 -- ---- the note

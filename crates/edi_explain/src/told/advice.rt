@@ -31,17 +31,17 @@ static NESTING_TOO_DEEP: [&str; 2] = [
 ];
 
 static NOT_IN_PROFILE: [&str; 2] = [
-    "Edison has this, and this system leaves it out: 'lib', ':' behind a value to change its type,",
+    "Edison has this, and this system leaves it out: 'lib', ':' after a value (write char(x) or int(c)),",
     "and the standard names addr, obtain, place and sense.",
 ];
 
 static UNDECLARED_NAME: [&str; 6] = [
     "A name of this line means nothing here. Each of these may be the reason:",
-    "- It is display or another call of the system, and the heading of the program does not name it.",
-    "- It is spelled in another way. Small and capital letters differ. The standard types are int, char and bool.",
-    "- It is declared further down. A procedure may be announced before, by 'pre proc' with its heading.",
-    "- It is declared in a procedure or a module that has ended. A name of a module is seen outside if it has a '*'.",
-    "- It is a field that the record has not.",
+    "- It is a call of the system that the heading does not name. Write proc main(proc display(c: char)) for display.",
+    "- It is declared nowhere, or spelled in another way: 'Int' is not 'int'. The standard types are int, char and bool.",
+    "- It is declared further down. Move it up; or put 'pre proc' and its heading above, and 'post' before the later 'proc'.",
+    "- Its procedure or its module has ended. A module shows what has a '*' before its declaration, as in * var x: int.",
+    "- It stands after a period, and the record has no field of this name.",
 ];
 
 static AMBIGUOUS_NAME: [&str; 2] = [
@@ -55,10 +55,11 @@ static INVALID_NAME_KIND: [&str; 3] = [
     "the function f alone.",
 ];
 
-static INCOMPATIBLE_TYPES: [&str; 6] = [
+static INCOMPATIBLE_TYPES: [&str; 7] = [
     "Two types of this line do not fit. Each of these may be the reason:",
     "- Both sides of ':=' and of a comparison have one type. Each declaration of a type makes another type.",
-    "- A condition is of type bool. 'and' and 'or' join conditions. 'not' takes the next operand alone: not (x = 0).",
+    "- A condition is of type bool. 'not' takes the next operand alone: not (x = 0).",
+    "- 'and' and 'or' come before a comparison: ready and x = 1 is (ready and x) = 1. Write ready and (x = 1).",
     "- '+', '-' and '*' take numbers or sets, 'div' and 'mod' numbers.",
     "- int(c) is the number of the character c, and char(n) the character of the number n.",
     "- Only an array has an index, which is of the type of its bounds. Only a record has fields.",
@@ -89,9 +90,13 @@ static INVALID_SPLIT_PROCEDURE: [&str; 2] = [
     "'post proc' with the same heading and the body. One of the two is missing, or the headings differ.",
 ];
 
-static INVALID_PROGRAM_HEADING: [&str; 2] = [
-    "The heading of the program names the calls of the system that it uses, each exactly as the manual has",
-    "it, as in proc main(proc display(value: char)). It has no result and no other parameter.",
+static INVALID_PROGRAM_HEADING: [&str; 6] = [
+    "The heading of the program names the calls of the system that it uses, as in proc main(proc display(c: char)).",
+    "It has no result and no other parameter. The calls are these, where a name is an array [1:12] (char):",
+    "- accept(var c: char), display(c: char), print(c: char), fresh, more(var b: bool), read(var c: char),",
+    "- write(c: char), find(title: name; var found: bool), close(title: name; var done: bool) and",
+    "- remove(title: name; var done: bool).",
+    "- No call shows a number: display(char(int('0') + n)) shows the digit n.",
 ];
 
 // The lines of a kind.

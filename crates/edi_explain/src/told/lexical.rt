@@ -31,13 +31,13 @@ fn stray_note(b: u8) -> &'static str
     ensures exact { result.now ≡ spec.stray_note b }
 {
     match b {
-        33 => "'<>' compares for not being equal; 'not' stands before a condition.",
-        35 => "'<>' compares for not being equal; a comment stands between quotation marks.",
-        37 => "'mod' gives what a division leaves.",
-        38 | 124 => "conditions are joined by 'and' and 'or'.",
+        33 => "not equal is written '<>', and 'not' stands before a condition.",
+        35 => "not equal is written '<>'; a comment stands between quotation marks.",
+        37 => "what a division leaves is written 'mod'.",
+        38 | 124 => "'and' and 'or' join conditions, as in (x > 0) and (y > 0).",
         39 => "an apostrophe ends a string; ''' is the string of one apostrophe.",
         47 =>
-            "'div' gives a quotient, and 'mod' what is left; a comment stands between quotation marks.",
+            "a division is written 'div', and what it leaves 'mod'; a comment stands between quotation marks.",
         95 => "a name begins with a letter.",
         123 | 125 =>
             "a comment stands between quotation marks; statements stand between 'do' and 'end'.",

@@ -5,8 +5,9 @@ ghost use Rattle.edi_explain.specs.told.Notes as spec;
 ghost use Rattle.edi_explain.specs.told.Tables.{pairs_of, row_of, rows_of, seen_of};
 
 use crate::expected::Expected;
+use crate::told::foreign::{ELEMENTARY_TYPES, WORDS};
 use crate::told::groups::{all_may, any_may, is_among, may};
-use crate::told::table::{ELEMENTARY_TYPES, ROWS, Row, WORDS};
+use crate::told::table::{ROWS, Row};
 use crate::told::words::is_text_of;
 use edi_lex::{Mark, Symbol};
 use std::alloc::AllocError;
@@ -121,7 +122,9 @@ fn type_before(before: Option<&Mark>, seen: &Seen) -> Option<&'static str>
     ensures exact { option_map (λ text. text.now) result ≡ spec.type_before (option_copied before.entry) (seen_of seen.now) }
 {
     if seen.found == 1 && may(&seen.may, 43) && is_type_mark(before) {
-        return Some("variables are declared as var x: int, before 'begin'.");
+        return Some(
+            "variables are declared as var x: int, before 'begin', without a semicolon after the last.",
+        );
     }
     None
 }

@@ -12,73 +12,6 @@ pub(crate) struct Row {
     pub note: &'static str,
 }
 
-/// The standard types.
-pub(crate) static ELEMENTARY_TYPES: [&str; 3] = ["int", "char", "bool"];
-
-/// Words that are names here, and their notes.
-pub(crate) static WORDS: [(&str, &str); 15] = [
-    (
-        "then",
-        "'then' is no word of the language: after a condition comes 'do'.",
-    ),
-    (
-        "for",
-        "'for' is no word of the language: a loop is 'while CONDITION do ... end', with a variable that counts.",
-    ),
-    (
-        "repeat",
-        "'repeat' is no word of the language: a loop is 'while CONDITION do ... end'.",
-    ),
-    (
-        "until",
-        "'until' is no word of the language: a loop is 'while CONDITION do ... end'.",
-    ),
-    (
-        "loop",
-        "'loop' is no word of the language: a loop is 'while CONDITION do ... end'.",
-    ),
-    (
-        "return",
-        "'return' is no word of the language: a function f gives its value by 'val f := ...'.",
-    ),
-    (
-        "elsif",
-        "'elsif' is no word of the language: a further case is 'else CONDITION do'.",
-    ),
-    (
-        "elif",
-        "'elif' is no word of the language: a further case is 'else CONDITION do'.",
-    ),
-    (
-        "case",
-        "'case' is no word of the language: cases are 'if CONDITION do ... else CONDITION do ... end'.",
-    ),
-    (
-        "procedure",
-        "'procedure' is no word of the language: a procedure begins with 'proc'.",
-    ),
-    (
-        "function",
-        "'function' is no word of the language: a function begins with 'proc' and has a type, as in proc f: int.",
-    ),
-    (
-        "program",
-        "'program' is no word of the language: a program is a procedure, as in proc main.",
-    ),
-    (
-        "type",
-        "'type' is no word of the language: a type is declared by 'array', 'enum', 'record' or 'set' and its name.",
-    ),
-    (
-        "of",
-        "'of' is no word of the language: an array is declared as array t [1:10] (int).",
-    ),
-    (
-        "let",
-        "'let' is no word of the language: variables are declared as var x: int, before 'begin'.",
-    ),
-];
-
 // The row that fits everywhere, without a note.
 const ANYWHERE: Row = Row {
     found: &[],
@@ -91,7 +24,7 @@ const ANYWHERE: Row = Row {
 };
 
 /// The rows, of which the first one that fits counts.
-pub(crate) static ROWS: [Row; 48] = [
+pub(crate) static ROWS: [Row; 50] = [
     Row {
         may: &[2, 3],
         quoted: true,
@@ -113,25 +46,35 @@ pub(crate) static ROWS: [Row; 48] = [
         found: &[2, 3],
         last: &[45],
         inside: &[9],
-        note: "'also' stands between two branches.",
+        note: "'also' stands between two branches, in place of a semicolon.",
         ..ANYWHERE
     },
     Row {
         found: &[12],
         inside: &[9],
         may: &[5],
-        note: "'also' stands between two branches.",
+        note: "'also' stands between two branches, in place of a semicolon.",
         ..ANYWHERE
     },
     Row {
         found: &[1],
         last: &[20],
-        note: "a module has no name.",
+        note: "a module has no name: its declarations come at once.",
+        ..ANYWHERE
+    },
+    Row {
+        found: &[
+            5, 6, 7, 8, 9, 10, 11, 12, 13, 14, 15, 16, 17, 18, 19, 20, 21, 22, 23, 24, 25, 26, 27,
+            28, 29, 30, 31, 32,
+        ],
+        last: &[7, 10, 15, 25, 26, 27, 30],
+        may: &[1],
+        note: "this is a word of the language, so it cannot be a name.",
         ..ANYWHERE
     },
     Row {
         last: &[13],
-        note: "after 'else' comes a condition: 'else CONDITION do' is a further case, and 'else true do' takes all other cases.",
+        note: "after 'else' comes a condition, without 'if': 'else x > 0 do' is a further case, and 'else true do' takes all other cases.",
         ..ANYWHERE
     },
     Row {
@@ -168,7 +111,7 @@ pub(crate) static ROWS: [Row; 48] = [
     Row {
         found: &[8],
         may: &[28],
-        note: "only a procedure and a module have a 'begin'; after 'do' stand statements, up to the 'end'.",
+        note: "here come statements, without a 'begin': only a procedure and a module have one.",
         ..ANYWHERE
     },
     Row {
@@ -207,10 +150,17 @@ pub(crate) static ROWS: [Row; 48] = [
         ..ANYWHERE
     },
     Row {
+        found: &[49],
+        last: &[1],
+        may: &[45],
+        note: "an array has a type of its own: array t [1:10] (int) and, after it, var x: t.",
+        ..ANYWHERE
+    },
+    Row {
         found: &[44],
         inside: &[49],
         may: &[50],
-        note: "one index stands in brackets; of an array of arrays, as in a[1][2].",
+        note: "a pair of brackets holds one index: a[i][j], not a[i, j].",
         ..ANYWHERE
     },
     Row {
@@ -227,7 +177,7 @@ pub(crate) static ROWS: [Row; 48] = [
     },
     Row {
         may: &[12],
-        note: "after a condition comes 'do'.",
+        note: "after a condition comes 'do', and no 'begin'.",
         ..ANYWHERE
     },
     Row {
@@ -258,21 +208,21 @@ pub(crate) static ROWS: [Row; 48] = [
         found: &[1],
         last: &[1],
         may: &[44, 42],
-        note: "a name stands before its type, as in x: int; a comma stands between two names.",
+        note: "the name comes first and then its type, as in x: int; a comma stands between two names.",
         ..ANYWHERE
     },
     Row {
         found: &[33, 43],
         may: &[8, 45],
         not_these: &[47],
-        note: "a variable gets its value by a statement, after 'begin', as in x := 1.",
+        note: "a declaration gives no value: write var x: int, and x := 1 after 'begin'.",
         ..ANYWHERE
     },
     Row {
         found: &[39, 40],
         may: &[2],
         not_these: &[21],
-        note: "a constant has no sign; a statement may compute 0 - 1.",
+        note: "a constant has no sign: declare it without one, and write the sign where it is used, as in x := -c.",
         ..ANYWHERE
     },
     Row {
@@ -284,19 +234,19 @@ pub(crate) static ROWS: [Row; 48] = [
     Row {
         may: &[47],
         not_these: &[1, 8, 12, 39, 42, 43, 45, 48, 50],
-        note: "a type is declared as array t [1:10] (int), enum e (a, b), record r (a: int; b: char) or set s (int).",
+        note: "after the name of a type come parentheses: array t [1:10] (int), enum e (a, b), record r (a: int; b: char) or set s (int).",
         ..ANYWHERE
     },
     Row {
         may: &[49],
         not_these: &[47, 1, 8, 12, 39, 42, 43, 45, 48, 50],
-        note: "a type is declared as array t [1:10] (int), enum e (a, b), record r (a: int; b: char) or set s (int).",
+        note: "after the name of a type come parentheses: array t [1:10] (int), enum e (a, b), record r (a: int; b: char) or set s (int).",
         ..ANYWHERE
     },
     Row {
         last: &[7, 15, 26, 27],
         may: &[1],
-        note: "a type is declared as array t [1:10] (int), enum e (a, b), record r (a: int; b: char) or set s (int).",
+        note: "after the name of a type come parentheses: array t [1:10] (int), enum e (a, b), record r (a: int; b: char) or set s (int).",
         ..ANYWHERE
     },
     Row {
@@ -336,7 +286,7 @@ pub(crate) static ROWS: [Row; 48] = [
     Row {
         found: &[7, 10, 15, 20, 23, 24, 25, 26, 27, 30],
         inside: &[8, 9, 16, 31, 32],
-        note: "declarations stand before the 'begin' of their procedure; or an 'end' is missing before this one.",
+        note: "declarations stand before the 'begin' of their procedure, without a semicolon after the last; or an 'end' is missing here.",
         ..ANYWHERE
     },
     Row {
@@ -380,7 +330,7 @@ pub(crate) static ROWS: [Row; 48] = [
         found: &[1, 9, 16, 28, 29, 31, 32],
         inside: &[0],
         may: &[8, 30],
-        note: "the variables of a procedure stand after 'var', and its statements after 'begin'.",
+        note: "variables stand after 'var', as in var x: int; statements stand after 'begin'.",
         ..ANYWHERE
     },
     Row {

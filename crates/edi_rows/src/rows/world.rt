@@ -2,7 +2,7 @@
 
 use edi_host::{MemoryDrive, MemoryFiles, MemorySink, MemorySource};
 use edi_kernel::Kernel;
-use edi_main::edison;
+use edi_main::{Watcher, edison};
 use std::alloc::Global;
 use std::process::Abort;
 
@@ -28,6 +28,18 @@ impl Devices {
             printer: MemorySink::new(alloc, ROOM, &[]).expect(rt, "memory"),
         }
     }
+}
+
+/// A watcher that keeps nothing.
+#[derive(Clone, Copy)]
+struct Nobody;
+
+impl Watcher for Nobody {
+    ghost use Rattle.std.specs.Prelude.{None};
+
+    ghost seen = { λ s. None };
+
+    fn tell(&mut self, _states: usize) {}
 }
 
 /// The files of the host, the devices, and a kernel.
@@ -66,6 +78,7 @@ impl World {
             &mut self.devices.terminal,
             &mut self.devices.printer,
             &mut self.kernel,
+            &mut Nobody,
         );
         status.number()
     }

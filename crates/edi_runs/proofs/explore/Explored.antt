@@ -1,6 +1,7 @@
 -- What a search reports of the code of a text, in the words of the text.
-use Rattle.std.proofs.Common.{◌≡◌, ℕ, zero, suc, ◌<◌, ◌≤◌, List, [], ◌∷◌, map, Contains, Some, refl, sym, ap, subst, ◌∙◌, arith}
+use Rattle.std.proofs.Common.{◌≡◌, ℕ, zero, suc, ◌<◌, ◌≤◌, Bool, true, false, List, [], ◌∷◌, length, map, Contains, Option, Some, is_some, refl, sym, ap, subst, ◌∙◌, arith}
 use Rattle.std.specs.Prelude.{slice_get}
+use Rattle.std.proofs.lemmas.List.{length-map}
 use Rattle.edi_calls.specs.Outcome as outcome
 use Rattle.edi_kernel.specs.declared.ends.Ending.{Ending}
 use Rattle.edi_kernel.specs.declared.ends.Ending.TheVariants as ending
@@ -9,20 +10,23 @@ use Rattle.edi_target.specs.Check.{CodeParts}
 use Rattle.edi_scheme.specs.Laws.{parts_of}
 use Rattle.edi_timeline.specs.Told.{meant}
 use Rattle.edi_texts.specs.Texts.{IsUnit}
-use Rattle.edi_explored.specs.Reached.{AreAll, AreAllBelow}
+use Rattle.edi_explored.specs.Reached.{AreAll, AreAllBelow, AreAllShown, AreAllShownBelow}
+use Rattle.edi_explored.specs.machine.Alike.{SameShown}
 use Rattle.edi_explored.specs.machine.Kernels.{IsUnitCode, ending_of}
 use Rattle.edi_explore.specs.declared.ends.Found.{Found}
 use Rattle.edi_explore.specs.declared.ends.Verdict.{Verdict}
 use Rattle.edi_explore.specs.declared.ends.Verdict.TheVariants as verdict
-use Rattle.edi_explore.specs.Found as code
 use Rattle.edi_explore.specs.Found.{AllTellWaits, AreNeverBad, AreRecorded, IsRecorded, TellsWaits, WaitsBy, endings_of, is_standstill, with_ending}
 use Rattle.edi_explore.specs.Offline.{offline}
+use Rattle.edi_explore.specs.Shown as search
+use Rattle.edi_explore.specs.Shown.{shown_endings_of, with_shown}
 use Rattle.edi_explore.specs.Verdicts.{HasCause, IsUpTo}
 use Rattle.edi_explore.proofs.Findings.{contains_at}
 use Rattle.edi_explore.proofs.Keying.{some_is}
 use Rattle.edi_waits.specs.Told.{all_of}
 use Rattle.edi_waits.specs.Waits.{Waiting}
-use Rattle.edi_runs.specs.explore.Explorations.{AreDistinct, AreTold, IsCutOnlyBy, IsExplorationOf, IsFound, IsFullOnlyAt, IsReachedBy, Reached, Says, endings_in}
+use Rattle.edi_runs.specs.explore.Explorations.{AreDistinct, AreTold, IsCutOnlyBy, IsExplorationOf, IsFound, IsFullOnlyAt, IsManyOnlyAt, IsReachedBy, Reached, ShowSame}
+use Rattle.edi_runs.specs.explore.Explorations.{Says, SaysShown, endings_in, shown_endings_in}
 use Rattle.edi_runs.specs.explore.Told.{reached_of}
 
 -- ---- endings
@@ -95,14 +99,28 @@ same_endings (f ∷ fs) told =
     ∙ ap (λ es. t.0 ∷ es) (same_endings fs (λ g c. told g (later f fs g c)))
     ∙ ap (λ e. e ∷ endings_in (map reached_of fs)) (sym (meant_is f.ending t.0 t.1))
 
-distinct : (fs : List Found) → AreEndings fs → code.AreDistinct fs → AreDistinct (map reached_of fs)
-distinct fs told d i j a b p q e =
+same_shown_endings : (fs : List Found) → AreEndings fs → shown_endings_of fs ≡ shown_endings_in (map reached_of fs)
+same_shown_endings [] told = refl
+same_shown_endings (f ∷ fs) told =
+    let t = told f (0, omega arith, refl) in
+    ap (λ o. with_shown o f.shown.items (shown_endings_of fs)) t.1
+    ∙ ap (λ es. (t.0, f.shown.items) ∷ es) (same_shown_endings fs (λ g c. told g (later f fs g c)))
+    ∙ ap (λ e. (e, f.shown.items) ∷ shown_endings_in (map reached_of fs)) (sym (meant_is f.ending t.0 t.1))
+
+same_shown : (asks : Bool) (a b : Reached) (x y : Found) → reached_of x ≡ a → reached_of y ≡ b → ShowSame asks a b →
+    SameShown asks x.shown.items y.shown.items
+same_shown true a b x y p q same = ap (λ (r : Reached). r.shown) q ∙ sym same ∙ sym (ap (λ (r : Reached). r.shown) p)
+same_shown false a b x y p q same = tt
+
+distinct : (asks : Bool) (fs : List Found) → AreEndings fs → search.AreDistinct asks fs → AreDistinct asks (map reached_of fs)
+distinct asks fs told d i j a b p q e shown =
     let x = reached_at fs i a p in
     let y = reached_at fs j b q in
     let s = told x.0 (contains_at fs i x.0 x.1) in
     let t = told y.0 (contains_at fs j y.0 y.1) in
     let same : meant x.0.ending ≡ meant y.0.ending = ap (λ (r : Reached). r.ending) x.2 ∙ e ∙ sym (ap (λ (r : Reached). r.ending) y.2) in
-    d i j x.0 y.0 x.1 y.1 (same_meant x.0.ending y.0.ending s.0 t.0 s.1 t.1 same)
+    d i j x.0 y.0 x.1 y.1
+    (record { ending = sym (same_meant x.0.ending y.0.ending s.0 t.0 s.1 t.1 same); shown = same_shown asks a b x.0 y.0 x.2 y.2 shown })
 
 -- ---- a report
 
@@ -127,6 +145,7 @@ module _ (text : List ℕ) (unit : ProgramUnit) (is : IsUnit text unit) (input :
         run = record { unit = unit; unit_is = is; run = s.selects };
         ending_is = s.ends ∙ sym (meant_is f.ending r.end r.is);
         turns_is = s.turns;
+        shown_is = s.shown;
         found = is_found f.ending r.end r.is r.uncut good;
         few = r.few;
         small = r.small;
@@ -144,6 +163,26 @@ module _ (text : List ℕ) (unit : ProgramUnit) (is : IsUnit text unit) (input :
           ((moves : ℕ) → IsUpTo v moves → AreAllBelow moves unit (offline input) (endings_of fs)) → Says v text input (endings_of fs)
       of verdict.All all below = record { unit = unit; unit_is = is; all = all refl }
       of (verdict.Full moves) all below = up_to moves (below moves refl)
+      of (verdict.Many moves) all below = up_to moves (below moves refl)
+      of (verdict.Cut moves) all below = up_to moves (below moves refl)
+      of (verdict.Unrecorded moves) all below = up_to moves (below moves refl)
+      of (verdict.NoMemory moves) all below = up_to moves (below moves refl)
+
+  says_shown : (v : Verdict) (fs : List Found) → AreEndings fs → (v ≡ verdict.All → AreAllShown unit (offline input) (shown_endings_of fs)) →
+      ((moves : ℕ) → IsUpTo v moves → AreAllShownBelow moves unit (offline input) (shown_endings_of fs)) →
+      SaysShown v text input (shown_endings_in (map reached_of fs))
+  says_shown v fs told all below = subst (λ es. SaysShown v text input es) (same_shown_endings fs told) (of v all below)
+    where
+      up_to : (moves : ℕ) → AreAllShownBelow moves unit (offline input) (shown_endings_of fs) →
+          SaysShown (verdict.Full moves) text input (shown_endings_of fs)
+      up_to moves b = record { unit = unit; unit_is = is; below = b }
+
+      of : (v : Verdict) → (v ≡ verdict.All → AreAllShown unit (offline input) (shown_endings_of fs)) →
+          ((moves : ℕ) → IsUpTo v moves → AreAllShownBelow moves unit (offline input) (shown_endings_of fs)) →
+          SaysShown v text input (shown_endings_of fs)
+      of verdict.All all below = record { unit = unit; unit_is = is; all = all refl }
+      of (verdict.Full moves) all below = up_to moves (below moves refl)
+      of (verdict.Many moves) all below = up_to moves (below moves refl)
       of (verdict.Cut moves) all below = up_to moves (below moves refl)
       of (verdict.Unrecorded moves) all below = up_to moves (below moves refl)
       of (verdict.NoMemory moves) all below = up_to moves (below moves refl)
@@ -152,6 +191,7 @@ module _ (text : List ℕ) (unit : ProgramUnit) (is : IsUnit text unit) (input :
   cause : (turns : ℕ) (v : Verdict) (choices : List ℕ) → HasCause turns unit input v choices → IsCutOnlyBy turns v text input choices
   cause turns verdict.All choices h = tt
   cause turns (verdict.Full moves) choices h = tt
+  cause turns (verdict.Many moves) choices h = tt
   cause turns (verdict.Cut moves) choices h = record {
     outcome = h.outcome;
     run = record { unit = unit; unit_is = is; run = h.selects };
@@ -162,28 +202,49 @@ module _ (text : List ℕ) (unit : ProgramUnit) (is : IsUnit text unit) (input :
   cause turns (verdict.Unrecorded moves) choices h = tt
   cause turns (verdict.NoMemory moves) choices h = tt
 
-  pub exploration : (most turns : ℕ) (v : Verdict) (states : ℕ) (fs : List Found) (cut : List ℕ) → AreRecorded unit input fs → AreNeverBad fs →
-      AllTellWaits (parts_of unit) input fs → code.AreDistinct fs → (v ≡ verdict.All → AreAll unit (offline input) (endings_of fs)) →
-      ((moves : ℕ) → IsUpTo v moves → AreAllBelow moves unit (offline input) (endings_of fs)) →
+  -- what the search says of the endings where output is looked at
+  pub record SearchShows (shown : Option ℕ) (v : Verdict) (fs : List Found) : Type 0 where
+    pub all : is_some shown ≡ true → v ≡ verdict.All → AreAllShown unit (offline input) (shown_endings_of fs)
+    pub below : is_some shown ≡ true → (moves : ℕ) → IsUpTo v moves → AreAllShownBelow moves unit (offline input) (shown_endings_of fs)
+    pub many : (moves : ℕ) → v ≡ verdict.Many moves → (most : ℕ) × (shown ≡ Some most) × (most ≤ length fs)
+    pub few : (most : ℕ) → shown ≡ Some most → length fs ≤ most
+
+  pub exploration : (most turns : ℕ) (shown : Option ℕ) (v : Verdict) (states : ℕ) (fs : List Found) (cut : List ℕ) → AreRecorded unit input fs →
+      AreNeverBad fs → AllTellWaits (parts_of unit) input fs → search.AreDistinct (is_some shown) fs →
+      (v ≡ verdict.All → AreAll unit (offline input) (endings_of fs)) →
+      ((moves : ℕ) → IsUpTo v moves → AreAllBelow moves unit (offline input) (endings_of fs)) → SearchShows shown v fs →
       ((moves : ℕ) → v ≡ verdict.Full moves → most < states) → states ≤ suc most → HasCause turns unit input v cut →
-      IsExplorationOf text input most turns (record { endings = map reached_of fs; verdict = v; states = states; cut = cut })
-  exploration most turns v states fs cut recorded good waits once all below full bounded why =
+      IsExplorationOf text input most turns shown (record { endings = map reached_of fs; verdict = v; states = states; cut = cut })
+  exploration most turns shown v states fs cut recorded good waits once all below shows full bounded why =
       let told : AreEndings fs = λ f c. let r = recorded f c in (r.end, r.is) in
       record {
         reached = each_reached (IsReachedBy text input) fs (λ f c. reached f (recorded f c) (λ at e. good f at c e) (waits f c));
-        distinct = distinct fs told once;
+        distinct = distinct (is_some shown) fs told once;
         says = says v fs told all below;
+        says_shown = λ asks. says_shown v fs told (shows.all asks) (shows.below asks);
         full = only v full;
         bounded = bounded;
+        many = only_many v shows.many;
+        few = λ n e. omega (arith, shows.few n e, length-map fs reached_of);
         cut = cause turns v cut why;
       }
     where
       only : (v : Verdict) → ((moves : ℕ) → v ≡ verdict.Full moves → most < states) → IsFullOnlyAt most v states
       only (verdict.Full moves) h = h moves refl
       only verdict.All h = tt
+      only (verdict.Many moves) h = tt
       only (verdict.Cut moves) h = tt
       only (verdict.Unrecorded moves) h = tt
       only (verdict.NoMemory moves) h = tt
+
+      only_many : (v : Verdict) → ((moves : ℕ) → v ≡ verdict.Many moves → (n : ℕ) × (shown ≡ Some n) × (n ≤ length fs)) →
+          IsManyOnlyAt shown v (length (map reached_of fs))
+      only_many (verdict.Many moves) h = let m = h moves refl in (m.0, m.1, omega (arith, m.2, length-map fs reached_of))
+      only_many verdict.All h = tt
+      only_many (verdict.Full moves) h = tt
+      only_many (verdict.Cut moves) h = tt
+      only_many (verdict.Unrecorded moves) h = tt
+      only_many (verdict.NoMemory moves) h = tt
 
 -- ---- code
 

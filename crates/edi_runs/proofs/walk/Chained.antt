@@ -3,6 +3,7 @@
 use Rattle.std.proofs.Common.{◌≡◌, ℕ, zero, suc, List, [], ◌∷◌, ◌++◌, length, Option, Some, None, refl, sym, subst, ap, ◌∙◌, inl, inr, arith}
 use Rattle.std.specs.Prelude.{Contains, ⊤}
 use Rattle.std.proofs.lemmas.List.Elements.{Contains-append_right}
+use Rattle.edi_calls.specs.Asked.{IsFollowed}
 use Rattle.edi_calls.specs.Calls.{answered, call}
 use Rattle.edi_calls.specs.Choice.{Choices}
 use Rattle.edi_calls.specs.Laws.{IsSameOutside}
@@ -175,6 +176,19 @@ newest_among first (s ∷ past) = (0, omega arith, refl)
 older_among : (first : State) (later past : List State) (s : State) → Contains (moments_of first past) s → Contains (moments_of first (later ++ past)) s
 older_among first [] past s h = h
 older_among first (x ∷ later) past s h = Contains-append_right (x ∷ []) (moments_of first (later ++ past)) s (older_among first later past s h)
+
+-- the states before and after a call are among the moments
+pub followed_among : (system : State) (past : List State) (one next : State) → IsFollowed system past one next
+    → Contains (moments_of system past) one × Contains (moments_of system past) next
+followed_among system past one next f = (
+  at one (subst (λ s. Contains (moments_of system (f.later ++ next ∷ f.earlier)) s) f.last
+      (older_among system f.later (next ∷ f.earlier) (newest system f.earlier)
+      (Contains-append_right (next ∷ []) (moments_of system f.earlier) (newest system f.earlier) (newest_among system f.earlier)))),
+  at next (older_among system f.later (next ∷ f.earlier) next (newest_among system (next ∷ f.earlier))),
+)
+  where
+    at : (s : State) → Contains (moments_of system (f.later ++ next ∷ f.earlier)) s → Contains (moments_of system past) s
+    at s h = subst (λ p. Contains (moments_of system p) s) (sym f.is) h
 
 -- the system is, but for its open files, in a state of this past
 pub record IsAmong (system : State) (past : List State) (now : State) : Type 0 where

@@ -1,12 +1,15 @@
 -- A walk on a system: which object has failed, and what is told afterwards.
-use Rattle.std.proofs.Common.{◌≡◌, ℕ, true, false, List, Option, None, refl, sym, subst}
+use Rattle.std.proofs.Common.{◌≡◌, ℕ, true, false, List, Option, Some, None, refl, sym, subst}
 use Rattle.std.specs.Prelude.{IsSome, ◌↔◌}
 use Rattle.edi_calls.specs.declared.ends.Outside.{Outside}
+use Rattle.edi_calls.specs.State.{State}
 use Rattle.edi_system.specs.AsCalls.{HasFailed}
 use Rattle.edi_system.specs.Ends.{Blames}
 use Rattle.edi_system.specs.State.{failed_in}
 use Rattle.edi_system.specs.declared.system.System.{System}
-use Rattle.edi_walk.specs.Ends.{WalkBlames}
+use Rattle.edi_trace.specs.Drawn.{Drawn}
+use Rattle.edi_unit.specs.Tree.{ProgramUnit}
+use Rattle.edi_walk.specs.Ends.{WalkBlames, WalkFaultsBy}
 use Rattle.edi_walk.specs.declared.walking.WalkEnd.{WalkEnd}
 use Rattle.edi_walk.specs.declared.walking.WalkEnd.TheVariants as end
 use Rattle.edi_runs.specs.walk.Leaves.{is_fault_end}
@@ -30,3 +33,14 @@ module _ {D S T P : Type 0} (contents : D → Option (List (List ℕ))) (count :
   blamed (end.Failed cause line) blame = subst (λ o. Blames false o old new) (sym blame.is) tt
   blamed end.Turns blame = subst (λ o. Blames false o old new) (sym blame.is) tt
   blamed end.NoMemory blame = subst (λ o. Blames false o old new) (sym blame.is) tt
+
+-- what has failed, told in other words
+pub failed_so : (F G : Option Outside → Type 0) (unit : ProgramUnit) (system : State) (bound : ℕ) (old : Drawn) (e : WalkEnd) (now : State) (new : Drawn)
+    → ((o : Option Outside) → F o → G o) → WalkFaultsBy F unit system bound old e now new → WalkFaultsBy G unit system bound old e now new
+failed_so F G unit system bound old end.Fault now new so h =
+    record { fails = h.fails; outside = h.outside; failed_is = so (Some h.outside) h.failed_is; asks = h.asks }
+failed_so F G unit system bound old end.Done now new so h = tt
+failed_so F G unit system bound old (end.Halted line) now new so h = tt
+failed_so F G unit system bound old (end.Failed cause line) now new so h = tt
+failed_so F G unit system bound old end.Turns now new so h = tt
+failed_so F G unit system bound old end.NoMemory now new so h = tt

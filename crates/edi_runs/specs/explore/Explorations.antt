@@ -1,6 +1,6 @@
 -- Definition. THE EXPLORATION OF A TEXT: the endings that choices bring about, and whether these are all. Said of the executions of the text
 -- on a system with an input, without disk and files.
-use Rattle.std.specs.Prelude.{◌≡◌, ℕ, suc, ◌<◌, ◌≤◌, List, [], ◌∷◌, length, slice_get, Contains, Some, ⊤}
+use Rattle.std.specs.Prelude.{◌≡◌, ℕ, suc, ◌<◌, ◌≤◌, Bool, true, false, List, [], ◌∷◌, length, slice_get, Contains, Option, Some, is_some, ⊤}
 use Rattle.edi_calls.specs.Choice.{listed}
 use Rattle.edi_calls.specs.Outcome as outcome
 use Rattle.edi_calls.specs.Outcome.{Ending, Outcome}
@@ -8,7 +8,7 @@ use Rattle.edi_unit.specs.Tree.{ProgramUnit}
 use Rattle.edi_texts.specs.Run.{IsRunOf}
 use Rattle.edi_texts.specs.Texts.{IsUnit}
 use Rattle.edi_scheme.specs.Laws.{parts_of}
-use Rattle.edi_explored.specs.Reached.{AreAll, AreAllBelow}
+use Rattle.edi_explored.specs.Reached.{AreAll, AreAllBelow, AreAllShown, AreAllShownBelow}
 use Rattle.edi_waits.specs.Waits.{StandsSo, Waiting}
 use Rattle.edi_explore.specs.declared.ends.Verdict.{Verdict}
 use Rattle.edi_explore.specs.declared.ends.Verdict.TheVariants as verdict
@@ -17,11 +17,12 @@ pub use Rattle.edi_explore.specs.Choices.{AreChoices, most_choices, most_turns, 
 
 -- ---- what is found
 
--- an ending, with choices that bring it about and the turns that this takes; and who waits where, if it is a standstill
+-- an ending, with choices that bring it about, the turns that this takes, and all that is shown by then; and who waits where, if it is a standstill
 pub record Reached : Type 0 where
   pub ending : Ending
   pub choices : List ℕ
   pub turns : ℕ
+  pub shown : List ℕ
   pub waits : List Waiting
 
 -- the endings in the order in which they were found, whether these are all, how many states were met, and choices that say why a stint was cut, if
@@ -35,6 +36,11 @@ pub record Findings : Type 0 where
 abbrev pub endings_in : List Reached → List Ending
 endings_in [] = []
 endings_in (one ∷ found) = one.ending ∷ endings_in found
+
+-- each with all that is shown
+abbrev pub shown_endings_in : List Reached → List (Ending × List ℕ)
+shown_endings_in [] = []
+shown_endings_in (one ∷ found) = (one.ending, one.shown) ∷ shown_endings_in found
 
 -- An ending that is found: no bound has cut the execution, and no instruction was without a meaning.
 abbrev pub IsFound : Ending → Type 0
@@ -56,21 +62,28 @@ abbrev pub AreTold : Ending → (text input choices : List ℕ) → List Waiting
 AreTold outcome.standstill text input choices waits = StandsStill text input choices waits
 AreTold ending text input choices waits = waits ≡ []
 
--- THESE CHOICES BRING IT ABOUT: the execution of the text that they select ends so, after so many turns. After the end of the list each choice
--- is 0.
+-- THESE CHOICES BRING IT ABOUT: the execution of the text that they select ends so, after so many turns, with this shown. After the end of the
+-- list each choice is 0.
 pub record IsReachedBy (text input : List ℕ) (one : Reached) : Type 0 where
   pub outcome : Outcome
   pub run : IsRunOf text (offline input) most_turns (listed one.choices) outcome
   pub ending_is : outcome.ending ≡ one.ending
   pub turns_is : outcome.turns ≡ one.turns
+  pub shown_is : outcome.shown ≡ one.shown
   pub found : IsFound one.ending
   pub few : length one.choices ≤ most_choices
   pub small : AreChoices one.choices
   pub told : AreTold one.ending text input one.choices one.waits
 
--- no ending is found twice
-abbrev pub AreDistinct : List Reached → Type 0
-AreDistinct found = (i j : ℕ) (a b : Reached) → slice_get found i ≡ Some a → slice_get found j ≡ Some b → a.ending ≡ b.ending → i ≡ j
+-- the same is shown, where output is looked at
+abbrev pub ShowSame : (asks : Bool) → (one other : Reached) → Type 0
+ShowSame true one other = one.shown ≡ other.shown
+ShowSame false one other = ⊤
+
+-- No ending is found twice. Where output is looked at, one with other output is another ending.
+abbrev pub AreDistinct : (asks : Bool) → List Reached → Type 0
+AreDistinct asks found =
+    (i j : ℕ) (a b : Reached) → slice_get found i ≡ Some a → slice_get found j ≡ Some b → a.ending ≡ b.ending → ShowSame asks a b → i ≡ j
 
 -- ---- whether they are all
 
@@ -87,18 +100,45 @@ pub record AreAllOfBelow (moves : ℕ) (text input : List ℕ) (endings : List E
   pub unit_is : IsUnit text unit
   pub below : AreAllBelow moves unit (offline input) endings
 
+-- These are all endings, each with all that is shown by then: no execution ends otherwise or shows anything else.
+pub record AreAllShownOf (text input : List ℕ) (endings : List (Ending × List ℕ)) : Type 0 where
+  pub unit : ProgramUnit
+  pub unit_is : IsUnit text unit
+  pub all : AreAllShown unit (offline input) endings
+
+-- so of the executions that have fewer moves
+pub record AreAllShownOfBelow (moves : ℕ) (text input : List ℕ) (endings : List (Ending × List ℕ)) : Type 0 where
+  pub unit : ProgramUnit
+  pub unit_is : IsUnit text unit
+  pub below : AreAllShownBelow moves unit (offline input) endings
+
 -- what a verdict says
 abbrev pub Says : Verdict → (text input : List ℕ) → List Ending → Type 0
 Says verdict.All text input endings = AreAllOf text input endings
 Says (verdict.Full moves) text input endings = AreAllOfBelow moves text input endings
+Says (verdict.Many moves) text input endings = AreAllOfBelow moves text input endings
 Says (verdict.Cut moves) text input endings = AreAllOfBelow moves text input endings
 Says (verdict.Unrecorded moves) text input endings = AreAllOfBelow moves text input endings
 Says (verdict.NoMemory moves) text input endings = AreAllOfBelow moves text input endings
+
+-- what it says where output is looked at
+abbrev pub SaysShown : Verdict → (text input : List ℕ) → List (Ending × List ℕ) → Type 0
+SaysShown verdict.All text input endings = AreAllShownOf text input endings
+SaysShown (verdict.Full moves) text input endings = AreAllShownOfBelow moves text input endings
+SaysShown (verdict.Many moves) text input endings = AreAllShownOfBelow moves text input endings
+SaysShown (verdict.Cut moves) text input endings = AreAllShownOfBelow moves text input endings
+SaysShown (verdict.Unrecorded moves) text input endings = AreAllShownOfBelow moves text input endings
+SaysShown (verdict.NoMemory moves) text input endings = AreAllShownOfBelow moves text input endings
 
 -- `Full` is answered only where one state more was met than may be kept beside the first.
 abbrev pub IsFullOnlyAt : (most : ℕ) → Verdict → (states : ℕ) → Type 0
 IsFullOnlyAt most (verdict.Full moves) states = most < states
 IsFullOnlyAt most _ states = ⊤
+
+-- `Many` is answered only where output is looked at, and as many endings were found as may be told.
+abbrev pub IsManyOnlyAt : (shown : Option ℕ) → Verdict → (found : ℕ) → Type 0
+IsManyOnlyAt shown (verdict.Many moves) found = (most : ℕ) × (shown ≡ Some most) × (most ≤ found)
+IsManyOnlyAt shown _ found = ⊤
 
 -- THE EXECUTION IS CUT: that of the text which these choices select has more than so many turns.
 pub record IsCutBy (turns : ℕ) (text input choices : List ℕ) : Type 0 where
@@ -113,11 +153,15 @@ abbrev pub IsCutOnlyBy : (turns : ℕ) → Verdict → (text input choices : Lis
 IsCutOnlyBy turns (verdict.Cut moves) text input choices = IsCutBy turns text input choices
 IsCutOnlyBy turns _ text input choices = ⊤
 
--- THE EXPLORATION: what was found of a text with an input, where so many states may be kept, and a process may take so many turns at once
-pub record IsExplorationOf (text input : List ℕ) (most_states most_stint : ℕ) (findings : Findings) : Type 0 where
+-- THE EXPLORATION: what was found of a text with an input, where so many states may be kept, and a process may take so many turns at once. With
+-- a number, endings with other output are others, and so many are told at most; with none, output is not looked at.
+pub record IsExplorationOf (text input : List ℕ) (most_states most_stint : ℕ) (shown : Option ℕ) (findings : Findings) : Type 0 where
   pub reached : (one : Reached) → Contains findings.endings one → IsReachedBy text input one
-  pub distinct : AreDistinct findings.endings
+  pub distinct : AreDistinct (is_some shown) findings.endings
   pub says : Says findings.verdict text input (endings_in findings.endings)
+  pub says_shown : is_some shown ≡ true → SaysShown findings.verdict text input (shown_endings_in findings.endings)
   pub full : IsFullOnlyAt most_states findings.verdict findings.states
   pub bounded : findings.states ≤ suc most_states
+  pub many : IsManyOnlyAt shown findings.verdict (length findings.endings)
+  pub few : (most : ℕ) → shown ≡ Some most → length findings.endings ≤ most
   pub cut : IsCutOnlyBy most_stint findings.verdict text input findings.cut

@@ -1,10 +1,10 @@
--- Definition. WHAT `explore` SHOWS: a line for each ending that was found, and a line that says whether these are all. And the status by which
--- they are told.
+-- Definition. WHAT `explore` SHOWS: a line for each ending that was found, with what the program shows by then where that is asked for; and a line
+-- that says whether these are all. And the status by which they are told.
 use Rattle.std.specs.Prelude.{ℕ, zero, suc, ◌+◌, ◌==◌, nat_lt, nat_le, Bool, true, false, if◌then◌else◌, List, [], ◌∷◌, ◌++◌, length, take, Option, Some, None, codes}
 use Rattle.std.specs.Fmt.{decimal}
 use Rattle.edi_calls.specs.Outcome as outcome
 use Rattle.edi_calls.specs.Outcome.{Ending}
-use Rattle.edi_timeline.specs.Text.{ending_text, process_text}
+use Rattle.edi_timeline.specs.Text.{characters_text, ending_text, process_text}
 use Rattle.edi_waits.specs.Waits.{Waiting}
 use Rattle.edi_explore.specs.declared.ends.Verdict.{Verdict}
 use Rattle.edi_explore.specs.declared.ends.Verdict.TheVariants as verdict
@@ -65,6 +65,24 @@ abbrev pub wait_lines : List Waiting → List ℕ
 wait_lines [] = []
 wait_lines (w ∷ waits) = wait_line w ++ wait_lines waits
 
+-- so many characters of an output are told at most
+abbrev pub most_told : ℕ
+most_told = 400
+
+-- `1\n"`; of more than 400 characters the first 400, and that there are more
+abbrev pub output_text : (shown : List ℕ) → List ℕ
+output_text shown =
+    if nat_lt most_told (length shown) then characters_text (take most_told shown) ++ codes "\"..\n" else characters_text shown ++ codes "\"\n"
+
+-- `  shown "1\n"`, or that nothing is shown
+abbrev pub output_line : (shown : List ℕ) → List ℕ
+output_line shown = if length shown == 0 then codes "  shows nothing\n" else codes "  shown \"" ++ output_text shown
+
+-- where it is asked for
+abbrev pub output_lines : (asks : Bool) → (shown : List ℕ) → List ℕ
+output_lines true shown = output_line shown
+output_lines false shown = []
+
 -- ` in NAME.3`, if the choices of so many endings are kept under this name
 abbrev pub kept_text : (name : List ℕ) → (most number : ℕ) → List ℕ
 kept_text name most number = if nat_le number most then codes " in " ++ record_name name number else []
@@ -73,17 +91,21 @@ kept_text name most number = if nat_le number most then codes " in " ++ record_n
 abbrev pub head_text : Reached → List ℕ
 head_text one = ending_text one.ending ++ (codes " after " ++ (turns_text one.turns ++ codes ": "))
 
--- `choices 4 0 in NAME.3`, and who waits where
-abbrev pub tail_text : (name : List ℕ) → (most number : ℕ) → Reached → List ℕ
-tail_text name most number one = choices_text one.choices ++ (kept_text name most number ++ (codes "\n" ++ wait_lines one.waits))
+-- what is shown, and who waits where
+abbrev pub under_text : (asks : Bool) → Reached → List ℕ
+under_text asks one = output_lines asks one.shown ++ wait_lines one.waits
 
-abbrev pub ending_line : (name : List ℕ) → (most number : ℕ) → Reached → List ℕ
-ending_line name most number one = head_text one ++ tail_text name most number one
+-- `choices 4 0 in NAME.3`, and the lines under it
+abbrev pub tail_text : (asks : Bool) → (name : List ℕ) → (most number : ℕ) → Reached → List ℕ
+tail_text asks name most number one = choices_text one.choices ++ (kept_text name most number ++ (codes "\n" ++ under_text asks one))
+
+abbrev pub ending_line : (asks : Bool) → (name : List ℕ) → (most number : ℕ) → Reached → List ℕ
+ending_line asks name most number one = head_text one ++ tail_text asks name most number one
 
 -- from this number on
-abbrev pub ending_lines : (name : List ℕ) → (most number : ℕ) → List Reached → List ℕ
-ending_lines name most number [] = []
-ending_lines name most number (one ∷ found) = ending_line name most number one ++ ending_lines name most (number + 1) found
+abbrev pub ending_lines : (asks : Bool) → (name : List ℕ) → (most number : ℕ) → List Reached → List ℕ
+ending_lines asks name most number [] = []
+ending_lines asks name most number (one ∷ found) = ending_line asks name most number one ++ ending_lines asks name most (number + 1) found
 
 -- Where all executions were followed. That one ends so does not say that each one ends.
 abbrev pub all_text : (found : ℕ) → List ℕ
@@ -97,6 +119,7 @@ below_text n = if n == 0 then [] else codes "; every execution of fewer than " +
 abbrev pub verdict_text : Verdict → (found : ℕ) → (cut : List ℕ) → List ℕ
 verdict_text verdict.All found cut = all_text found
 verdict_text (verdict.Full moves) found cut = codes "perhaps not all: --states allows no more" ++ below_text moves
+verdict_text (verdict.Many moves) found cut = codes "perhaps not all: --shown allows no more" ++ below_text moves
 verdict_text (verdict.Cut moves) found cut =
     codes "perhaps not all: a process goes on for more turns than --turns allows, with " ++ (choices_text cut ++ below_text moves)
 verdict_text (verdict.Unrecorded moves) found cut = codes "perhaps not all: an ending has no record" ++ below_text moves
@@ -106,10 +129,10 @@ verdict_text (verdict.NoMemory moves) found cut = codes "perhaps not all: memory
 abbrev pub verdict_line : Findings → List ℕ
 verdict_line f = verdict_text f.verdict (length f.endings) f.cut ++ (codes "; " ++ (states_text f.states ++ codes "\n"))
 
--- THE LINES, where choices are kept under this name or not
-abbrev pub report_text : Option (List ℕ) → Findings → List ℕ
-report_text None f = ending_lines [] 0 1 f.endings ++ verdict_line f
-report_text (Some name) f = ending_lines name most_records 1 f.endings ++ verdict_line f
+-- THE LINES, where output is asked for or not, and choices are kept under this name or not
+abbrev pub report_text : (asks : Bool) → Option (List ℕ) → Findings → List ℕ
+report_text asks None f = ending_lines asks [] 0 1 f.endings ++ verdict_line f
+report_text asks (Some name) f = ending_lines asks name most_records 1 f.endings ++ verdict_line f
 
 -- ---- the status
 

@@ -13,7 +13,7 @@ use Rattle.edi_runs.specs.explore.Explorations.{Findings, Reached}
 use Rattle.edi_runs.specs.explore.Input.{most_input}
 
 abbrev pub reached_of : code_found.Found → Reached
-reached_of f = record { ending = meant f.ending; choices = f.choices.items; turns = f.turns; waits = all_of f.waits }
+reached_of f = record { ending = meant f.ending; choices = f.choices.items; turns = f.turns; shown = f.shown.items; waits = all_of f.waits }
 
 abbrev pub findings_of : code_report.Report → Findings
 findings_of r = record { endings = map reached_of r.found.items; verdict = r.verdict; states = r.states; cut = r.cut.items }

@@ -1,11 +1,16 @@
 -- Words of contracts. What a walk leaves of the system, and of the four objects that a program sees.
-use Rattle.std.specs.Prelude.{◌≡◌, ℕ, Bool, true, false, List, drop, length, Option}
+use Rattle.std.specs.Prelude.{◌≡◌, ◌⊎◌, ℕ, Bool, true, false, List, drop, length, Option, Some, None, ⊤}
 use Rattle.edi_told.specs.Told.{WhereTold}
-use Rattle.edi_calls.specs.State.{State}
+use Rattle.edi_calls.specs.declared.ends.Outside.{Outside}
+use Rattle.edi_calls.specs.Asked.{Asks, IsFollowed}
+use Rattle.edi_calls.specs.Names.{Name}
+use Rattle.edi_calls.specs.Outcome.{Ending}
+use Rattle.edi_calls.specs.State.{State, Traced}
 use Rattle.edi_system.specs.Parts.{due_after, ToldStays}
 use Rattle.edi_trace.specs.Drawn.{Drawn}
 use Rattle.edi_unit.specs.Tree.{ProgramUnit}
 use Rattle.edi_walk.specs.Ends.{WalksTo}
+use Rattle.edi_walk.specs.Walk.{WalkEnds}
 use Rattle.edi_walk.specs.declared.walking.WalkEnd.{WalkEnd}
 use Rattle.edi_walk.specs.declared.walking.WalkEnd.TheVariants as end
 use Rattle.edi_execute.specs.Objects.{Contents, Objects, Show, contents_of, system_on}
@@ -22,7 +27,28 @@ pub record HasWalked (unit : ProgramUnit) (bound : ℕ) (old : Drawn) (e : WalkE
   pub walks : WalksTo unit (system_on before) bound old e state new
   pub shows : Show state after
 
--- What a walk leaves: where the four objects tell what they hold, what the walk of the unit leaves; what is told in the end was told at the
+-- The walk was broken off in a call that uses this object: the objects have what the state before that call has, or the one that
+-- it was to leave.
+pub record BrokeAtCall (outside : Outside) (unit : ProgramUnit) (bound : ℕ) (old : Drawn) (before after : Contents) : Type 0 where
+  pub ending : Ending
+  pub last : Traced
+  pub turns : ℕ
+  pub drawn : ℕ
+  pub order : List Name
+  pub is : WalkEnds unit (system_on before) bound old.source old.drawn ending last turns drawn order
+  pub one : State
+  pub next : State
+  pub followed : IsFollowed (system_on before) last.past one next
+  pub asks : Asks outside one next
+  pub shows : Show one after ⊎ Show next after
+
+-- so it was where an object has failed
+abbrev pub BrokeAtCallOf : Option Outside → ProgramUnit → (bound : ℕ) → (old : Drawn) → (before after : Contents) → Type 0
+BrokeAtCallOf None unit bound old before after = ⊤
+BrokeAtCallOf (Some outside) unit bound old before after = BrokeAtCall outside unit bound old before after
+
+-- What a walk leaves: where the four objects tell what they hold, what the walk of the unit leaves, and where an object has failed, what a call leaves
+-- that uses it; what is told in the end was told at the
 -- start, the input only loses its first bytes, what the terminal and the printer have taken only grows, and the drive is a valid image; and whether
 -- a line is due is told by the bytes that the terminal has taken in between.
 pub record WalkLeaves {D S T P : Type 0} (contents : D → Option (List (List ℕ))) (left : S → Option (List ℕ)) (shown : T → Option (List ℕ))
@@ -30,6 +56,8 @@ pub record WalkLeaves {D S T P : Type 0} (contents : D → Option (List (List �
     (before after : Objects D S T P) : Type 0 where
   pub walks : WhereTold (contents_of contents left shown printed before) (contents_of contents left shown printed after)
       (HasWalked unit bound old walked.end new)
+  pub broke : WhereTold (contents_of contents left shown printed before) (contents_of contents left shown printed after)
+      (BrokeAtCallOf walked.failed unit bound old)
   pub told : ToldStays (contents before.drive) (contents after.drive) (left before.input) (left after.input) (shown before.terminal) (shown after.terminal)
       (printed before.printer) (printed after.printer)
   pub due : WhereTold (shown before.terminal) (shown after.terminal) (λ taken now. walked.due ≡ due_after false (drop (length taken) now))

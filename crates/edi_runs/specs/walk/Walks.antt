@@ -1,5 +1,6 @@
 -- Definition. THE WALK OF A TEXT: that through its program, on a system, from the state with no file open.
 use Rattle.std.specs.Prelude.{◌≡◌, ℕ, List, Contains, ⊤}
+use Rattle.edi_calls.specs.Asked.{IsFollowed}
 use Rattle.edi_calls.specs.Choice.{Choices}
 use Rattle.edi_calls.specs.Names.{Name}
 use Rattle.edi_calls.specs.Outcome as outcome
@@ -31,6 +32,18 @@ pub record IsMomentOfWalk (text : List ℕ) (system : State) (bound : ℕ) (choi
   pub order : List Name
   pub walk : WalkEnds unit (fresh system) bound choices 0 ending end turns drawn order
   pub moment_is : Contains (moments_of (fresh system) end.past) moment
+
+-- one of its system calls leads from the one state to the other
+pub record IsCallOfWalk (text : List ℕ) (system : State) (bound : ℕ) (choices : Choices) (one next : State) : Type 0 where
+  pub unit : ProgramUnit
+  pub unit_is : IsUnit text unit
+  pub ending : Ending
+  pub end : Traced
+  pub turns : ℕ
+  pub drawn : ℕ
+  pub order : List Name
+  pub walk : WalkEnds unit (fresh system) bound choices 0 ending end turns drawn order
+  pub followed : IsFollowed (fresh system) end.past one next
 
 -- A walk ends so. It sees no standstill: where nothing can happen any more, it goes on until its turns are taken.
 abbrev pub IsWalkEnding : Ending → Type 0

@@ -4,6 +4,7 @@ ghost use Rattle.std.specs.Prelude.{◌≡◌, ◌++◌, OnOk, IfOk, map, option
 ghost use Rattle.edi_runs.specs.explore.Lines as spec;
 ghost use Rattle.edi_runs.specs.explore.Told.{findings_of, reached_of};
 
+use crate::explore::output::put_output;
 use crate::explore::records::MOST_RECORDS;
 use crate::explore::waiting::put_waits;
 use crate::explore::words::{put_choices, put_moves, put_states, put_turns};
@@ -35,50 +36,62 @@ fn put_head(out: &mut Vec<u8>, found: &Found) -> Result<(), AllocError>
     Ok(())
 }
 
-// Puts the choices of the ending with this number, and who waits where.
+// Puts what is shown by an ending, where that is asked for, and who waits where.
+fn put_under(out: &mut Vec<u8>, asks: bool, found: &Found) -> Result<(), AllocError>
+    ensures exact { OnOk result (out.new.items ≡ out.old.items ++ spec.under_text asks (reached_of found.now)) }
+{
+    put_output(out, asks, &found.shown)?;
+    put_waits(out, &found.waits)?;
+    Ok(())
+}
+
+// Puts the choices of the ending with this number, and the lines under it.
 fn put_tail(
     out: &mut Vec<u8>,
+    asks: bool,
     name: &str,
     most: usize,
     number: usize,
     found: &Found,
 ) -> Result<(), AllocError>
-    ensures exact { OnOk result (out.new.items ≡ out.old.items ++ spec.tail_text name.now most number (reached_of found.now)) }
+    ensures exact { OnOk result (out.new.items ≡ out.old.items ++ spec.tail_text asks name.now most number (reached_of found.now)) }
 {
     put_choices(out, &found.choices)?;
     put_kept(out, name, most, number)?;
     out.extend_from_slice(b"\n")?;
-    put_waits(out, &found.waits)?;
+    put_under(out, asks, found)?;
     Ok(())
 }
 
 // Puts the lines of the ending with this number.
 fn put_found(
     out: &mut Vec<u8>,
+    asks: bool,
     name: &str,
     most: usize,
     number: usize,
     found: &Found,
 ) -> Result<(), AllocError>
-    ensures exact { OnOk result (out.new.items ≡ out.old.items ++ spec.ending_line name.now most number (reached_of found.now)) }
+    ensures exact { OnOk result (out.new.items ≡ out.old.items ++ spec.ending_line asks name.now most number (reached_of found.now)) }
 {
     put_head(out, found)?;
-    put_tail(out, name, most, number, found)?;
+    put_tail(out, asks, name, most, number, found)?;
     Ok(())
 }
 
 // Puts the lines of endings, of which the first has number 1.
 fn put_endings(
     out: &mut Vec<u8>,
+    asks: bool,
     name: &str,
     most: usize,
     endings: &[Found],
 ) -> Result<(), AllocError>
-    ensures exact { OnOk result (out.new.items ≡ out.old.items ++ spec.ending_lines name.now most 1 (map reached_of endings.now)) }
+    ensures exact { OnOk result (out.new.items ≡ out.old.items ++ spec.ending_lines asks name.now most 1 (map reached_of endings.now)) }
 {
     let mut number: usize = 1;
     for found in endings {
-        put_found(out, name, most, number, found)?;
+        put_found(out, asks, name, most, number, found)?;
         number += 1;
     }
     Ok(())
@@ -145,6 +158,7 @@ fn put_verdict(
         Verdict::Full(moves) => {
             put_below(out, b"perhaps not all: --states allows no more", moves)
         }
+        Verdict::Many(moves) => put_below(out, b"perhaps not all: --shown allows no more", moves),
         Verdict::Cut(moves) => put_cut(out, cut, moves),
         Verdict::Unrecorded(moves) => {
             put_below(out, b"perhaps not all: an ending has no record", moves)
@@ -165,30 +179,38 @@ fn put_end(out: &mut Vec<u8>, report: &Report) -> Result<(), AllocError>
 }
 
 // The lines of a report, where the choices of the first `most` endings are kept under this name.
-fn text_with(alloc: Global, report: &Report, name: &str, most: usize) -> Result<Vec<u8>, AllocError>
+fn text_with(
+    alloc: Global,
+    report: &Report,
+    asks: bool,
+    name: &str,
+    most: usize,
+) -> Result<Vec<u8>, AllocError>
     ensures exact { IfOk result (λ text. text.items
-        ≡ spec.ending_lines name.now most 1 (findings_of report.now).endings ++ spec.verdict_line (findings_of report.now)) }
+        ≡ spec.ending_lines asks name.now most 1 (findings_of report.now).endings ++ spec.verdict_line (findings_of report.now)) }
 {
     let mut out = Vec::new(alloc);
-    put_endings(&mut out, name, most, &report.found)?;
+    put_endings(&mut out, asks, name, most, &report.found)?;
     put_end(&mut out, report)?;
     Ok(out)
 }
 
 /// The lines of a report: one for each ending in the order in which they were found, as `line 12 range after 57 turns: choices 4 0`; after that of
 /// a standstill one for each process that waits; and one that says whether there are others, as `no execution ends otherwise; 45 states`. Where
-/// choices are kept under a name, the line of an ending says in which file. The only error is want of memory.
+/// output is asked for, the line after that of an ending tells it, as `  shown "1\n"`. Where choices are kept under a name, the line of an ending
+/// says in which file. The only error is want of memory.
 #[tactic(auto, unfolding(crate::specs::explore::Records::most_records))]
 pub fn report_text(
     alloc: Global,
     report: &Report,
+    asks: bool,
     kept: Option<&str>,
 ) -> Result<Vec<u8>, AllocError>
     ensures exact { IfOk result (λ text. text.items
-        ≡ spec.report_text (option_map (λ name. name.now) kept.entry) (findings_of report.now)) }
+        ≡ spec.report_text asks (option_map (λ name. name.now) kept.entry) (findings_of report.now)) }
 {
     match kept {
-        Some(name) => text_with(alloc, report, name, MOST_RECORDS),
-        None => text_with(alloc, report, "", 0),
+        Some(name) => text_with(alloc, report, asks, name, MOST_RECORDS),
+        None => text_with(alloc, report, asks, "", 0),
     }
 }

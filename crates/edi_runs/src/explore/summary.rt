@@ -69,8 +69,10 @@ pub fn sum_up(report: &Report) -> Summary
     }
     match report.verdict {
         Verdict::All => sum_up_all(report.found.len()),
-        Verdict::Full(_) | Verdict::Cut(_) | Verdict::Unrecorded(_) | Verdict::NoMemory(_) => {
-            Summary::NotAll
-        }
+        Verdict::Full(_)
+        | Verdict::Many(_)
+        | Verdict::Cut(_)
+        | Verdict::Unrecorded(_)
+        | Verdict::NoMemory(_) => Summary::NotAll,
     }
 }

@@ -8,7 +8,7 @@ ghost use Rattle.edi_system.specs.AsCalls.{KeepsDue};
 ghost use Rattle.edi_system.specs.Ends.{Keeps};
 ghost use Rattle.edi_system.specs.Parts.{KeepsTold};
 ghost use Rattle.edi_system.specs.State.{drive_in, failed_in, state_of, IsReady};
-ghost use Rattle.edi_walk.specs.Ends.{WalksTo};
+ghost use Rattle.edi_walk.specs.Ends.{WalkFaultsBy, WalksTo};
 ghost use Rattle.edi_runs.specs.walk.Leaves.{is_fault_end};
 
 use edi_host::{Drive, Sink, Source};
@@ -31,6 +31,11 @@ pub(crate) fn walk_execution<D: Drive, S: Source, T: Sink, P: Sink>(
     ensures exact { WhereTold (state_of D.contents S.left T.taken P.taken system.old)
         (state_of D.contents S.left T.taken P.taken system.new)
         (λ before after. WalksTo (unit_of unit.now) (fresh before) bound choices.old result after choices.new) }
+    // The call in which an object failed is one that uses this object.
+    ensures asked { WhereTold (state_of D.contents S.left T.taken P.taken system.old)
+        (state_of D.contents S.left T.taken P.taken system.new)
+        (λ before after. WalkFaultsBy (λ outside. failed_in system.new ≡ outside) (unit_of unit.now) (fresh before) bound choices.old result after
+        choices.new) }
     // An object has failed exactly where the answer says so, and its count rose.
     ensures failed { IsSome (failed_in system.new) ↔ (result ≡ WalkEnd.Fault) }
     ensures due { KeepsDue T.taken system.old system.new }

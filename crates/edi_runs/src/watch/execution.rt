@@ -1,7 +1,8 @@
 //! A watched run on a system.
 
-ghost use Rattle.std.specs.Prelude.{◌≡◌, ◌≤◌, ◌<◌, ◌+◌, ◌^◌, ◌↔◌, false, IsSome};
+ghost use Rattle.std.specs.Prelude.{◌≡◌, ◌≤◌, ◌<◌, ◌+◌, ◌^◌, ◌↔◌, false, IsSome, Some};
 ghost use Rattle.edi_told.specs.Told.{WhereTold};
+ghost use Rattle.edi_calls.specs.declared.ends.Outside.{Outside};
 ghost use Rattle.edi_calls.specs.State.{fresh};
 ghost use Rattle.edi_static.specs.Programs.{Sound};
 ghost use Rattle.edi_scheme.specs.Laws.{parts_of};
@@ -9,7 +10,7 @@ ghost use Rattle.edi_system.specs.AsCalls.{KeepsDue};
 ghost use Rattle.edi_system.specs.Ends.{Keeps};
 ghost use Rattle.edi_system.specs.Parts.{KeepsTold};
 ghost use Rattle.edi_system.specs.State.{drive_in, failed_in, state_of, IsReady};
-ghost use Rattle.edi_execute.specs.Execution.{is_fault_ending, IsAtMoment};
+ghost use Rattle.edi_execute.specs.Execution.{is_fault_ending, IsAtCall, IsAtMoment};
 ghost use Rattle.edi_debug.specs.Points.{ArePoints, watched_in};
 ghost use Rattle.edi_debug.specs.stops.Underway.{Ended};
 ghost use Rattle.edi_runs.specs.watch.Watchable.{IsWhole, program_in};
@@ -42,6 +43,9 @@ pub(crate) fn watch_execution<D: Drive, S: Source, T: Sink, P: Sink>(
     ensures moment { result ≡ Ending.Fault → choices.old.drawn + bound < 2 ^ 64 → WhereTold (state_of D.contents S.left T.taken P.taken system.old)
         (state_of D.contents S.left T.taken P.taken system.new)
         (λ before after. (whole : IsWhole watched.now) → IsAtMoment (parts_of whole.unit) (fresh before) bound choices.old after) }
+    ensures call { (outside : Outside) → failed_in system.new ≡ Some outside → choices.old.drawn + bound < 2 ^ 64
+        → WhereTold (state_of D.contents S.left T.taken P.taken system.old) (state_of D.contents S.left T.taken P.taken system.new)
+        (λ before after. (whole : IsWhole watched.now) → IsAtCall (parts_of whole.unit) (fresh before) bound choices.old outside after) }
     ensures failed { IsSome (failed_in system.new) ↔ (result ≡ Ending.Fault) }
     ensures ready { is_fault_ending result ≡ false → IsReady D.contents D.count system.new }
     ensures due { KeepsDue T.taken system.old system.new }

@@ -1,15 +1,16 @@
 //! A watched run on four objects.
 
-ghost use Rattle.std.specs.Prelude.{◌≡◌, ◌≤◌, ◌<◌, ◌+◌, ◌^◌, ◌↔◌, ℕ, List, drop, false, length, IfErr, IfOk, IsSome};
+ghost use Rattle.std.specs.Prelude.{◌≡◌, ◌≤◌, ◌<◌, ◌+◌, ◌^◌, ◌↔◌, ℕ, List, drop, false, length, IfErr, IfOk, IsSome, Some};
 ghost use Rattle.edi_told.specs.Faults.{CountRose};
 ghost use Rattle.edi_told.specs.Told.{WhereTold};
+ghost use Rattle.edi_calls.specs.declared.ends.Outside.{Outside};
 ghost use Rattle.edi_static.specs.Programs.{Sound};
 ghost use Rattle.edi_scheme.specs.Laws.{parts_of};
 ghost use Rattle.edi_catalog.specs.Counted.{IsOfCount};
 ghost use Rattle.edi_image.specs.Image.{mount_fault_of};
 ghost use Rattle.edi_image.specs.Finds.{IsFirst};
 ghost use Rattle.edi_system.specs.Parts.{ToldStays, due_after};
-ghost use Rattle.edi_execute.specs.Objects.{FailedIs, NoneFalls, RunLeaves, contents_of, faults_in, objects, system_on};
+ghost use Rattle.edi_execute.specs.Objects.{FailedIs, NoneFalls, RunLeaves, StandsAtCall, contents_of, faults_in, objects, system_on};
 ghost use Rattle.edi_debug.specs.Points.{ArePoints, watched_in};
 ghost use Rattle.edi_debug.specs.stops.Kept.{nothing_kept};
 ghost use Rattle.edi_runs.specs.watch.Logs.{IsLogOf};
@@ -48,6 +49,10 @@ pub fn watch_on<D: Drive, S: Source, T: Sink, P: Sink>(
     ensures leaves { IfOk result (λ ran. (whole : IsWhole watched.now) →
         RunLeaves D.contents S.left T.taken P.taken (parts_of whole.unit) bound choices.old ran kernel.new.store kernel.new.used choices.new
         (objects drive.old input.old terminal.old printer.old) (objects drive.new input.new terminal.new printer.new)) }
+    ensures call { IfOk result (λ ran. (whole : IsWhole watched.now) (outside : Outside) → ran.failed ≡ Some outside → choices.old.drawn + bound < 2 ^ 64
+        → WhereTold (contents_of D.contents S.left T.taken P.taken (objects drive.old input.old terminal.old printer.old))
+        (contents_of D.contents S.left T.taken P.taken (objects drive.new input.new terminal.new printer.new))
+        (StandsAtCall (parts_of whole.unit) bound choices.old outside)) }
     // Where the four objects tell what they hold, no choice was drawn before, the log was empty, and no object has failed, the log is that
     // of each text of this program.
     ensures logs { IfOk result (λ ran. (ran.ending ≡ Ending.Fault → ⊥) → choices.old.drawn ≡ 0 → log.old ≡ nothing_kept → bound < 2 ^ 64

@@ -22,7 +22,7 @@ abbrev Keeps : CallResult → Type 0
 Keeps result = IfAnswered (λ words after. HasImage after) result
 
 -- the disk and the buffer are as before
-same_image : (s t : State) → t.blocks ≡ s.blocks → t.slots ≡ s.slots → t.buffer ≡ s.buffer → HasImage s → HasImage t
+pub same_image : (s t : State) → t.blocks ≡ s.blocks → t.slots ≡ s.slots → t.buffer ≡ s.buffer → HasImage s → HasImage t
 same_image s t blocks slots buffer h = record {
   image = subst (λ n. IsImage n t.slots) (sym blocks) (subst (IsImage s.blocks) (sym slots) h.image);
   short = subst (λ b. IfSome b (λ bytes. length bytes ≤ most_bytes)) (sym buffer) h.short;

@@ -1,7 +1,8 @@
 -- How a command may end, from what its steps come to and from what its effect may be.
-use Rattle.std.proofs.Common.{◌≡◌, ℕ, false, List, [], ◌++◌, Some, refl, sym, inl, inr}
-use Rattle.std.specs.Prelude.{◌⊎◌}
+use Rattle.std.proofs.Common.{◌≡◌, ℕ, true, false, List, [], ◌++◌, Some, refl, sym, inl, inr}
+use Rattle.std.specs.List.{list_all}
 use Rattle.std.proofs.lemmas.List.{append-nil}
+use Rattle.edi_host.specs.Blocks.{is_block}
 use Rattle.edi_host.specs.Contents.{Contents}
 use Rattle.edi_words.specs.Words.{Command}
 use Rattle.edi_statuses.specs.declared.status.Status.{Status}
@@ -9,7 +10,6 @@ use Rattle.edi_statuses.specs.declared.status.Status.TheVariants as status
 use Rattle.edi_statuses.specs.Outside.{Outside, Devices, Kept, KernelLeft, Lent, with_kept}
 use Rattle.edi_statuses.specs.Steps.{AfterStep, goes, stops}
 use Rattle.edi_statuses.specs.Commands.{CommandEffect, Comes, Does, IsDone, OnlyBlocks, OnlyKeeps, OnlyShows}
-use Rattle.edi_statuses.specs.Broken.{WentOn}
 use Rattle.edi_statuses.specs.Decided.{IsDecisive}
 use Rattle.edi_statuses.specs.EachObject.{KeepsImage, LeavesEach, formats}
 use Rattle.edi_statuses.specs.Always.{MayCome, MayEnd, lent_from, told_outside}
@@ -29,6 +29,7 @@ module _ (c : Command) (files : Contents) (d : Devices) (kernel : KernelLeft) wh
     decisive = decisive;
     files_after = files;
     devices_after = d;
+    sized = λ h. h;
     shown = [];
     left = kernel;
     comes = inl (h, record { shown_ = refl; same = record { files = refl; blocks = refl; input = refl; printed = refl }; kernel_same = refl });
@@ -44,6 +45,7 @@ module _ (c : Command) (files : Contents) (d : Devices) (kernel : KernelLeft) wh
     decisive = may.decisive;
     files_after = may.files_after;
     devices_after = may.devices_after;
+    sized = may.sized;
     shown = may.shown;
     left = may.left;
     comes = inr (a, h, may.comes);
@@ -56,12 +58,6 @@ module _ (c : Command) (files : Contents) (d : Devices) (kernel : KernelLeft) wh
   does_some steps effect (stops s, h, fine) each = stopped steps effect s fine h
   does_some steps effect (goes a, h, fine) each = effected steps effect a h (each a h)
 
-  -- the same where the effect is only known to be possible where the steps go on
-  pub stops_or_goes : {A : Type 0} (steps : AfterStep A → Type 0) (effect : A → CommandEffect) → ComesTo steps
-      → MayCome c (Does steps effect) files d kernel ⊎ WentOn steps
-  stops_or_goes steps effect (stops s, h, fine) = inl (stopped steps effect s fine h)
-  stops_or_goes steps effect (goes a, h, fine) = inr (a, h)
-
   -- what the table of commands says of this command
   pub of_table : (effect : CommandEffect) → MayCome c effect files d kernel
       → ((s : Status) (after : Outside) (shown : List ℕ) (k : Lent) → effect s (told_outside files d) after shown k
@@ -71,6 +67,7 @@ module _ (c : Command) (files : Contents) (d : Devices) (kernel : KernelLeft) wh
     decisive = may.decisive;
     files_after = may.files_after;
     devices_after = may.devices_after;
+    sized = may.sized;
     shown = may.shown;
     left = may.left;
     comes = is may.answer (told_outside may.files_after may.devices_after) may.shown (lent_from kernel may.left) may.comes;
@@ -86,6 +83,7 @@ module _ (c : Command) (files : Contents) (d : Devices) (kernel : KernelLeft) wh
     decisive = tt;
     files_after = with_kept kept files;
     devices_after = d;
+    sized = λ h. h;
     shown = [];
     left = kernel;
     comes = (refl, record { shown_ = refl; keeps = refl; blocks = refl; input = refl; printed = refl; kernel_same = refl });
@@ -109,6 +107,7 @@ module _ (c : Command) (files : Contents) (d : Devices) (kernel : KernelLeft) wh
     decisive = tt;
     files_after = files;
     devices_after = showing bytes;
+    sized = λ h. h;
     shown = bytes;
     left = kernel;
     comes = (refl, only_shows bytes);
@@ -118,12 +117,13 @@ module _ (c : Command) (files : Contents) (d : Devices) (kernel : KernelLeft) wh
 
   -- the drive has other blocks: a format, or blocks that are a valid image
   pub blocks_some : (P : List (List ℕ) → List (List ℕ) → Type 0) (new : List (List ℕ)) → P d.blocks new
-      → (formats c ≡ false → KeepsImage d.blocks new) → MayCome c (IsDone (OnlyBlocks P)) files d kernel
-  blocks_some P new is valid = record {
+      → (list_all is_block d.blocks ≡ true → list_all is_block new ≡ true) → (formats c ≡ false → KeepsImage d.blocks new) → MayCome c (IsDone (OnlyBlocks P)) files d kernel
+  blocks_some P new is sized valid = record {
     answer = status.Ok;
     decisive = tt;
     files_after = files;
     devices_after = record d { blocks = new };
+    sized = sized;
     shown = [];
     left = kernel;
     comes = (refl, record { shown_ = refl; blocks = is; files = refl; input = refl; printed = refl; kernel_same = refl });

@@ -38,7 +38,7 @@ goes_itself s = record {
   blocks = refl;
 }
 
-goes_then : (r s t : State) → GoesOn r s → GoesOn s t → GoesOn r t
+pub goes_then : (r s t : State) → GoesOn r s → GoesOn s t → GoesOn r t
 goes_then r s t h k = record {
   input = (h.input.0 ++ k.input.0, h.input.1 ∙ ap (λ xs. h.input.0 ++ xs) k.input.1 ∙ sym (append_assoc h.input.0 k.input.0 t.input));
   shown = (h.shown.0 ++ k.shown.0, k.shown.1 ∙ ap (λ xs. xs ++ k.shown.0) h.shown.1 ∙ append_assoc r.shown h.shown.0 k.shown.0);

@@ -7,9 +7,10 @@ use Rattle.std.specs.Simd.{first_chunks}
 use Rattle.std.proofs.lemmas.Bool.{and_from, and_parts, cases_lt, eq-eqb, leb-true, ltb-true}
 use Rattle.std.proofs.lemmas.List.{length-take-le}
 use Rattle.std.proofs.lemmas.List.Folds.{list_all-append}
-use Rattle.edi_host.specs.Blocks.{resized}
+use Rattle.edi_host.specs.Blocks.{is_block, resized}
 use Rattle.edi_host.specs.BytesAsBlocks.{blocks_of}
 use Rattle.edi_host.specs.Contents.{Contents}
+use Rattle.edi_host.proofs.DriveBlocks.{chunks_are_blocks}
 use Rattle.edi_calls.specs.State as calls
 use Rattle.edi_calls.specs.State.{pages_of}
 use Rattle.edi_image.specs.declared.entries.Said.{Said}
@@ -34,6 +35,7 @@ use Rattle.edi_statuses.specs.Commands.{AreMigrated, IsDone, OldSteps, OnlyBlock
 use Rattle.edi_statuses.specs.Always.{MayEnd, told_outside}
 use Rattle.edi_statuses.proofs.always.Steps.{old_steps_some}
 use Rattle.edi_statuses.proofs.always.Ends.{blocks_some, does_some, of_table}
+use Rattle.edi_statuses.proofs.always.Plain.{all_drop, zeros_sized}
 use Rattle.edi_statuses.proofs.always.Stored.{maps_data}
 use Rattle.std.proofs.Common.{true≢false}
 
@@ -133,7 +135,7 @@ same_room given valid count least room = elim (cases_lt 0 (blocks_taken (old_fil
 
 migrated : (given : List ℕ) → old_fault_of (blocks_of given) ≡ None → (count : ℕ) → 64 ≤ count → count ≤ 4096
     → calls.blocks_taken (old_slots_of (blocks_of given)) ≤ count - 33 → (before : List (List ℕ))
-    → (new : List (List ℕ)) × AreMigrated count (blocks_of given) before new
+    → (new : List (List ℕ)) × AreMigrated count (blocks_of given) before new × (list_all is_block new ≡ true)
 migrated given valid count least most room before =
     let old : List (List ℕ) = blocks_of given in
     let bytes : List ℕ = migrated_bytes old count (old_files_of old) in
@@ -142,6 +144,9 @@ migrated given valid count least most room before =
       new,
       migration_leaves given old (blocks_of bytes) count bytes bytes [] between new refl (valid, same_room given valid count least room) refl
           (files_stored old (old_long given) valid) refl refl least most refl (λ fits. refl),
+      list_all-append is_block (blocks_of bytes) (drop (length (blocks_of bytes)) between)
+          ∙ and_from (list_all is_block (blocks_of bytes)) (list_all is_block (drop (length (blocks_of bytes)) between))
+          (chunks_are_blocks (length bytes / 512) bytes (omega arith)) (all_drop is_block (length (blocks_of bytes)) between (zeros_sized count)),
     )
 
 -- ---- the command
@@ -179,4 +184,4 @@ old_disk_may files d kernel blocks file least most =
     let made = migrated found.given (ap old_fault_of (sym found.is) ∙ found.valid) blocks least most
     (subst (λ o. calls.blocks_taken (old_slots_of o) ≤ blocks - 33) found.is found.room) d.blocks in
     blocks_some (words.newdisk blocks (Some file)) files d kernel (AreMigrated blocks old) made.0
-    (subst (λ o. AreMigrated blocks o d.blocks made.0) (sym found.is) made.1) (λ e. absurd (true≢false e)))) (λ s after shown k h. h)
+    (subst (λ o. AreMigrated blocks o d.blocks made.0) (sym found.is) made.1) (λ h. made.2) (λ e. absurd (true≢false e)))) (λ s after shown k h. h)

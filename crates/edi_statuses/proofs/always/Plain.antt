@@ -1,13 +1,18 @@
 -- The commands that run no program: how each may end.
 use Rattle.std.proofs.Common.{◌≡◌, ◌≤◌, ◌<◌, ℕ, ◌+◌, Bool, true, false, List, [], ◌∷◌, ◌++◌, length, drop, Some, None, refl, sym, ap, subst, inl, inr}
-use Rattle.std.proofs.Common.{true≢false, arith, ◌∙◌, length-append, length-drop}
-use Rattle.std.specs.Prelude.{slice_get, suc}
+use Rattle.std.proofs.Common.{true≢false, arith, ◌∙◌, length-append, length-drop, take, take-append-drop}
+use Rattle.std.specs.Prelude.{replicate, slice_get, suc}
+use Rattle.std.specs.List.{list_all}
 use Rattle.std.proofs.Math.Seq.{drop-length, take-length}
-use Rattle.std.proofs.lemmas.List.{append-nil}
-use Rattle.std.proofs.lemmas.Bool.{cases_lt}
-use Rattle.edi_host.specs.Blocks.{resized}
+use Rattle.std.proofs.lemmas.Bool.{and_from, and_parts, cases_lt, eq-eqb}
+use Rattle.std.proofs.lemmas.List.{append-nil, length-replicate}
+use Rattle.std.proofs.lemmas.List.Folds.{list_all-append}
+use Rattle.edi_host.specs.Blocks.{is_block, resized, zero_block}
+use Rattle.edi_host.specs.declared.drive.ResizeEnd.TheVariants as resize
+use Rattle.edi_host.proofs.DriveBlocks.{blocks_resized}
 use Rattle.edi_host.specs.Contents.{Contents}
 use Rattle.edi_image.specs.Formatted.{new_catalogue}
+use Rattle.edi_image.specs.Image.{header_block}
 use Rattle.edi_image.proofs.Empty.{formatted_from, length-new_catalogue, length-resized}
 use Rattle.edi_compile.proofs.Meant.{texts_do_as_meant}
 use Rattle.edi_explore.specs.declared.ends.Verdict.TheVariants as verdict
@@ -59,22 +64,52 @@ new_image_is n old least most =
       (formatted_from [] (resized [] n) (new_image n) n least most refl (λ big. refl)).1,
     )
 
+pub all_drop : {A : Type 0} (test : A → Bool) (n : ℕ) (xs : List A) → list_all test xs ≡ true → list_all test (drop n xs) ≡ true
+all_drop test n xs h =
+    (and_parts (list_all test (take n xs)) (list_all test (drop n xs))
+    (sym (list_all-append test (take n xs) (drop n xs)) ∙ ap (list_all test) (take-append-drop n xs) ∙ h)).1
+
+-- blocks that are all zero
+pub zeros_sized : (n : ℕ) → list_all is_block (resized [] n) ≡ true
+zeros_sized n = blocks_resized resize.Ok n [] (resized [] n) refl refl
+
+catalogue_sized : (n : ℕ) → list_all is_block (new_catalogue n) ≡ true
+unfolding new_catalogue header_block
+catalogue_sized n =
+    and_from (is_block (header_block 2 n)) (list_all is_block (replicate 32 zero_block))
+    (eq-eqb (length (header_block 2 n)) 512 (let rest : length {A = ℕ} (replicate 504 0) ≡ 504 = length-replicate {A = ℕ} 504 0 in omega (arith, rest)))
+    (zeros_sized 32)
+
+new_image_sized : (n : ℕ) → list_all is_block (new_image n) ≡ true
+new_image_sized n =
+    list_all-append is_block (new_catalogue n) (drop 33 (resized [] n))
+    ∙ and_from (list_all is_block (new_catalogue n)) (list_all is_block (drop 33 (resized [] n))) (catalogue_sized n)
+    (all_drop is_block 33 (resized [] n) (zeros_sized n))
+
 -- ---- an exploration that has found nothing
 
 abbrev nothing_found : Findings
 nothing_found = record { endings = []; verdict = verdict.NoMemory 0; states = 0; cut = [] }
 
-finds_nothing : (bytes input : List ℕ) (unit : ProgramUnit) (states turns : ℕ) → IsUnit bytes unit → IsExplorationOf bytes input states turns nothing_found
-finds_nothing bytes input unit states turns is = record {
+finds_nothing : (bytes input : List ℕ) (unit : ProgramUnit) (states turns : ℕ) (shown : Option ℕ) → IsUnit bytes unit
+    → IsExplorationOf bytes input states turns shown nothing_found
+finds_nothing bytes input unit states turns shown is = record {
   reached = λ one h. absurd (omega (arith, h.1));
-  distinct = λ i j a b h k e. absurd (none_there i a h);
+  distinct = λ i j a b h k e same. absurd (none_there i a h);
   says = record {
+    unit = unit;
+    unit_is = is;
+    below = λ bound choices ending end turns drawn order e few. absurd (omega (arith, few));
+  };
+  says_shown = λ asks. record {
     unit = unit;
     unit_is = is;
     below = λ bound choices ending end turns drawn order e few. absurd (omega (arith, few));
   };
   full = tt;
   bounded = omega arith;
+  many = tt;
+  few = λ most e. omega arith;
   cut = tt;
 } where
   none_there : {A : Type 0} (i : ℕ) (a : A) → slice_get [] i ≡ Some a → ⊥
@@ -94,6 +129,7 @@ module _ (files : Contents) (d : Devices) (kernel : KernelLeft) where
         decisive = tt;
         files_after = with_kept kept files;
         devices_after = d;
+        sized = λ h. h;
         shown = [];
         left = kernel;
         comes = (
@@ -120,7 +156,7 @@ module _ (files : Contents) (d : Devices) (kernel : KernelLeft) where
       (does_some (words.newdisk blocks None) files d kernel (Ready blocks) (λ n. IsDone (OnlyBlocks (AreNew n))) (ready_some blocks)
       (λ n went. subst (λ m. MayCome (words.newdisk blocks None) (IsDone (OnlyBlocks (AreNew m))) files d kernel) (sym went)
       (blocks_some (words.newdisk blocks None) files d kernel (AreNew blocks) (new_image blocks) (new_image_is blocks d.blocks least most)
-      (λ never. absurd (true≢false never))))) (λ s after shown k h. h)
+      (λ h. new_image_sized blocks) (λ never. absurd (true≢false never))))) (λ s after shown k h. h)
 
   pub get_may : (title file : List ℕ) → MayEnd (words.get title file) files d kernel
   get_may title file =
@@ -149,7 +185,7 @@ module _ (files : Contents) (d : Devices) (kernel : KernelLeft) where
   explored_files o = with_kept (records_of o.record_file []) files
 
   abbrev explored_shown : ExploreOptions → Bool → Devices
-  explored_shown o accepts = record (left_of accepts) { shown = d.shown ++ report_text o.record_file nothing_found }
+  explored_shown o accepts = record (left_of accepts) { shown = d.shown ++ report_text (is_some o.shown) o.record_file nothing_found }
 
   takes_some : (accepts : Bool) (o : ExploreOptions) → (accepts ≡ true → length d.input ≤ most_input)
       → TakesAll accepts (taken_of accepts) (told_outside files d) (told_outside (explored_files o) (explored_shown o accepts))
@@ -163,7 +199,8 @@ module _ (files : Contents) (d : Devices) (kernel : KernelLeft) where
     decisive = tt;
     files_after = explored_files o;
     devices_after = explored_shown o accepts;
-    shown = report_text o.record_file nothing_found;
+    sized = λ h. subst (λ blocks. list_all is_block blocks ≡ true) (sym (same_blocks accepts)) h;
+    shown = report_text (is_some o.shown) o.record_file nothing_found;
     left = kernel;
     comes = inl (record {
       findings = nothing_found;
@@ -171,7 +208,7 @@ module _ (files : Contents) (d : Devices) (kernel : KernelLeft) where
         input = taken_of accepts;
         takes = subst (λ b. TakesAll b (taken_of accepts) (told_outside files d) (told_outside (explored_files o) (explored_shown o accepts))) (sym named)
             (takes_some accepts o few);
-        is = finds_nothing bytes (taken_of accepts) unit o.states o.turns is;
+        is = finds_nothing bytes (taken_of accepts) unit o.states o.turns o.shown is;
         blocks = same_blocks accepts;
         printed = same_printed accepts;
       };
@@ -210,6 +247,7 @@ module _ (files : Contents) (d : Devices) (kernel : KernelLeft) where
     decisive = tt;
     files_after = files;
     devices_after = rest_taken;
+    sized = λ h. h;
     shown = [];
     left = kernel;
     comes = inr (

@@ -37,7 +37,7 @@ use Rattle.edi_statuses.proofs.always.Walks.{walk_ends_so}
 -- ---- what the steps have found
 
 -- the drive is a valid image, and this is what goes on
-mounts_then : {A : Type 0} (o : Outside) (x a : A) → (Mounts o >>= λ done. Ready x) (goes a) → IfSome o.blocks (λ blocks. mount_fault_of blocks ≡ None) × (a ≡ x)
+pub mounts_then : {A : Type 0} (o : Outside) (x a : A) → (Mounts o >>= λ done. Ready x) (goes a) → IfSome o.blocks (λ blocks. mount_fault_of blocks ≡ None) × (a ≡ x)
 mounts_then o x a (inl never) = absurd never
 mounts_then o x a (inr h) = (h.1, h.2)
 
@@ -75,7 +75,7 @@ module _ (o : Outside) where
   code_then bytes from a (inl never) = absurd never
   code_then bytes from a (inr h) = loads_then bytes h.0 a h.2
 
-  exec_then : (file : List ℕ) (from : ChoicesFrom) (a : CodeParts × Choices) → ExecSteps o file from (goes a) → IsImageThere
+  pub exec_then : (file : List ℕ) (from : ChoicesFrom) (a : CodeParts × Choices) → ExecSteps o file from (goes a) → IsImageThere
   exec_then file from a (inl never) = absurd never
   exec_then file from a (inr h) = code_then h.0 from a h.2
 
@@ -121,7 +121,7 @@ module _ (o : Outside) where
 
 -- ---- the effects
 
-decisive : (ending : Ending) → IsDecisive (status_of ending)
+pub decisive : (ending : Ending) → IsDecisive (status_of ending)
 decisive outcome.done = tt
 decisive (outcome.halted line) = tt
 decisive (outcome.failed why line) = tt
@@ -132,13 +132,13 @@ decisive (outcome.bad address) = tt
 module _ (c : Command) (files : Contents) (d : Devices) (kernel : KernelLeft) where
   module _ (program : Runnable) (bound : ℕ) (choices : Choices) (run : IsRun program bound choices d) where
     -- the bytes that were shown, and what the terminal has taken then
-    abbrev bytes_shown : List ℕ
+    abbrev pub bytes_shown : List ℕ
     bytes_shown = shown_by_then d run.last run.gone
 
-    abbrev devices_then : Devices
+    abbrev pub devices_then : Devices
     devices_then = devices_at d run.last run.gone (d.shown ++ bytes_shown)
 
-    each_ran : (kept : Contents) → LeavesEach (Some c) (told_outside files d) (told_outside kept devices_then)
+    pub each_ran : (kept : Contents) → LeavesEach (Some c) (told_outside files d) (told_outside kept devices_then)
     each_ran kept = record {
       drive = λ e before. run.gone.image.image.holds.valid;
       input = shrinks_at d run.last run.gone;
@@ -151,6 +151,7 @@ module _ (c : Command) (files : Contents) (d : Devices) (kernel : KernelLeft) wh
       decisive = decisive run.ending;
       files_after = with_kept (record_of record_file choices run.drawn) files;
       devices_after = devices_then;
+      sized = λ h. run.gone.image.image.sized;
       shown = bytes_shown;
       left = run.left;
       comes = record {
@@ -194,6 +195,7 @@ module _ (c : Command) (files : Contents) (d : Devices) (kernel : KernelLeft) wh
         decisive = decisive run.ending;
         files_after = with_kept kept files;
         devices_after = devices_then (text bytes) bound choices run;
+        sized = λ h. run.gone.image.image.sized;
         shown = bytes_shown (text bytes) bound choices run;
         left = run.left;
         comes = record {
@@ -228,6 +230,7 @@ module _ (c : Command) (files : Contents) (d : Devices) (kernel : KernelLeft) wh
             decisive = decisive ending;
             files_after = files;
             devices_after = after;
+            sized = λ h. so.1.image.image.sized;
             shown = shown;
             left = kernel;
             comes = record {
@@ -285,6 +288,7 @@ module _ (c : Command) (files : Contents) (d : Devices) (kernel : KernelLeft) wh
     decisive = decisive run.ending;
     files_after = with_kept (record_of record_file choices run.drawn) files;
     devices_after = demo_devices n bound choices run;
+    sized = λ h. h;
     shown = all_shown n bound choices run;
     left = run.left;
     comes = record {

@@ -146,7 +146,7 @@ module _ (old : List (List ℕ)) (title : List ℕ) (sized : list_all is_block o
 
   -- the image with the file
   put_image : (bytes : List ℕ) → is_title title ≡ true → length bytes ≤ most_bytes → is_full old title (length bytes) ≡ false
-      → (new : List (List ℕ)) × ArePut title bytes old new × (mount_fault_of new ≡ None)
+      → (new : List (List ℕ)) × ArePut title bytes old new × (mount_fault_of new ≡ None) × (list_all is_block new ≡ true)
   put_image bytes titled short room =
       let free_blocks : nat_lt (length old - (33 + blocks_taken slots)) (blocks_of (length bytes)) ≡ false =
       or_left (nat_lt (length old - (33 + blocks_taken slots)) (blocks_of (length bytes))) (is_none (find_slot slots title) && is_none (first_free slots)) room in
@@ -165,7 +165,7 @@ module _ (old : List (List ℕ)) (title : List ℕ) (sized : list_all is_block o
       let wanted : put_slot (slots_of between) has.slot (Some (stored_file title (kind_of_bytes bytes) bytes)) ≡ put_in title bytes slots =
       ap (λ s. put_slot s has.slot (Some (stored_file title (kind_of_bytes bytes) bytes))) files
       ∙ ap (λ o. put_at o (stored_file title (kind_of_bytes bytes) bytes) (released title slots)) (sym has.are.place) in
-      (now.blocks, (now.many ∙ has.new.many, subst (Holds now.blocks) wanted now.holds), now.holds.valid)
+      (now.blocks, (now.many ∙ has.new.many, subst (Holds now.blocks) wanted now.holds), now.holds.valid, now.sized)
 
 -- ---- the command
 
@@ -205,4 +205,4 @@ put_may files d kernel sized file title titled =
     (put_some files d file title)
     (λ bytes went. let ready = put_then files d title file bytes went in
     let made = put_image d.blocks title sized ready.valid bytes titled ready.short ready.room in
-    blocks_some (words.put file title) files d kernel (ArePut title bytes) made.0 made.1 (λ e before. made.2))) (λ s after shown k h. h)
+    blocks_some (words.put file title) files d kernel (ArePut title bytes) made.0 made.1 (λ h. made.3) (λ e before. made.2))) (λ s after shown k h. h)

@@ -7,7 +7,8 @@ use Rattle.std.proofs.lemmas.Bool.{and_parts, leb-true}
 use Rattle.edi_calls.specs.State.{is_title}
 use Rattle.edi_words.specs.Words as words
 use Rattle.edi_words.specs.Words.{Command, Given, Options, Text, bare_run, command_by, command_in, command_of, explored_file, file_run, get_file, given_of}
-use Rattle.edi_words.specs.Words.{guided_run, has_no_states, in_range, named, named_more, named_plain, new_disk, number_in, one_operand, only_file, only_files}
+use Rattle.edi_words.specs.Words.{guided_run, has_no_exploring, has_no_timeline, in_range, named, named_more, named_plain, named_timed, new_disk, number_in}
+use Rattle.edi_words.specs.Words.{one_operand, only_file, only_files, timed}
 use Rattle.edi_words.specs.Words.{options_in, parts_of, put_file, sized_run, spelled, takes, two_operands, watched_run, with_options, with_title, first_of}
 use Rattle.edi_statuses.specs.Always.{IsInRange, WordsGiveRanges}
 
@@ -97,11 +98,40 @@ module _ (c : Command) where
   named_is : (name : Text) (operands : List Text) (g : Given) → named name operands g ≡ Some c → IsInRange c
   named_is name operands g =
       chosen (bytes_eq name (codes "explore")) _ _ (made (λ p. words.explore p.0 p.1) (explored_file operands g) (λ p e. tt))
-      (chosen (has_no_states g) _ _ (plain_is name operands g) none_is)
+      (chosen (has_no_exploring g) _ _ (plain_is name operands g) none_is)
+
+  -- a command with a timeline has no number and no title
+  timed_is : (out : Text) (plain : Command) → timed out plain ≡ Some c → IsInRange c
+  timed_is out (words.run file o) h = subst IsInRange (ap (λ x. unwrap_or x (words.time file out o)) h) tt
+  timed_is out (words.exec file o) h = subst IsInRange (ap (λ x. unwrap_or x (words.time_code file out o)) h) tt
+  timed_is out (words.replay file choices turns) h =
+      let o : Options = record { turns = turns; choices = words.file choices; record_file = None } in
+      subst IsInRange (ap (λ x. unwrap_or x (words.time file out o)) h) tt
+  timed_is out (words.boot o) h = none_is h
+  timed_is out (words.compile file other) h = none_is h
+  timed_is out (words.newdisk blocks old) h = none_is h
+  timed_is out (words.put file title) h = none_is h
+  timed_is out (words.get title file) h = none_is h
+  timed_is out (words.list file) h = none_is h
+  timed_is out (words.demo n o) h = none_is h
+  timed_is out (words.check file) h = none_is h
+  timed_is out (words.explain file) h = none_is h
+  timed_is out (words.walk file choices turns) h = none_is h
+  timed_is out (words.watch file stops log o) h = none_is h
+  timed_is out (words.explore file o) h = none_is h
+  timed_is out (words.time file other o) h = none_is h
+  timed_is out (words.time_code file other o) h = none_is h
+
+  named_timed_is : (name : Text) (operands : List Text) (g : Given)
+      → option_and_then (λ out. named_timed out name operands g) (one_operand g.timelines) ≡ Some c → IsInRange c
+  named_timed_is name operands g h =
+      let out = then_some (λ out. named_timed out name operands g) (one_operand g.timelines) c h in
+      let plain = then_some (timed out.0) (named name operands g) c out.2 in
+      timed_is out.0 plain.0 plain.2
 
   by_operands : (operands : List Text) (g : Given) → command_by operands g ≡ Some c → IsInRange c
   by_operands [] g h = none_is h
-  by_operands (name ∷ operands) g h = named_is name operands g h
+  by_operands (name ∷ operands) g h = chosen (has_no_timeline g) _ _ (named_is name operands g) (named_timed_is name operands g) h
 
 pub words_give_ranges : WordsGiveRanges
 words_give_ranges given c h =

@@ -174,6 +174,7 @@ module _ (c : Command) (files : Contents) (d : Devices) (kernel : KernelLeft) wh
     decisive = tt;
     files_after = files;
     devices_after = showing c files d kernel report.0;
+    sized = λ h. h;
     shown = report.0;
     left = kernel;
     comes = (refl, (report.0, report.1, only_shows c files d kernel report.0));
@@ -187,6 +188,7 @@ module _ (c : Command) (files : Contents) (d : Devices) (kernel : KernelLeft) wh
     decisive = tt;
     files_after = files;
     devices_after = showing c files d kernel accepted_text;
+    sized = λ h. h;
     shown = accepted_text;
     left = kernel;
     comes = (accepted_text, (unit, is, refl), only_shows c files d kernel accepted_text);
@@ -201,6 +203,7 @@ module _ (c : Command) (files : Contents) (d : Devices) (kernel : KernelLeft) wh
     decisive = tt;
     files_after = files;
     devices_after = showing c files d kernel told.0;
+    sized = λ h. h;
     shown = told.0;
     left = kernel;
     comes = (told.0, ((pass, fault), told.1), only_shows c files d kernel told.0);

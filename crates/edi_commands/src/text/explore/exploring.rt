@@ -13,7 +13,7 @@ use crate::text::explore::ending::end_exploration;
 use crate::text::explore::inputs::input_of;
 use crate::text::explore::programs::program_of_file;
 use crate::text::explore::reports::explore_program;
-use edi_explore::Limits;
+use edi_explore::{Limits, Watcher};
 use edi_host::{Files, Sink, Source};
 use edi_kernel::Kernel;
 use edi_statuses::{Ended, Status};
@@ -21,11 +21,11 @@ use edi_words::ExploreOptions;
 use std::alloc::Global;
 
 /// `explore FILE`: fetches the text, compiles it, reads the input where its program names `accept`, follows all choices, shows the lines that tell
-/// what was found, and keeps the choices of its endings, in this order.
+/// what was found, and keeps the choices of its endings, in this order. While it follows choices the watcher is told how many states there are.
 ///
 /// Whatever the drive and the printer are, which stay as they are, this is how the command ended. The fault of an object comes only where its count
-/// rose. Where the text is not read the input, the terminal and the kernel are not touched.
-pub fn explore_file<F: Files, S: Source, T: Sink>(
+/// rose. Where the text is not read the input, the terminal, the kernel and the watcher are not touched.
+pub fn explore_file<F: Files, S: Source, T: Sink, W: Watcher>(
     alloc: Global,
     file: &str,
     options: ExploreOptions<'_>,
@@ -33,6 +33,7 @@ pub fn explore_file<F: Files, S: Source, T: Sink>(
     input: &mut S,
     terminal: &mut T,
     kernel: &mut Kernel,
+    watcher: &mut W,
 ) -> Ended
     ensures came { (blocks : Option (List (List ℕ))) (printed : Option (List ℕ)) →
         Came result.status result.due (Some (explore_words file.now (exploring_of options.entry)))
@@ -46,7 +47,7 @@ pub fn explore_file<F: Files, S: Source, T: Sink>(
     ensures later_input { S.faults input.old ≤ S.faults input.new }
     ensures later_terminal { T.faults terminal.old ≤ T.faults terminal.new }
     ensures early { is_before_drive result.status ≡ true →
-        (input.new ≡ input.old) × (terminal.new ≡ terminal.old) × (kernel.new ≡ kernel.old) }
+        (input.new ≡ input.old) × (terminal.new ≡ terminal.old) × (kernel.new ≡ kernel.old) × (watcher.new ≡ watcher.old) }
 {
     let program = match program_of_file(alloc, files, file) {
         Ok(program) => program,
@@ -59,9 +60,18 @@ pub fn explore_file<F: Files, S: Source, T: Sink>(
     let limits = Limits {
         states: options.states,
         turns: u64::from(options.turns),
+        shown: options.shown,
     };
     let record_file = options.record_file;
-    match explore_program(alloc, kernel, &program, &given, limits, record_file) {
+    match explore_program(
+        alloc,
+        kernel,
+        &program,
+        &given,
+        limits,
+        record_file,
+        watcher,
+    ) {
         Ok(explored) => end_exploration(alloc, files, terminal, record_file, &explored),
         Err(_) => stopped(Status::NoMemory),
     }

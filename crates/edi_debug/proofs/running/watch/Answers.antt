@@ -3,7 +3,7 @@ use Rattle.std.proofs.Common.{refl, arith, map, subst, ◌∙◌}
 use Rattle.edi_tree.specs.Whole.{program_of}
 use Rattle.edi_debug.specs.Points.{watched}
 use Rattle.edi_debug.specs.stops.Near.{TellsPoints}
-use Rattle.edi_debug.proofs.Watched.{are_named, watched_more, watched_ends, watched_first, watched_never}
+use Rattle.edi_debug.proofs.Watched.{are_named, nothing_asked, watched_asks, watched_more, watched_ends, watched_first, watched_never}
 use Rattle.edi_debug.proofs.Logged.{grows_none, grows_on}
 use Rattle.edi_kernel.proofs.Stretches.{lasts_on}
 use Rattle.edi_debug.proofs.running.watch.Goals as goal
@@ -36,6 +36,21 @@ returns-in-Some-clause-exact g c =
     c.args.log.now (g.C.Calls.state c.args.calls.now) (g.C.Calls.state c.rounds.calls) (g.C.Calls.state c.watch_round.new.calls) c.rounds.kernel
     c.watch_round.new.kernel c.rounds.choices c.watch_round.new.choices c.rounds.log c.watch_round.new.log c.rounds.invariant.source c.in-Some.ending
     (c.rounds.invariant.exact small) (c.in-Some.ensures.exact (omega (arith, small, c.rounds.invariant.drawn, c.rounds.invariant.used)))
+
+pub returns-then-bound-eq0-clause-asked : goal.returns-then-bound-eq0-clause-asked
+returns-then-bound-eq0-clause-asked g c =
+    λ small.
+    nothing_asked (program_of c.args.tree.now) c.requires.sound c.args.mapped.now c.args.points.now c.requires.points c.args.bound c.args.choices.now
+    c.args.log.now c.code.result.now c.code.ensures.exact c.start.new.self c.start.ensures.exact (g.C.Calls.state c.args.calls.now)
+    (g.C.Calls.failed c.args.calls.now)
+
+pub returns-in-Some-clause-asked : goal.returns-in-Some-clause-asked
+returns-in-Some-clause-asked g c =
+    λ small.
+    watched_asks (program_of c.args.tree.now) c.requires.sound c.args.mapped.now c.args.points.now c.requires.points c.args.bound c.args.choices.now
+    c.args.log.now (g.C.Calls.state c.args.calls.now) (g.C.Calls.state c.rounds.calls) (g.C.Calls.state c.watch_round.new.calls) c.rounds.kernel
+    c.watch_round.new.kernel c.rounds.choices c.watch_round.new.choices c.rounds.log c.watch_round.new.log c.rounds.invariant.source
+    (g.C.Calls.failed c.watch_round.new.calls) c.in-Some.ending (c.rounds.invariant.exact small) c.in-Some.ensures.asked
 
 pub rounds-preserved : goal.rounds-preserved
 rounds-preserved g c = record {

@@ -1,7 +1,7 @@
 -- A round of a watched run.
 use Rattle.std.proofs.Common.{◌-◌, sym, ap, ◌∙◌, arith}
 use Rattle.edi_debug.specs.Points.{watched_in}
-use Rattle.edi_debug.proofs.Watched.{told_over, told_on, not_over}
+use Rattle.edi_debug.proofs.Watched.{asks_on, asks_over, told_over, told_on, not_over}
 use Rattle.edi_debug.proofs.running.watch_round.Goals as goal
 
 pub returns-in-Some-clause-exact : goal.returns-in-Some-clause-exact
@@ -42,6 +42,31 @@ returns-clause-exact g c =
       c.requires.used,
     )) m ns holds)
     c.stint-end.ensures.exact
+
+pub returns-in-Some-clause-asked : goal.returns-in-Some-clause-asked
+returns-in-Some-clause-asked g c =
+    asks_over c.args.stops.now.mapped.now (watched_in c.args.stops.now.points.now) c.args.bound c.code.result.now c.code.ensures.exact c.stint-end.result c.args.kernel.now
+    c.stint-end.new.self c.args.choices.now c.args.log.now c.log_stop.new.log (c.args.bound - c.turns_used.result) _ _ _ _ _
+    (ap (λ n. c.args.bound - n) c.turns_used.ensures)
+    (omega (arith, c.stint-end.ensures.turns, c.stint-end.ensures.used, c.requires.used, c.turns_used.ensures, c.ranges.bound.fits))
+    (omega (arith, c.stint-end.ensures.turns, c.stint-end.ensures.used, c.requires.used, c.turns_used.ensures, c.ranges.bound.fits))
+    (λ unit m fits.
+    c.log_stop.ensures.exact unit c.args.bound m fits
+    (omega (arith, c.stint-end.ensures.turns, c.stint-end.ensures.used, c.requires.used, c.turns_used.ensures, c.ranges.bound.fits)))
+    c.stint-end.ensures.standing (g.C.Calls.failed c.stint-end.new.calls) c.in-Some.ending (sym c.in-Some.ensures.exact) c.stint-end.ensures.asked
+
+pub returns-clause-asked : goal.returns-clause-asked
+returns-clause-asked g c =
+    asks_on c.args.stops.now.mapped.now (watched_in c.args.stops.now.points.now) c.args.bound c.code.result.now c.code.ensures.exact c.stint-end.result c.args.kernel.now
+    c.stint-end.new.self c.args.choices.now c.args.log.now c.log_stop-2.new.log (c.args.bound - c.turns_used.result) _ _ _ _ _
+    (ap (λ n. c.args.bound - n) c.turns_used.ensures)
+    (omega (arith, c.stint-end.ensures.turns, c.stint-end.ensures.used, c.requires.used, c.turns_used.ensures, c.ranges.bound.fits))
+    (omega (arith, c.stint-end.ensures.turns, c.stint-end.ensures.used, c.requires.used, c.turns_used.ensures, c.ranges.bound.fits))
+    (λ unit m fits.
+    c.log_stop-2.ensures.exact unit c.args.bound m fits
+    (omega (arith, c.stint-end.ensures.turns, c.stint-end.ensures.used, c.requires.used, c.turns_used.ensures, c.ranges.bound.fits)))
+    c.stint-end.ensures.standing (g.C.Calls.failed c.stint-end.new.calls) c.proceed.result c.proceed.new.kernel c.proceed.new.choices c.proceed.ensures.fault
+    c.stint-end.ensures.asked
 
 pub returns-clause-spent : goal.returns-clause-spent
 returns-clause-spent g c =

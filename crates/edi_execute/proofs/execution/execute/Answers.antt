@@ -1,9 +1,11 @@
-use Rattle.std.proofs.Common.{subst, ◌∙◌}
-use Rattle.edi_kernel.specs.Runs.{RunsTo}
+use Rattle.std.proofs.Common.{refl, subst, sym, ◌∙◌}
+use Rattle.std.specs.Prelude.{IsSome}
+use Rattle.edi_kernel.specs.Runs.{FaultsBy, RunsTo}
+use Rattle.edi_system.specs.AsCalls.{HasFailed}
 use Rattle.edi_system.proofs.Chained.{behind_none, keeps_on, keeps_told_on, told_behind, told_then}
 use Rattle.edi_system.proofs.Lasting.{valid_ready}
 use Rattle.edi_system.proofs.Told.{told_map}
-use Rattle.edi_execute.proofs.Executing.{at_moment, blamed, named, run_keeps, still_ready}
+use Rattle.edi_execute.proofs.Executing.{at_call, at_moment, blamed, named, run_keeps, still_ready}
 use Rattle.edi_execute.proofs.execution.execute.Goals as goal
 
 pub returns-clause-exact : goal.returns-clause-exact
@@ -19,6 +21,16 @@ returns-clause-moment g c = λ fault few.
 
 pub returns-clause-failed : goal.returns-clause-failed
 returns-clause-failed g c = named g.D.Drive.contents g.D.Drive.count c.run.new.calls _ _ c.run.result c.run.ensures.blame
+
+pub returns-clause-call : goal.returns-clause-call
+returns-clause-call g c = λ outside is few.
+    let fault = (returns-clause-failed g c).0 (subst IsSome (sym is) refl) in
+    told_then _ _ _ _ _ _
+    (λ x y z same faults. at_call g.D.Drive.contents g.D.Drive.count c.run.new.calls c.args.code.now _ c.args.bound c.args.choices.now c.run.result
+    c.run.new.self.used z c.run.new.choices outside fault is
+    (subst (λ s. FaultsBy (λ o. HasFailed g.D.Drive.contents g.D.Drive.count c.run.new.calls o) c.args.code.now s c.args.bound c.args.choices.now c.run.result
+    c.run.new.self.used z c.run.new.choices) same faults))
+    c.begin_program.ensures.exact (c.run.ensures.asked few)
 
 pub returns-clause-ready : goal.returns-clause-ready
 returns-clause-ready g c = still_ready g.D.Drive.contents g.D.Drive.count c.run.new.calls _ _ c.run.result c.run.ensures.blame

@@ -1,6 +1,6 @@
-use Rattle.std.proofs.Common.{◌≡◌, ◌<◌, ap, arith, rules, subst}
+use Rattle.std.proofs.Common.{◌≡◌, ◌∙◌, ◌<◌, ap, arith, rules, subst, sym}
 use Rattle.edi_disk.specs.Shown.{drive_of}
-use Rattle.edi_execute.proofs.Runs.{mounted_run, none_falls, only_read, run_leaves}
+use Rattle.edi_execute.proofs.Runs.{call_leaves, mounted_run, none_falls, only_read, run_leaves}
 use Rattle.edi_execute.proofs.run.run_on.Goals as goal
 
 pub returns-clause-leaves : goal.returns-clause-leaves
@@ -17,6 +17,19 @@ returns-clause-leaves g c =
     c.args.code.now c.args.bound c.args.choices.now (record { ending = c.execute-ending.result; failed = c.failed.result; due = c.due.result }) _ _ _
     c.new-system.ensures.begins c.execute-ending.ensures.exact c.execute-ending.ensures.moment c.due.ensures.exact c.execute-ending.ensures.told
     c.execute-ending.ensures.due
+
+pub returns-clause-call : goal.returns-clause-call
+returns-clause-call g c = λ outside is few.
+    call_leaves g.D.Drive.contents g.S.Source.left g.T.Sink.taken g.P.Sink.taken c.new-system.result c.execute-ending.new.system _ _
+    (record {
+      drive = only_read g.D.Drive.contents (drive_of c.attach-disk.result) (drive_of c.check.new.disk) _ _ _ c.in-Ok-check.ensures.leaves
+          (search rules) (search rules);
+      input = search rules;
+      terminal = search rules;
+      printer = search rules;
+    })
+    (record { drive = search rules; input = search rules; terminal = search rules; printer = search rules })
+    c.args.code.now c.args.bound c.args.choices.now outside (c.execute-ending.ensures.call outside (sym c.failed.ensures.exact ∙ is) few)
 
 pub returns-clause-mounted : goal.returns-clause-mounted
 returns-clause-mounted g c =

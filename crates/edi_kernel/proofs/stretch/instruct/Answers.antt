@@ -4,7 +4,7 @@ use Rattle.edi_machine.specs.Activities.{local_of}
 use Rattle.edi_machine.proofs.Telling.{held_of_step}
 use Rattle.edi_kernel.specs.Stretch.{cleared_in, cleared_of, pause_of}
 use Rattle.edi_kernel.proofs.Phases.{notes, stays_in}
-use Rattle.edi_kernel.proofs.Steps.{steps_are, allowed_are, falls_are}
+use Rattle.edi_kernel.proofs.Steps.{steps_are, allowed_are, asked_are, falls_are}
 use Rattle.edi_kernel.proofs.Stretches.{spends_are}
 use Rattle.edi_kernel.proofs.stretch.instruct.Goals as goal
 
@@ -45,3 +45,10 @@ returns-clause-phase g c = λ none one.
     ∙ stays_in p.cleared p.phase p.activity.held c.step-end.new.activity.held c.requires.phase c.step-end.result p.left
     (held_of_step c.args.code.now.words c.args.code.now.words c.args.live c.args.first (local_of c.args.store.now p.activity) refl c.step-end.result
     (local_of c.step-end.new.store c.step-end.new.activity) _ _ c.step-end.ensures.exact) (sym c.follow-pause.ensures.pause ∙ none) one
+
+pub returns-clause-asked : goal.returns-clause-asked
+returns-clause-asked g c =
+    let e = c.step-end.ensures in
+    asked_are c.args.code.now.words c.args.live c.args.first (local_of c.args.store.now c.args.progress.now.activity)
+    (local_of c.step-end.new.store c.step-end.new.activity)
+    c.args.progress.now.left _ _ c.step-end.result _ (g.C.Calls.failed c.step-end.new.calls) e.exact e.used c.follow-pause.ensures.pause

@@ -5,7 +5,7 @@ use Rattle.edi_statuses.specs.Lines.{text_of}
 use Rattle.edi_statuses.specs.declared.status.Status.TheVariants as status
 use Rattle.edi_statuses.proofs.Causes.{cause_later, rose_before}
 use Rattle.edi_statuses.proofs.Closing.{lines_end}
-use Rattle.edi_main.proofs.Obeyed.{counts_closed, drive_rose, untouched_closed}
+use Rattle.edi_main.proofs.Obeyed.{counts_closed, drive_rose, unmounted_closed, untouched_closed}
 use Rattle.edi_main.proofs.top.edison.Goals as goal
 
 pub returns-clause-ends : goal.returns-clause-ends
@@ -44,3 +44,12 @@ returns-clause-untouched g c =
       | inr fault ↦ inr fault.0
     ])
     c.obey-ended.ensures.untouched
+
+pub returns-clause-unmounted : goal.returns-clause-unmounted
+returns-clause-unmounted g c =
+    unmounted_closed (command_of (map string_bytes c.args.words.now)) c.obey-ended.result.status c.show_status.result _ _ _ _ _ _ _ _
+    (elim c.show_status.ensures.exact [
+      | inl same ↦ inl same.0
+      | inr fault ↦ inr fault.0
+    ])
+    c.obey-ended.ensures.unmounted

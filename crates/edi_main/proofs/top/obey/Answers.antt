@@ -1,6 +1,6 @@
 use Rattle.edi_statuses.proofs.EachLeft.{none_touched}
 use Rattle.edi_statuses.proofs.Silent.{refused, wants}
-use Rattle.edi_main.proofs.Obeyed.{counts_of_none, counts_unread, no_words}
+use Rattle.edi_main.proofs.Obeyed.{counts_of_none, counts_unread, no_words, none_unmounted}
 use Rattle.edi_main.proofs.top.obey.Goals as goal
 
 pub returns-in-Ok-None-clause-came : goal.returns-in-Ok-None-clause-came
@@ -24,3 +24,9 @@ returns-in-Ok-None-clause-untouched g c = none_touched _ _ _
 
 pub returns-in-Err-clause-untouched : goal.returns-in-Err-clause-untouched
 returns-in-Err-clause-untouched g c = none_touched _ _ _
+
+pub returns-in-Ok-None-clause-unmounted : goal.returns-in-Ok-None-clause-unmounted
+returns-in-Ok-None-clause-unmounted g c = none_unmounted _ _ _
+
+pub returns-in-Err-clause-unmounted : goal.returns-in-Err-clause-unmounted
+returns-in-Err-clause-unmounted g c = none_unmounted _ _ _

@@ -1,12 +1,16 @@
-use Rattle.std.proofs.Common.{false, option_map, refl, rules, sym, true≢false}
+use Rattle.std.proofs.Common.{◌∙◌, Some, ap, false, option_map, refl, rules, sym, true≢false}
 use Rattle.edi_words.specs.Words as words
-use Rattle.edi_words.specs.View.{exploring_of, options_of}
+use Rattle.edi_words.specs.View.{exploring_of, options_of, view}
+use Rattle.edi_words.specs.declared.commands.Command.{Command}
 use Rattle.edi_words.specs.declared.commands.Command.TheVariants as command
+use Rattle.edi_statuses.specs.EachObject.{command_does}
+use Rattle.edi_statuses.specs.Explored.{is_exploration}
 use Rattle.edi_statuses.specs.Outside.{kernel_of}
 use Rattle.edi_statuses.proofs.EachLeft.{same_valid, untouched, untouched_alone, untouched_but_input, untouched_but_kernel, untouched_drive}
 use Rattle.edi_statuses.proofs.Silent.{on_files}
 use Rattle.edi_statuses.proofs.Told.{told_so}
-use Rattle.edi_main.proofs.Obeyed.{counts_so, obeyed, obeyed_demo, obeyed_replay, obeyed_so, on_disk, untouched_so}
+use Rattle.edi_main.proofs.Obeyed.{counts_so, obeyed, obeyed_demo, obeyed_replay, obeyed_so, on_disk, unmounted_last, unmounted_never, unmounted_so}
+use Rattle.edi_main.proofs.Obeyed.{untouched_so}
 use Rattle.edi_main.proofs.top.perform.Goals as goal
 
 pub returns-in-Compile-clause-came : goal.returns-in-Compile-clause-came
@@ -112,6 +116,30 @@ returns-in-Exec-clause-untouched g c =
     untouched_so c.args.command (command.Exec c.in-Exec.file c.in-Exec.options) c.run_file-in-Exec.result.status c.run_file-in-Exec.result.status _ _ c.in-Exec.is refl
     (untouched _ _ (words.exec c.in-Exec.file.now (options_of c.in-Exec.options)) c.run_file-in-Exec.result.status refl refl refl refl (λ e. e)
     (λ none. absurd (true≢false none)) c.run_file-in-Exec.ensures.early)
+
+pub returns-in-Time-clause-size : goal.returns-in-Time-clause-size
+returns-in-Time-clause-size g c =
+    counts_so c.args.command (command.Time c.in-Time.file c.in-Time.out c.in-Time.options) c.time_file.result.status c.time_file.result.status _ _ _ _
+    c.in-Time.is refl (c.time_file.ensures.size, c.time_file.ensures.fits)
+
+pub returns-in-Time-clause-untouched : goal.returns-in-Time-clause-untouched
+returns-in-Time-clause-untouched g c =
+    untouched_so c.args.command (command.Time c.in-Time.file c.in-Time.out c.in-Time.options) c.time_file.result.status c.time_file.result.status _ _
+    c.in-Time.is refl
+    (untouched _ _ (words.time c.in-Time.file.now c.in-Time.out.now (options_of c.in-Time.options)) c.time_file.result.status refl refl refl refl (λ e. e)
+    (λ none. absurd (true≢false none)) c.time_file.ensures.early)
+
+pub returns-in-TimeCode-clause-size : goal.returns-in-TimeCode-clause-size
+returns-in-TimeCode-clause-size g c =
+    counts_so c.args.command (command.TimeCode c.in-TimeCode.file c.in-TimeCode.out c.in-TimeCode.options) c.time_file-in-TimeCode.result.status c.time_file-in-TimeCode.result.status _ _ _ _
+    c.in-TimeCode.is refl (c.time_file-in-TimeCode.ensures.size, c.time_file-in-TimeCode.ensures.fits)
+
+pub returns-in-TimeCode-clause-untouched : goal.returns-in-TimeCode-clause-untouched
+returns-in-TimeCode-clause-untouched g c =
+    untouched_so c.args.command (command.TimeCode c.in-TimeCode.file c.in-TimeCode.out c.in-TimeCode.options) c.time_file-in-TimeCode.result.status c.time_file-in-TimeCode.result.status _ _
+    c.in-TimeCode.is refl
+    (untouched _ _ (words.time_code c.in-TimeCode.file.now c.in-TimeCode.out.now (options_of c.in-TimeCode.options)) c.time_file-in-TimeCode.result.status refl refl refl refl (λ e. e)
+    (λ none. absurd (true≢false none)) c.time_file-in-TimeCode.ensures.early)
 
 pub returns-in-Watch-clause-size : goal.returns-in-Watch-clause-size
 returns-in-Watch-clause-size g c =
@@ -229,3 +257,94 @@ returns-in-Explore-clause-untouched g c =
     (λ early.
     let none = c.explore_file.ensures.early early in
     (none.0, none.2)))
+
+pub returns-in-Explore-clause-unwatched : goal.returns-in-Explore-clause-unwatched
+returns-in-Explore-clause-unwatched g c = λ other.
+    absurd (true≢false (ap (λ (x : Command). command_does is_exploration (Some (view x))) (sym c.in-Explore.is) ∙ other))
+
+pub returns-in-Run-clause-unmounted : goal.returns-in-Run-clause-unmounted
+returns-in-Run-clause-unmounted g c =
+    unmounted_so c.args.command (command.Run c.in-Run.file c.in-Run.options) c.run_file.result.status c.run_file.result.status _ _ c.in-Run.is refl
+    (unmounted_last (words.run c.in-Run.file.now (options_of c.in-Run.options)) c.run_file.result.status _ _ refl c.run_file.ensures.unmounted)
+
+pub returns-in-Replay-clause-unmounted : goal.returns-in-Replay-clause-unmounted
+returns-in-Replay-clause-unmounted g c =
+    unmounted_so c.args.command (command.Replay c.in-Replay.file c.in-Replay.choices c.in-Replay.turns) c.run_file-in-Replay.result.status c.run_file-in-Replay.result.status _ _ c.in-Replay.is refl
+    (unmounted_last (words.replay c.in-Replay.file.now c.in-Replay.choices.now c.in-Replay.turns) c.run_file-in-Replay.result.status _ _ refl c.run_file-in-Replay.ensures.unmounted)
+
+pub returns-in-Exec-clause-unmounted : goal.returns-in-Exec-clause-unmounted
+returns-in-Exec-clause-unmounted g c =
+    unmounted_so c.args.command (command.Exec c.in-Exec.file c.in-Exec.options) c.run_file-in-Exec.result.status c.run_file-in-Exec.result.status _ _ c.in-Exec.is refl
+    (unmounted_last (words.exec c.in-Exec.file.now (options_of c.in-Exec.options)) c.run_file-in-Exec.result.status _ _ refl c.run_file-in-Exec.ensures.unmounted)
+
+pub returns-in-Boot-clause-unmounted : goal.returns-in-Boot-clause-unmounted
+returns-in-Boot-clause-unmounted g c =
+    unmounted_so c.args.command (command.Boot c.in-Boot.options) c.boot.result.status c.boot.result.status _ _ c.in-Boot.is refl
+    (unmounted_last (words.boot (options_of c.in-Boot.options)) c.boot.result.status _ _ refl c.boot.ensures.unmounted)
+
+pub returns-in-Walk-clause-unmounted : goal.returns-in-Walk-clause-unmounted
+returns-in-Walk-clause-unmounted g c =
+    unmounted_so c.args.command (command.Walk c.in-Walk.file c.in-Walk.choices c.in-Walk.turns) c.walk_file.result.status c.walk_file.result.status _ _ c.in-Walk.is refl
+    (unmounted_last (words.walk c.in-Walk.file.now c.in-Walk.choices.now c.in-Walk.turns) c.walk_file.result.status _ _ refl (λ at. let stays = c.walk_file.ensures.unmounted at in record { input = stays.0; printer = stays.1; kernel = refl }))
+
+pub returns-in-Watch-clause-unmounted : goal.returns-in-Watch-clause-unmounted
+returns-in-Watch-clause-unmounted g c =
+    unmounted_so c.args.command (command.Watch c.in-Watch.file c.in-Watch.stops c.in-Watch.out c.in-Watch.options) c.watch_file.result.status c.watch_file.result.status _ _ c.in-Watch.is refl
+    (unmounted_last (words.watch c.in-Watch.file.now c.in-Watch.stops.now c.in-Watch.out.now (options_of c.in-Watch.options)) c.watch_file.result.status _ _ refl c.watch_file.ensures.unmounted)
+
+pub returns-in-Put-clause-unmounted : goal.returns-in-Put-clause-unmounted
+returns-in-Put-clause-unmounted g c =
+    unmounted_so c.args.command (command.Put c.in-Put.file c.in-Put.title) c.put.result c.silent-in-Put.result.status _ _ c.in-Put.is c.silent-in-Put.ensures.status
+    (unmounted_last (words.put c.in-Put.file.now c.in-Put.title.now) c.put.result _ _ refl (λ at. record { input = refl; printer = refl; kernel = refl }))
+
+pub returns-in-Get-clause-unmounted : goal.returns-in-Get-clause-unmounted
+returns-in-Get-clause-unmounted g c =
+    unmounted_so c.args.command (command.Get c.in-Get.title c.in-Get.file) c.get.result c.silent-in-Get.result.status _ _ c.in-Get.is
+    c.silent-in-Get.ensures.status
+    (record { last = λ asks at. absurd (true≢false (sym asks)); first = λ asks at. c.get.ensures.unread at })
+
+pub returns-in-Compile-clause-unmounted : goal.returns-in-Compile-clause-unmounted
+returns-in-Compile-clause-unmounted g c =
+    unmounted_so c.args.command (command.Compile c.in-Compile.file c.in-Compile.out) c.silent.result.status c.silent.result.status _ _ c.in-Compile.is refl
+    (unmounted_never (words.compile c.in-Compile.file.now c.in-Compile.out.now) c.silent.result.status _ _ refl refl)
+
+pub returns-in-List-clause-unmounted : goal.returns-in-List-clause-unmounted
+returns-in-List-clause-unmounted g c =
+    unmounted_so c.args.command (command.List c.in-List.file) c.list.result.status c.list.result.status _ _ c.in-List.is refl
+    (unmounted_never (words.list c.in-List.file.now) c.list.result.status _ _ refl refl)
+
+pub returns-in-Demo-clause-unmounted : goal.returns-in-Demo-clause-unmounted
+returns-in-Demo-clause-unmounted g c =
+    unmounted_so c.args.command (command.Demo c.in-Demo.n c.in-Demo.options) c.demonstrate.result.status c.demonstrate.result.status _ _ c.in-Demo.is refl
+    (unmounted_never (words.demo c.in-Demo.n (options_of c.in-Demo.options)) c.demonstrate.result.status _ _ refl refl)
+
+pub returns-in-Check-clause-unmounted : goal.returns-in-Check-clause-unmounted
+returns-in-Check-clause-unmounted g c =
+    unmounted_so c.args.command (command.Check c.in-Check.file) c.check.result.status c.check.result.status _ _ c.in-Check.is refl
+    (unmounted_never (words.check c.in-Check.file.now) c.check.result.status _ _ refl refl)
+
+pub returns-in-Explain-clause-unmounted : goal.returns-in-Explain-clause-unmounted
+returns-in-Explain-clause-unmounted g c =
+    unmounted_so c.args.command (command.Explain c.in-Explain.file) c.explain_file.result.status c.explain_file.result.status _ _ c.in-Explain.is refl
+    (unmounted_never (words.explain c.in-Explain.file.now) c.explain_file.result.status _ _ refl refl)
+
+pub returns-in-Explore-clause-unmounted : goal.returns-in-Explore-clause-unmounted
+returns-in-Explore-clause-unmounted g c =
+    unmounted_so c.args.command (command.Explore c.in-Explore.file c.in-Explore.options) c.explore_file.result.status c.explore_file.result.status _ _ c.in-Explore.is refl
+    (unmounted_never (words.explore c.in-Explore.file.now (exploring_of c.in-Explore.options)) c.explore_file.result.status _ _ refl refl)
+
+pub returns-in-NewDisk-clause-unmounted : goal.returns-in-NewDisk-clause-unmounted
+returns-in-NewDisk-clause-unmounted g c =
+    unmounted_so c.args.command (command.NewDisk c.in-NewDisk.blocks c.in-NewDisk.old) c.new_by.result c.silent-in-NewDisk.result.status
+    _ _ c.in-NewDisk.is c.silent-in-NewDisk.ensures.status
+    (unmounted_never (words.newdisk c.in-NewDisk.blocks (option_map (λ name. name.now) c.in-NewDisk.old)) c.new_by.result _ _ refl refl)
+
+pub returns-in-Time-clause-unmounted : goal.returns-in-Time-clause-unmounted
+returns-in-Time-clause-unmounted g c =
+    unmounted_so c.args.command (command.Time c.in-Time.file c.in-Time.out c.in-Time.options) c.time_file.result.status c.time_file.result.status _ _ c.in-Time.is refl
+    (unmounted_last (words.time c.in-Time.file.now c.in-Time.out.now (options_of c.in-Time.options)) c.time_file.result.status _ _ refl c.time_file.ensures.unmounted)
+
+pub returns-in-TimeCode-clause-unmounted : goal.returns-in-TimeCode-clause-unmounted
+returns-in-TimeCode-clause-unmounted g c =
+    unmounted_so c.args.command (command.TimeCode c.in-TimeCode.file c.in-TimeCode.out c.in-TimeCode.options) c.time_file-in-TimeCode.result.status c.time_file-in-TimeCode.result.status _ _ c.in-TimeCode.is refl
+    (unmounted_last (words.time_code c.in-TimeCode.file.now c.in-TimeCode.out.now (options_of c.in-TimeCode.options)) c.time_file-in-TimeCode.result.status _ _ refl c.time_file-in-TimeCode.ensures.unmounted)

@@ -16,4 +16,6 @@ returns c =
     let four = c.in_ok-arg-4.ensures.shape c.option_of-4.ensures.local ∙ ap₂ with_rule three c.option_of-4.ensures.rule in
     let five = c.in_ok-arg-5.ensures.shape c.option_of-5.ensures.local ∙ ap₂ with_rule four c.option_of-5.ensures.rule in
     let six = c.in_ok-arg-6.ensures.shape c.option_of-6.ensures.local ∙ ap₂ with_rule five c.option_of-6.ensures.rule in
-    IfOk-weaker c.arg-7.result _ _ (λ r h. h.shape c.operands_of.ensures.local ∙ ap₂ with_rule six c.operands_of.ensures.rule) c.arg-7.ensures
+    let seven = c.in_ok-arg-7.ensures.shape c.option_of-7.ensures.local ∙ ap₂ with_rule six c.option_of-7.ensures.rule in
+    let eight = c.in_ok-arg-8.ensures.shape c.option_of-8.ensures.local ∙ ap₂ with_rule seven c.option_of-8.ensures.rule in
+    IfOk-weaker c.arg-9.result _ _ (λ r h. h.shape c.operands_of.ensures.local ∙ ap₂ with_rule eight c.operands_of.ensures.rule) c.arg-9.ensures

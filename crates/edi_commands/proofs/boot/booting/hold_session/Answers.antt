@@ -7,6 +7,7 @@ use Rattle.edi_commands.proofs.run.Counted.{none_falls, record_cause}
 use Rattle.edi_commands.specs.steps.NotMounted.{mount_status}
 use Rattle.edi_statuses.specs.Sessions.{session_status}
 use Rattle.edi_commands.proofs.run.Mounting.{left_on}
+use Rattle.edi_commands.proofs.run.Past.{never_at, past_so, record_past, session_past}
 use Rattle.edi_commands.proofs.run.Asked.{asked_so, record_asked, unmounted_asked}
 use Rattle.edi_commands.proofs.boot.Exits.{broke, ended_asked, ended_cause, ended_so, unmounted, with_bound}
 use Rattle.edi_commands.proofs.boot.booting.hold_session.Goals as goal
@@ -89,3 +90,20 @@ returns-clause-asked g c =
     (asked_so (session_status c.in-Ok.exit.end) c.session_status.result _ c.session_status.ensures.exact
     (ended_asked _ c.in-Ok.ensures.image c.in-Ok.exit.end))
     c.end_with_record.ensures.keeps
+
+pub returns-in-Err-clause-unmounted : goal.returns-in-Err-clause-unmounted
+returns-in-Err-clause-unmounted g c = λ at.
+    let n = c.in-Err.ensures.nothing_begun in
+    record { input = n.0; printer = n.2; kernel = n.3 }
+
+pub returns-then-ends_by_fault-clause-unmounted : goal.returns-then-ends_by_fault-clause-unmounted
+returns-then-ends_by_fault-clause-unmounted g c = λ at.
+    never_at c.session_status.result
+    (past_so (session_status c.in-Ok.exit.end) c.session_status.result c.session_status.ensures.exact (session_past c.in-Ok.exit.end)) at
+
+pub returns-clause-unmounted : goal.returns-clause-unmounted
+returns-clause-unmounted g c = λ at.
+    never_at c.end_with_record.result.status
+    (record_past (option_map (λ name. name.now) c.args.record_file) c.hold_on.new.choices c.session_status.result c.end_with_record.result.status _ _
+    (past_so (session_status c.in-Ok.exit.end) c.session_status.result c.session_status.ensures.exact (session_past c.in-Ok.exit.end))
+    c.end_with_record.ensures.keeps) at

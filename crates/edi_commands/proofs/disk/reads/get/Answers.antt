@@ -1,11 +1,11 @@
-use Rattle.std.proofs.Common.{◌≡◌, ◌∙◌, ◌++◌, Ok, Err, ap, drop, length, rules, subst, sym, take}
+use Rattle.std.proofs.Common.{◌≡◌, ◌∙◌, ◌++◌, Ok, Err, ap, drop, length, rules, subst, sym, take, true≢false}
 use Rattle.std.proofs.Math.Seq.{take-append_seam}
 use Rattle.edi_words.specs.Words.{get}
 use Rattle.edi_commands.specs.disk.OnDisk.{IsOfDisk, MeansOnDisk}
 use Rattle.edi_commands.specs.disk.OnDrive.{ReadsOn, status_kept}
-use Rattle.edi_statuses.specs.EachObject.{FitsGet}
+use Rattle.edi_statuses.specs.EachObject.{FitsGet, is_unread}
 use Rattle.edi_statuses.proofs.Told.{itself, told_so}
-use Rattle.edi_commands.proofs.disk.Counted.{kept_fits}
+use Rattle.edi_commands.proofs.disk.Counted.{kept_fits, kept_read}
 use Rattle.edi_commands.proofs.disk.GetMeans.{has_read, kept_drive, kept_failed, kept_of_disk, not_read, read_cause}
 use Rattle.edi_commands.proofs.disk.reads.get.Goals as goal
 
@@ -64,3 +64,6 @@ returns-clause-same g c =
 pub returns-clause-fits : goal.returns-clause-fits
 returns-clause-fits g c =
     subst (λ s. FitsGet s (g.D.Drive.count c.args.drive.now)) (sym c.kept.ensures.exact) (kept_fits c.keep.result _ c.in-Ok-read_on.ensures.mounted)
+
+pub returns-clause-unread : goal.returns-clause-unread
+returns-clause-unread g c = λ at. absurd (true≢false (sym at ∙ ap is_unread c.kept.ensures.exact ∙ kept_read c.keep.result))

@@ -1,16 +1,17 @@
 -- The exits of a run of a code.
-use Rattle.std.proofs.Common.{rules, ◌≡◌, ◌∙◌, ◌+◌, ◌<◌, ◌^◌, option_map, IsSome, arith, refl, sym, subst, ap}
+use Rattle.std.proofs.Common.{rules, ◌≡◌, ◌∙◌, ◌+◌, ◌<◌, ◌^◌, option_map, arith, refl, sym, subst, ap}
 use Rattle.edi_kernel.specs.declared.ends.Ending.TheVariants as ending
 use Rattle.edi_statuses.specs.Counts.{Counts, HasCause, counts_of}
 use Rattle.edi_statuses.specs.Executions.{status_of}
 use Rattle.edi_statuses.specs.Outside.{kernel_of}
 use Rattle.edi_commands.specs.steps.NotMounted.{mount_status}
-use Rattle.edi_commands.specs.run.CodeRan.{object_status}
+use Rattle.edi_statuses.specs.Executions.{object_status}
 use Rattle.edi_commands.proofs.run.Asked.{asked_so, ended_asked, failed_asked, record_asked, unmounted_asked}
 use Rattle.edi_commands.proofs.run.Left.{ending_of}
 use Rattle.edi_commands.proofs.run.Counted.{none_falls, record_cause}
 use Rattle.edi_commands.proofs.run.Endings.{unmounted, broke, ended_cause, ended_so, status_is, with_bound}
 use Rattle.edi_commands.proofs.run.Mounting.{left_on}
+use Rattle.edi_commands.proofs.run.Past.{ended_past, failed_past, never_at, past_so, record_past}
 use Rattle.edi_commands.proofs.run.code.run_code.Goals as goal
 
 pub returns-in-Err-clause-ran : goal.returns-in-Err-clause-ran
@@ -36,12 +37,11 @@ pub returns-in-Some-clause-ran : goal.returns-in-Some-clause-ran
 returns-in-Some-clause-ran g c =
     let l = c.in-Ok.ensures.leaves in
     let few : c.args.choices.now.drawn + c.from.result < 2 ^ 64 = search rules in
-    let there : IsSome c.in-Ok.ran.failed = search rules in
     with_bound c.from.result c.args.turns (search rules) _ _ _ _ _ _ _ _
     (broke c.args.code.now c.from.result c.args.choices.now c.requires.none_drawn c.in-Ok.ran.due _ _
     (left_on _ _ _ c.in-Ok.ensures.mounted l.told l.due)
     (option_map (λ name. name.now) c.args.record_file) c.object_status.result c.in-Some.object _ c.object_status.ensures.exact refl
-    (l.moment (c.in-Ok.ensures.failed.0 there) few))
+    (c.in-Ok.ensures.call c.in-Some.object c.in-Some.is few))
 
 pub returns-in-Some-clause-later : goal.returns-in-Some-clause-later
 returns-in-Some-clause-later g c =
@@ -94,3 +94,21 @@ returns-clause-asked g c =
     (status_is c.in-Ok.ran.ending c.ending_status.result c.ending_status.ensures.exact)
     (ended_asked _ (record { least = c.in-Ok.ensures.least; most = c.in-Ok.ensures.most }) (ending_of c.in-Ok.ran.ending)))
     c.end_with_record.ensures.keeps
+
+pub returns-in-Err-clause-unmounted : goal.returns-in-Err-clause-unmounted
+returns-in-Err-clause-unmounted g c = λ at.
+    let n = c.in-Err.ensures.nothing_run in
+    record { input = n.0; printer = n.2; kernel = n.3 }
+
+pub returns-in-Some-clause-unmounted : goal.returns-in-Some-clause-unmounted
+returns-in-Some-clause-unmounted g c = λ at.
+    never_at c.object_status.result
+    (past_so (object_status c.in-Some.object) c.object_status.result c.object_status.ensures.exact (failed_past c.in-Some.object)) at
+
+pub returns-clause-unmounted : goal.returns-clause-unmounted
+returns-clause-unmounted g c = λ at.
+    never_at c.end_with_record.result.status
+    (record_past (option_map (λ name. name.now) c.args.record_file) c.run_on.new.choices c.ending_status.result c.end_with_record.result.status _ _
+    (past_so (status_of (ending_of c.in-Ok.ran.ending)) c.ending_status.result
+    (status_is c.in-Ok.ran.ending c.ending_status.result c.ending_status.ensures.exact) (ended_past (ending_of c.in-Ok.ran.ending)))
+    c.end_with_record.ensures.keeps) at

@@ -1,5 +1,5 @@
 -- The exits of a watched run.
-use Rattle.std.proofs.Common.{rules, ◌≡◌, ◌∙◌, ◌+◌, ◌<◌, ◌^◌, option_map, IsSome, arith, refl, sym, subst, ap}
+use Rattle.std.proofs.Common.{rules, ◌≡◌, ◌∙◌, ◌+◌, ◌<◌, ◌^◌, option_map, arith, refl, sym, subst, ap}
 use Rattle.edi_kernel.specs.declared.ends.Ending.TheVariants as ending
 use Rattle.edi_debug.specs.Points.{watched_in}
 use Rattle.edi_statuses.specs.Counts.{Counts, HasCause, counts_of}
@@ -8,13 +8,14 @@ use Rattle.edi_statuses.specs.declared.status.Status.TheVariants as status
 use Rattle.edi_statuses.specs.Outside.{Outside, kernel_of, outside_of}
 use Rattle.edi_statuses.proofs.Silent.{nothing_seen}
 use Rattle.edi_commands.specs.steps.NotMounted.{mount_status}
-use Rattle.edi_commands.specs.run.CodeRan.{object_status}
+use Rattle.edi_statuses.specs.Executions.{object_status}
 use Rattle.edi_commands.proofs.run.Asked.{asked_so, ended_asked, failed_asked, unmounted_asked}
 use Rattle.edi_commands.proofs.run.Left.{ending_of}
 use Rattle.edi_commands.proofs.run.LogKept.{log_asked, log_cause}
 use Rattle.edi_commands.proofs.run.Counted.{none_falls}
 use Rattle.edi_commands.proofs.run.Endings.{ended_cause, status_is}
 use Rattle.edi_commands.proofs.run.Mounting.{left_on}
+use Rattle.edi_commands.proofs.run.Past.{ended_past, failed_past, log_past, never_at, past_so}
 use Rattle.edi_commands.proofs.run.WatchedEnds.{failed_so, no_log, not_mounted, watched_so, with_bound}
 use Rattle.edi_commands.proofs.run.logging.watch_program.Goals as goal
 
@@ -53,12 +54,11 @@ returns-in-Err-clause-later g c =
 pub returns-in-Some-clause-ran : goal.returns-in-Some-clause-ran
 returns-in-Some-clause-ran g c =
     let few : c.args.choices.now.drawn + c.from.result < 2 ^ 64 = search rules in
-    let there : IsSome c.in-Ok-watch_on.ran.failed = search rules in
     with_bound c.from.result c.args.turns (search rules) _ _ _ _ _ _ _ _ _ _
     (failed_so c.args.watched.now (watched_in c.args.points.now) c.from.result c.args.out.now (option_map (λ name. name.now) c.args.record_file) _ _
     c.args.choices.now c.requires.none_drawn c.in-Ok-watch_on.ran.due (left_on _ _ _ c.in-Ok-watch_on.ensures.mounted c.in-Ok-watch_on.ensures.told.0 c.in-Ok-watch_on.ensures.told.1)
     c.object_status.result c.in-Some.object _ c.object_status.ensures.exact refl
-    (λ v. (c.in-Ok-watch_on.ensures.leaves v).moment (c.in-Ok-watch_on.ensures.failed.0 there) few))
+    (λ v. c.in-Ok-watch_on.ensures.call v c.in-Some.object c.in-Some.is few))
 
 pub returns-in-Some-clause-later : goal.returns-in-Some-clause-later
 returns-in-Some-clause-later g c =
@@ -114,3 +114,25 @@ returns-clause-asked g c =
     (status_is c.in-Ok-watch_on.ran.ending c.ending_status.result c.ending_status.ensures.exact)
     (ended_asked _ (record { least = c.in-Ok-watch_on.ensures.least; most = c.in-Ok-watch_on.ensures.most }) (ending_of c.in-Ok-watch_on.ran.ending)))
     c.end_with_log.ensures.keeps
+
+pub returns-in_default-clause-unmounted : goal.returns-in_default-clause-unmounted
+returns-in_default-clause-unmounted g c = λ at. record { input = refl; printer = refl; kernel = refl }
+
+pub returns-in-Err-clause-unmounted : goal.returns-in-Err-clause-unmounted
+returns-in-Err-clause-unmounted g c = λ at.
+    let n = c.in-Err.ensures.nothing_run in
+    record { input = n.0; printer = n.2; kernel = n.3 }
+
+pub returns-in-Some-clause-unmounted : goal.returns-in-Some-clause-unmounted
+returns-in-Some-clause-unmounted g c = λ at.
+    never_at c.object_status.result
+    (past_so (object_status c.in-Some.object) c.object_status.result c.object_status.ensures.exact (failed_past c.in-Some.object)) at
+
+pub returns-clause-unmounted : goal.returns-clause-unmounted
+returns-clause-unmounted g c = λ at.
+    never_at c.end_with_log.result.status
+    (log_past c.args.out.now _ (option_map (λ name. name.now) c.args.record_file) c.watch_on.new.choices c.ending_status.result
+    c.end_with_log.result.status _ _
+    (past_so (status_of (ending_of c.in-Ok-watch_on.ran.ending)) c.ending_status.result
+    (status_is c.in-Ok-watch_on.ran.ending c.ending_status.result c.ending_status.ensures.exact) (ended_past (ending_of c.in-Ok-watch_on.ran.ending)))
+    c.end_with_log.ensures.keeps) at

@@ -1,12 +1,15 @@
 -- The exits of a walk.
-use Rattle.std.proofs.Common.{rules, ◌≡◌, ◌∙◌, IsSome, arith, refl, sym, subst, ap}
+use Rattle.std.proofs.Common.{rules, ◌≡◌, ◌∙◌, Some, arith, refl, sym, subst, ap}
 use Rattle.edi_calls.specs.declared.ends.Outside.TheVariants as object
+use Rattle.edi_told.specs.Told.{WhereTold}
 use Rattle.edi_unit.specs.View.{unit_of}
+use Rattle.edi_runs.specs.walk.Leaves.{BrokeAtCallOf}
 use Rattle.edi_walk.specs.declared.walking.WalkEnd.TheVariants as end
 use Rattle.edi_commands.specs.steps.NotMounted.{mount_status}
-use Rattle.edi_commands.specs.run.CodeRan.{object_status}
+use Rattle.edi_statuses.specs.Executions.{object_status}
 use Rattle.edi_commands.proofs.run.Asked.{asked_so, failed_asked, unmounted_asked}
 use Rattle.edi_commands.proofs.run.Mounting.{left_on}
+use Rattle.edi_commands.proofs.run.Past.{failed_past, never_at, past_so, walked_past}
 use Rattle.edi_commands.proofs.run.WalkEnds.{ended_no_fault, ended_walk_asked, failed_so, not_mounted, walked_so, with_bound}
 use Rattle.edi_commands.proofs.run.walking.walk_unit.Goals as goal
 
@@ -27,11 +30,11 @@ returns-in-Err-clause-ran g c = λ files kernel.
 pub returns-in-Some-clause-ran : goal.returns-in-Some-clause-ran
 returns-in-Some-clause-ran g c = λ files kernel.
     let l = c.in-Ok.ensures.leaves in
-    let there : IsSome c.in-Ok.walked.failed = search rules in
+    let there : c.in-Ok.walked.failed ≡ Some c.in-Some.object = search rules in
     with_bound c.from.result c.args.turns (search rules) _ _ _ _ _ _ _
     (failed_so (unit_of c.args.unit.now) c.from.result _ _ kernel c.args.choices.now c.requires.none_drawn c.in-Ok.walked.due
     (left_on _ _ _ c.in-Ok.ensures.mounted l.told l.due) refl c.object_status.result c.in-Some.object c.object_status.ensures.exact
-    c.in-Ok.walked.end c.walk_on.new.choices (c.in-Ok.ensures.failed.0 there) l.walks)
+    (subst (λ f. WhereTold _ _ (BrokeAtCallOf f (unit_of c.args.unit.now) c.from.result c.args.choices.now)) there l.broke))
 
 pub returns-clause-ran : goal.returns-clause-ran
 returns-clause-ran g c = λ files kernel.
@@ -86,3 +89,17 @@ returns-clause-later_terminal g c = c.walk_on.ensures.later.later object.Termina
 
 pub returns-clause-later_printer : goal.returns-clause-later_printer
 returns-clause-later_printer g c = c.walk_on.ensures.later.later object.Printer
+
+pub returns-in-Err-clause-unmounted : goal.returns-in-Err-clause-unmounted
+returns-in-Err-clause-unmounted g c = λ at.
+    let n = c.in-Err.ensures.nothing_done in
+    (n.0, n.2)
+
+pub returns-in-Some-clause-unmounted : goal.returns-in-Some-clause-unmounted
+returns-in-Some-clause-unmounted g c = λ at.
+    never_at c.object_status.result
+    (past_so (object_status c.in-Some.object) c.object_status.result c.object_status.ensures.exact (failed_past c.in-Some.object)) at
+
+pub returns-clause-unmounted : goal.returns-clause-unmounted
+returns-clause-unmounted g c = λ at.
+    never_at c.end_status.result (walked_past c.in-Ok.walked.end c.end_status.result c.end_status.ensures.exact) at

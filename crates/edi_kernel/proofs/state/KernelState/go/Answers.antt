@@ -2,7 +2,7 @@
 use Rattle.std.proofs.Common.{◌≡◌, ap, None, subst, sym, ◌∙◌}
 use Rattle.edi_told.proofs.Told.{WhereTold-map}
 use Rattle.edi_kernel.specs.declared.state.KernelState.{KernelState}
-use Rattle.edi_kernel.proofs.Going.{mid_of, few_marks, stays_kernel, goes_all}
+use Rattle.edi_kernel.proofs.Going.{mid_of, few_marks, stays_kernel, goes_all, breaks_all}
 use Rattle.edi_kernel.specs.Table.{no_marks, ready_slots}
 use Rattle.edi_kernel.proofs.Placing.{ready_if, stands_same}
 use Rattle.edi_kernel.proofs.state.KernelState.go.Goals as goal
@@ -49,3 +49,15 @@ returns-clause-standing g c =
     (ap ready_slots c.unmark_if.ensures ∙ ready_if c.walk-pause.new.progress.cleared c.walk-pause.new.self.table ∙ ap (λ (k : KernelState). ready_slots k.table)
     c.walk-pause.ensures.same)
     c.handle.ensures.standing
+
+pub returns-clause-asked : goal.returns-clause-asked
+returns-clause-asked g c =
+    WhereTold-map _ _ _ _
+    (breaks_all c.args.code.now.words c.args.self.now (record c.walk-pause.new.self { table = c.unmark_if.new.self; taken = None })
+    c.handle.new.self c.unwrap-slot.result c.args.left c.walk-pause.new.progress.left
+    c.walk-pause.new.progress.activity c.walk-pause.new.progress.cleared c.walk-pause.result c.handle.result _ c.requires.kernel c.unwrap-slot.ensures
+    (mid_of c.args.self.now c.walk-pause.new.self c.unmark_if.new.self c.unwrap-slot.result c.walk-pause.new.progress.cleared c.requires.kernel
+    c.unwrap-slot.ensures (ap (λ (k : KernelState). k.table) c.walk-pause.ensures.same) c.unmark_if.ensures)
+    c.handle.ensures.taken c.walk-pause.ensures.less c.walk-pause.ensures.ordered c.walk-pause.ensures.allowed c.handle.ensures.exact
+    (g.C.Calls.failed c.walk-pause.new.calls) c.walk-pause.ensures.asked)
+    c.walk-pause.ensures.exact

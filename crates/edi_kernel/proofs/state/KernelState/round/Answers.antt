@@ -1,7 +1,7 @@
 -- A round of the kernel is one of the machine.
 use Rattle.std.proofs.Common.{◌+◌, ◌-◌, ◌∙◌, sym, refl, arith}
 use Rattle.edi_kernel.proofs.Named.{told_goes_to}
-use Rattle.edi_kernel.proofs.Rounds.{told_round_ends, told_round_goes, holds_same, keeps_unready}
+use Rattle.edi_kernel.proofs.Rounds.{told_round_breaks, told_round_ends, told_round_goes, told_unready, holds_same, keeps_unready}
 use Rattle.edi_kernel.proofs.Placing.{stands_at_end, stands_unready}
 use Rattle.edi_kernel.proofs.state.KernelState.round.Goals as goal
 
@@ -35,3 +35,19 @@ pub returns-clause-standing : goal.returns-clause-standing
 returns-clause-standing g c =
     stands_unready c.go-end.result _ _ c.proceed.result (record c.go-end.new.self { used = c.go-end.new.self.used + c.used_in.result }) c.proceed.new.self
     (sym c.ended_by.ensures ∙ c.in_default.is) c.proceed.ensures.nobody c.go-end.ensures.standing
+
+pub returns-in-Some-clause-asked : goal.returns-in-Some-clause-asked
+returns-in-Some-clause-asked g c =
+    told_round_breaks c.args.code.now.words c.args.bound c.args.self.now c.go-end.new.self
+    (record c.go-end.new.self { used = c.go-end.new.self.used + c.used_in.result }) c.args.choices.now
+    (c.args.bound - c.args.self.now.used) c.go-end.result _ _
+    (omega (arith, c.go-end.ensures.turns, c.used_in.ensures, c.go-end.ensures.used, c.requires.used)) refl (g.C.Calls.failed c.go-end.new.calls)
+    c.in-Some.ending (sym c.in-Some.ensures) c.go-end.ensures.asked
+
+pub returns-clause-asked : goal.returns-clause-asked
+returns-clause-asked g c =
+    told_unready c.args.code.now.words c.args.bound c.args.self.now c.go-end.new.self c.proceed.new.self c.args.choices.now
+    (c.args.bound - c.args.self.now.used) c.go-end.result _ _
+    (omega (arith, c.go-end.ensures.turns, c.used_in.ensures, c.go-end.ensures.used, c.requires.used, c.proceed.ensures.turns)) c.proceed.ensures.store
+    (g.C.Calls.failed c.go-end.new.calls) c.proceed.result c.proceed.new.choices
+    (record c.go-end.new.self { used = c.go-end.new.self.used + c.used_in.result }) c.proceed.new.self c.proceed.ensures.nobody c.go-end.ensures.asked

@@ -1,7 +1,7 @@
 -- A run of the kernel is the machine's.
 use Rattle.std.proofs.Common.{refl, ap, arith, ◌∙◌, false}
 use Rattle.std.specs.Prelude.{is_some}
-use Rattle.edi_kernel.proofs.Rounds.{told_never, told_begins, told_ends, told_more, told_stands, nothing_told}
+use Rattle.edi_kernel.proofs.Rounds.{told_never, told_begins, told_ends, told_faults, told_more, told_stands, nothing_told}
 use Rattle.edi_kernel.proofs.Stretches.{lasts_on}
 use Rattle.edi_kernel.proofs.state.KernelState.run.Goals as goal
 
@@ -59,3 +59,14 @@ rounds-preserved g c = record {
       c.rounds.invariant.source (c.rounds.invariant.exact small)
       (c.in_default.ensures.exact (omega (arith, small, c.rounds.invariant.drawn, c.rounds.invariant.used)));
 }
+
+pub returns-then-bound-eq0-clause-asked : goal.returns-then-bound-eq0-clause-asked
+returns-then-bound-eq0-clause-asked g c = λ small. nothing_told (g.C.Calls.state c.args.calls.now)
+
+pub returns-in-Some-clause-asked : goal.returns-in-Some-clause-asked
+returns-in-Some-clause-asked g c =
+    λ small.
+    told_faults c.args.code.now c.args.bound c.args.choices.now (g.C.Calls.failed c.round.new.calls) (g.C.Calls.state c.args.calls.now)
+    (g.C.Calls.state c.rounds.calls)
+    (g.C.Calls.state c.round.new.calls) c.rounds.self c.round.new.self c.rounds.choices c.round.new.choices c.in-Some.ending
+    c.rounds.invariant.source c.round.ensures.used (c.rounds.invariant.exact small) c.in-Some.ensures.asked

@@ -1,7 +1,7 @@
 -- A stint of the kernel is one of the machine.
 use Rattle.std.proofs.Common.{refl, arith, false}
 use Rattle.edi_kernel.proofs.Named.{told_goes_to}
-use Rattle.edi_kernel.proofs.Stinting.{told_stint, told_names}
+use Rattle.edi_kernel.proofs.Stinting.{told_breaks, told_stint, told_names}
 use Rattle.edi_kernel.proofs.state.KernelState.stint.Goals as goal
 
 pub returns-clause-exact : goal.returns-clause-exact
@@ -17,3 +17,10 @@ returns-clause-names g c =
     (record c.go.new.self { used = c.saturating_add-self.result }) c.args.turns_left c.entry_turns-entry.result c.go.result
     refl refl refl refl refl refl refl refl _ _ c.later_by-end.result c.later_by-end.ensures.exact c.entry_turns-entry.ensures
     (omega (arith, c.if-turns_left-entry.false)) c.go.ensures.exact
+
+pub returns-clause-asked : goal.returns-clause-asked
+returns-clause-asked g c =
+    told_breaks c.args.code.now c.args.self.now (record c.args.self.now { entering = false }) c.go.new.self
+    (record c.go.new.self { used = c.saturating_add-self.result }) c.args.turns_left c.entry_turns-entry.result c.go.result
+    refl refl refl refl refl refl refl refl _ _ c.later_by-end.result c.later_by-end.ensures.exact (g.C.Calls.failed c.go.new.calls)
+    c.entry_turns-entry.ensures (omega (arith, c.if-turns_left-entry.false)) c.go.ensures.asked

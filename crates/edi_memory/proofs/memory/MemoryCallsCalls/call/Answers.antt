@@ -14,7 +14,7 @@ returns-in-Some-clause-exact c =
     let after = state_of c.step.new.self in
     let result = call c.args.number c.args.args.now before in
     let reached : Reaches result (Ok (Some c.in-Some.word)) before after =
-    subst (λ w. Reaches result (Ok w) before after) c.in-Some.is c.in-Ok.ensures in
+    subst (λ w. Reaches result (Ok w) before after) c.in-Some.is c.in-Ok.ensures.exact in
     let count : 1 ≡ answer_words c.args.number =
     reached_count result (answer_words c.args.number) (Some c.in-Some.word) before after
     (leaves c.args.number c.args.args.now before c.requires.from c.requires.to) reached in

@@ -16,5 +16,8 @@ returns-in-Some c =
     let reached : Reaches (remove_as c.in-Some.title.items before) (Ok (Some (word_of c.remove_titled.result))) before after =
     subst (λ t. Reaches (remove_as t before) (Ok (Some (word_of c.remove_titled.result))) before after)
     c.deref.ensures.value c.remove_titled.ensures in
-    removed c.args.words.now c.in-Some.title.items before after c.from.result named
-    (subst (λ w. Reaches (remove_as c.in-Some.title.items before) (Ok (Some w)) before after) (sym word) reached)
+    record {
+      exact = removed c.args.words.now c.in-Some.title.items before after c.from.result named
+          (subst (λ w. Reaches (remove_as c.in-Some.title.items before) (Ok (Some w)) before after) (sym word) reached);
+      used = tt;
+    }

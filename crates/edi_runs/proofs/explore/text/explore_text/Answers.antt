@@ -5,14 +5,22 @@ use Rattle.edi_runs.proofs.explore.Explored.{exploration, unit_code}
 use Rattle.edi_runs.proofs.explore.text.explore_text.Goals as goal
 
 pub returns : goal.returns
-returns c = record {
+returns g c = record {
   explored = λ text unit front same.
       let e = c.in_ok-report.ensures in
       let r = c.in_ok-report.report in
       let is = unit_code unit c.args.code.now same in
       let few : r.states ≤ suc c.args.limits.states = omega (arith, e.few) in
-      exploration text unit front.unit_is c.args.input.now c.args.limits.states c.args.limits.turns r.verdict r.states r.found.items r.cut.items
-      (e.recorded unit front.can is) (e.good unit front.can is)
+      exploration text unit front.unit_is c.args.input.now c.args.limits.states c.args.limits.turns c.args.limits.shown r.verdict r.states r.found.items
+      r.cut.items (e.recorded unit front.can is) (e.good unit front.can is)
       (subst (λ (code : CodeParts). AllTellWaits code c.args.input.now r.found.items) same e.waits) e.distinct (e.all unit front.can is)
-      (e.below unit front.can is) e.full few (e.cause unit front.can is);
+      (e.below unit front.can is)
+      (record {
+        all = λ asks. e.all_shown asks unit front.can is;
+        below = λ asks moves up. e.below_shown asks unit front.can is moves up;
+        many = e.many;
+        few = e.few_found;
+      })
+      e.full few (e.cause unit front.can is);
+  watches = c.in_ok-report.ensures.watches;
 }

@@ -1,10 +1,11 @@
-use Rattle.std.proofs.Common.{subst, ◌∙◌}
+use Rattle.std.proofs.Common.{◌≡◌, subst, ◌∙◌}
 use Rattle.edi_unit.specs.View.{unit_of}
 use Rattle.edi_system.proofs.Chained.{behind_none, keeps_on, keeps_told_on, told_behind, told_then}
 use Rattle.edi_system.proofs.Lasting.{valid_ready}
 use Rattle.edi_execute.proofs.Executing.{run_keeps}
-use Rattle.edi_walk.specs.Ends.{WalksTo}
-use Rattle.edi_runs.proofs.walk.Walking.{blamed, named}
+use Rattle.edi_system.specs.State.{failed_in}
+use Rattle.edi_walk.specs.Ends.{WalkFaultsBy, WalksTo}
+use Rattle.edi_runs.proofs.walk.Walking.{blamed, failed_so, named}
 use Rattle.edi_runs.proofs.walk.execution.walk_execution.Goals as goal
 
 pub returns-clause-exact : goal.returns-clause-exact
@@ -12,6 +13,14 @@ returns-clause-exact g c =
     told_then _ _ _ _ _ _
     (λ x y z same walks. subst (λ s. WalksTo (unit_of c.args.unit.now) s c.args.bound c.args.choices.now c.walk.result z c.walk.new.choices) same walks)
     c.begin_program.ensures.exact c.walk.ensures.exact
+
+pub returns-clause-asked : goal.returns-clause-asked
+returns-clause-asked g c =
+    told_then _ _ _ _ _ _
+    (λ x y z same faults. subst
+    (λ s. WalkFaultsBy (λ o. failed_in c.walk.new.calls ≡ o) (unit_of c.args.unit.now) s c.args.bound c.args.choices.now c.walk.result z c.walk.new.choices) same
+    (failed_so _ (λ o. failed_in c.walk.new.calls ≡ o) _ _ _ _ c.walk.result _ _ (λ o h. h.is) faults))
+    c.begin_program.ensures.exact c.walk.ensures.asked
 
 pub returns-clause-failed : goal.returns-clause-failed
 returns-clause-failed g c = named g.D.Drive.contents g.D.Drive.count c.walk.new.calls _ _ c.walk.result c.walk.ensures.blame

@@ -1,12 +1,15 @@
-use Rattle.std.proofs.Common.{subst, ◌∙◌}
+use Rattle.std.proofs.Common.{refl, subst, sym, ◌∙◌}
+use Rattle.std.specs.Prelude.{IsSome}
 use Rattle.edi_calls.specs.State.{State, fresh}
 use Rattle.edi_scheme.specs.Laws.{parts_of}
-use Rattle.edi_execute.specs.Execution.{IsAtMoment}
+use Rattle.edi_kernel.specs.Runs.{FaultsBy}
+use Rattle.edi_system.specs.AsCalls.{HasFailed}
+use Rattle.edi_execute.specs.Execution.{IsAtCall, IsAtMoment}
 use Rattle.edi_runs.specs.watch.Watchable.{IsWhole}
 use Rattle.edi_system.proofs.Chained.{behind_none, keeps_on, keeps_told_on, told_behind, told_then}
 use Rattle.edi_system.proofs.Lasting.{valid_ready}
 use Rattle.edi_system.proofs.Told.{told_map}
-use Rattle.edi_execute.proofs.Executing.{at_moment, blamed, named, run_keeps, still_ready}
+use Rattle.edi_execute.proofs.Executing.{at_call, at_moment, blamed, named, run_keeps, still_ready}
 use Rattle.edi_debug.specs.Points.{watched_in}
 use Rattle.edi_debug.specs.stops.Underway.{Ended}
 use Rattle.edi_runs.proofs.watch.execution.watch_execution.Goals as goal
@@ -34,6 +37,22 @@ returns-clause-moment g c = λ fault few.
 
 pub returns-clause-failed : goal.returns-clause-failed
 returns-clause-failed g c = named g.D.Drive.contents g.D.Drive.count c.watch.new.calls _ _ c.watch.result c.watch.ensures.blame
+
+pub returns-clause-call : goal.returns-clause-call
+returns-clause-call g c = λ outside is few.
+    let fault = (returns-clause-failed g c).0 (subst IsSome (sym is) refl) in
+    let Asks : State → State → Type 0 = λ s t. (whole : IsWhole c.args.watched.now) →
+    FaultsBy (λ o. HasFailed g.D.Drive.contents g.D.Drive.count c.watch.new.calls o) (parts_of whole.unit) (fresh s) c.args.bound c.args.choices.now
+    c.watch.result c.watch.new.kernel.used t c.watch.new.choices in
+    let At : State → State → Type 0 = λ s t. (whole : IsWhole c.args.watched.now) →
+    IsAtCall (parts_of whole.unit) (fresh s) c.args.bound c.args.choices.now outside t in
+    told_map Asks At _ _
+    (λ x z asks whole. at_call g.D.Drive.contents g.D.Drive.count c.watch.new.calls (parts_of whole.unit) (fresh x) c.args.bound c.args.choices.now
+    c.watch.result c.watch.new.kernel.used z c.watch.new.choices outside fault is (asks whole))
+    (told_then _ _ Asks _ _ _
+    (λ x y z same asks whole. subst (λ s. FaultsBy (λ o. HasFailed g.D.Drive.contents g.D.Drive.count c.watch.new.calls o) (parts_of whole.unit) s
+    c.args.bound c.args.choices.now c.watch.result c.watch.new.kernel.used z c.watch.new.choices) same (asks whole.unit whole.resolved whole.mapped))
+    c.begin_program.ensures.exact (c.watch.ensures.asked few))
 
 pub returns-clause-ready : goal.returns-clause-ready
 returns-clause-ready g c = still_ready g.D.Drive.contents g.D.Drive.count c.watch.new.calls _ _ c.watch.result c.watch.ensures.blame

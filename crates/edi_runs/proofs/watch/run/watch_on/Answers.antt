@@ -1,12 +1,12 @@
-use Rattle.std.proofs.Common.{◌≡◌, ◌<◌, ◌+◌, ◌^◌, ap, arith, rules, subst}
+use Rattle.std.proofs.Common.{◌≡◌, ◌∙◌, ◌<◌, ◌+◌, ◌^◌, ap, arith, rules, subst, sym}
 use Rattle.edi_calls.specs.State.{State, fresh}
-use Rattle.edi_execute.specs.Execution.{IsAtMoment}
+use Rattle.edi_execute.specs.Execution.{IsAtCall, IsAtMoment}
 use Rattle.edi_debug.specs.stops.Underway.{Ended}
 use Rattle.edi_disk.specs.Shown.{drive_of}
 use Rattle.edi_scheme.specs.Laws.{parts_of}
 use Rattle.edi_system.proofs.Told.{told_map}
 use Rattle.edi_execute.specs.Objects.{system_on}
-use Rattle.edi_execute.proofs.Runs.{mounted_run, none_falls, on_objects, only_read, run_leaves}
+use Rattle.edi_execute.proofs.Runs.{call_leaves, mounted_run, none_falls, on_objects, only_read, run_leaves}
 use Rattle.edi_debug.specs.Points.{watched_in}
 use Rattle.edi_runs.specs.watch.Logs.{IsLogOf}
 use Rattle.edi_runs.specs.watch.Watchable.{IsWhole}
@@ -35,6 +35,22 @@ returns-clause-leaves g c = λ whole.
     (λ few. told_map Ends _ _ _ (λ s t ended. (ended whole).ran) (c.watch_execution-ending.ensures.exact few))
     (λ fault few. told_map At _ _ _ (λ s t at. at whole) (c.watch_execution-ending.ensures.moment fault few))
     c.due.ensures.exact c.watch_execution-ending.ensures.told c.watch_execution-ending.ensures.due
+
+pub returns-clause-call : goal.returns-clause-call
+returns-clause-call g c = λ whole outside is few.
+    let At : State → State → Type 0 = λ s t. (whole : IsWhole c.args.watched.now) →
+    IsAtCall (parts_of whole.unit) (fresh s) c.args.bound c.args.choices.now outside t in
+    call_leaves g.D.Drive.contents g.S.Source.left g.T.Sink.taken g.P.Sink.taken c.new-system.result c.watch_execution-ending.new.system _ _
+    (record {
+      drive = only_read g.D.Drive.contents (drive_of c.attach-disk.result) (drive_of c.check.new.disk) _ _ _ c.in-Ok-check.ensures.leaves
+          (search rules) (search rules);
+      input = search rules;
+      terminal = search rules;
+      printer = search rules;
+    })
+    (record { drive = search rules; input = search rules; terminal = search rules; printer = search rules })
+    (parts_of whole.unit) c.args.bound c.args.choices.now outside
+    (told_map At _ _ _ (λ s t at. at whole) (c.watch_execution-ending.ensures.call outside (sym c.failed.ensures.exact ∙ is) few))
 
 pub returns-clause-logs : goal.returns-clause-logs
 returns-clause-logs g c = λ unfailed none empty few text is.

@@ -32,7 +32,8 @@ returns-in-Ok-explore_program-clause-came g c =
     c.in-Ok.ensures.only.unchanged c.in-Ok.program gives (g.S.Source.left c.args.input.now) (g.S.Source.left c.input_of.new.input)
     (g.T.Sink.taken c.args.terminal.now) (lent k.store k.used l.store l.used) c.in-Ok-input_of.given c.in-Ok-input_of.ensures.takes
     c.deref.result.now c.deref.ensures.value c.in-Ok-explore_program.explored
-    (subst (λ (n : ℕ). IsExplored gives.0 c.deref.result.now (exploring_of c.args.options).states n (exploring_of c.args.options).record_file
+    (subst (λ (n : ℕ). IsExplored gives.0 c.deref.result.now (exploring_of c.args.options).states n (exploring_of c.args.options).shown
+    (exploring_of c.args.options).record_file
     c.in-Ok-explore_program.explored) c.from.ensures (c.in-Ok-explore_program.ensures.finds gives.0 gives.2.0 gives.2.1))
     (g.F.Files.contents c.end_exploration.new.files)
     (g.T.Sink.taken c.end_exploration.new.terminal) c.end_exploration.result c.end_exploration.ensures.ends
