@@ -1,2 +1,3 @@
 -- Helper. The files of `on`.
 pub mod Timelines
+pub mod Laws

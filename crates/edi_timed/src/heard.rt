@@ -12,7 +12,7 @@ use edi_timeline::Said;
 
 /// The calls of another object. Of what they show the first seven characters are kept.
 pub struct Heard<C> {
-    calls: C,
+    pub(crate) calls: C,
     said: Said,
 }
 

@@ -1,5 +1,7 @@
-//! A run with its timeline, on a system. Which timeline is that of a text, and of a code, is `IsTimelineOf` (`specs/on/Timelines`).
+//! A run with its timeline, on a system, and on a drive. Which timeline is that of a text, and of a code, is `IsTimelineOf` (`specs/on/Timelines`).
 
 mod execution;
+pub mod laws;
+mod run;
 
-pub use execution::time_execution;
+pub use run::time_on;
