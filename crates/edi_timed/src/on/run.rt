@@ -10,7 +10,7 @@ ghost use Rattle.edi_system.specs.Parts.{IsValid};
 ghost use Rattle.edi_execute.specs.Objects.{FailedIs, NoneFalls, RunLeaves, contents_of, faults_in, objects, system_on};
 ghost use Rattle.edi_timed.specs.on.Timelines.{IsOf, IsTimelineOf, Timable};
 
-use crate::Heard;
+use crate::heard::{Heard, NOTHING};
 use crate::on::execution::time_heard;
 use edi_catalog::{MountFault, check, mount};
 use edi_disk::Disk;
@@ -77,12 +77,16 @@ pub fn time_on<D: Drive, S: Source, T: Sink, P: Sink>(
         Err(fault) => return Err(fault),
     };
     let catalog = mount(disk, &mut room);
-    let mut heard = Heard::new(System::new(catalog, input, terminal, printer, &mut buffer));
+    let system = System::new(catalog, input, terminal, printer, &mut buffer);
+    let mut heard = Heard {
+        calls: system,
+        said: NOTHING,
+    };
     let ending = time_heard(kernel, code, &mut heard, bound, choices, timeline);
-    let system = heard.into_calls();
+    let Heard { calls, said: _ } = heard;
     Ok(Ran {
         ending,
-        failed: system.failed(),
-        due: system.due(),
+        failed: calls.failed(),
+        due: calls.due(),
     })
 }
