@@ -10,8 +10,7 @@ ghost use Rattle.edi_system.specs.Parts.{IsValid};
 ghost use Rattle.edi_execute.specs.Objects.{FailedIs, NoneFalls, RunLeaves, contents_of, faults_in, objects, system_on};
 ghost use Rattle.edi_timed.specs.on.Timelines.{IsOf, IsTimelineOf, Timable};
 
-use crate::heard::{Heard, NOTHING};
-use crate::on::execution::time_heard;
+use crate::on::execution::time_execution;
 use edi_catalog::{MountFault, check, mount};
 use edi_disk::Disk;
 use edi_execute::Ran;
@@ -77,16 +76,11 @@ pub fn time_on<D: Drive, S: Source, T: Sink, P: Sink>(
         Err(fault) => return Err(fault),
     };
     let catalog = mount(disk, &mut room);
-    let system = System::new(catalog, input, terminal, printer, &mut buffer);
-    let mut heard = Heard {
-        calls: system,
-        said: NOTHING,
-    };
-    let ending = time_heard(kernel, code, &mut heard, bound, choices, timeline);
-    let Heard { calls, said: _ } = heard;
+    let mut system = System::new(catalog, input, terminal, printer, &mut buffer);
+    let ending = time_execution(kernel, code, &mut system, bound, choices, timeline);
     Ok(Ran {
         ending,
-        failed: calls.failed(),
-        due: calls.due(),
+        failed: system.failed(),
+        due: system.due(),
     })
 }
