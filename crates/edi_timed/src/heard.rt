@@ -13,11 +13,11 @@ use edi_timeline::Said;
 /// The calls of another object. Of what they show the first seven characters are kept.
 pub struct Heard<C> {
     pub(crate) calls: C,
-    said: Said,
+    pub(crate) said: Said,
 }
 
 /// Nothing was shown.
-const NOTHING: Said = Said {
+pub(crate) const NOTHING: Said = Said {
     characters: [0; 7],
     many: 0,
 };

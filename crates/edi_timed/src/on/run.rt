@@ -10,8 +10,7 @@ ghost use Rattle.edi_system.specs.Parts.{IsValid};
 ghost use Rattle.edi_execute.specs.Objects.{FailedIs, NoneFalls, RunLeaves, contents_of, faults_in, objects, system_on};
 ghost use Rattle.edi_timed.specs.on.Timelines.{IsOf, IsTimelineOf, Timable};
 
-use crate::Heard;
-use crate::on::execution::time_heard;
+use crate::on::execution::time_execution;
 use edi_catalog::{MountFault, check, mount};
 use edi_disk::Disk;
 use edi_execute::Ran;
@@ -77,9 +76,8 @@ pub fn time_on<D: Drive, S: Source, T: Sink, P: Sink>(
         Err(fault) => return Err(fault),
     };
     let catalog = mount(disk, &mut room);
-    let mut heard = Heard::new(System::new(catalog, input, terminal, printer, &mut buffer));
-    let ending = time_heard(kernel, code, &mut heard, bound, choices, timeline);
-    let system = heard.into_calls();
+    let mut system = System::new(catalog, input, terminal, printer, &mut buffer);
+    let ending = time_execution(kernel, code, &mut system, bound, choices, timeline);
     Ok(Ran {
         ending,
         failed: system.failed(),
