@@ -1,13 +1,14 @@
 //! A run with its timeline, on a system.
 
-ghost use Rattle.std.specs.Prelude.{◌≡◌, ◌≤◌, ◌<◌, ◌+◌, ◌^◌, ◌↔◌, [], IsSome};
+ghost use Rattle.std.specs.Prelude.{◌≡◌, ◌≤◌, ◌<◌, ◌+◌, ◌^◌, ◌↔◌, [], IsSome, Some};
 ghost use Rattle.edi_told.specs.Told.{WhereTold};
+ghost use Rattle.edi_calls.specs.declared.ends.Outside.{Outside};
 ghost use Rattle.edi_calls.specs.State.{fresh};
 ghost use Rattle.edi_system.specs.AsCalls.{KeepsDue};
 ghost use Rattle.edi_system.specs.Ends.{Keeps};
 ghost use Rattle.edi_system.specs.Parts.{KeepsTold};
 ghost use Rattle.edi_system.specs.State.{drive_in, failed_in, state_of, IsReady};
-ghost use Rattle.edi_execute.specs.Execution.{is_fault_ending, IsAtMoment};
+ghost use Rattle.edi_execute.specs.Execution.{is_fault_ending, IsAtCall, IsAtMoment};
 ghost use Rattle.edi_timed.specs.Timed.{Timed};
 
 use crate::lent::timed_lent;
@@ -36,6 +37,10 @@ pub(crate) fn time_execution<D: Drive, S: Source, T: Sink, P: Sink>(
     ensures moment { result ≡ Ending.Fault → choices.old.drawn + bound < 2 ^ 64
         → WhereTold (state_of D.contents S.left T.taken P.taken system.old) (state_of D.contents S.left T.taken P.taken system.new)
         (λ before after. IsAtMoment code.now (fresh before) bound choices.old after) }
+    // It is the one before the call that failed, or the one that this call was to leave; and the call uses the object that has failed.
+    ensures call { (outside : Outside) → failed_in system.new ≡ Some outside → choices.old.drawn + bound < 2 ^ 64
+        → WhereTold (state_of D.contents S.left T.taken P.taken system.old) (state_of D.contents S.left T.taken P.taken system.new)
+        (λ before after. IsAtCall code.now (fresh before) bound choices.old outside after) }
     ensures failed { IsSome (failed_in system.new) ↔ (result ≡ Ending.Fault) }
     ensures due { KeepsDue T.taken system.old system.new }
     ensures told { KeepsTold D.contents S.left T.taken P.taken system.old system.new }

@@ -5,7 +5,7 @@ use Rattle.edi_system.specs.State.{drive_in, failed_in}
 use Rattle.edi_system.proofs.Told.{told_map}
 use Rattle.edi_execute.specs.Execution.{is_fault_ending}
 use Rattle.edi_execute.specs.Objects.{objects, system_on}
-use Rattle.edi_execute.proofs.Runs.{mounted_run, none_falls, on_objects, only_read, run_leaves}
+use Rattle.edi_execute.proofs.Runs.{call_leaves, mounted_run, none_falls, on_objects, only_read, run_leaves}
 use Rattle.edi_timed.specs.Timed.{Timed}
 use Rattle.edi_timed.specs.on.Timelines.{IsTimelineOf}
 use Rattle.edi_timed.proofs.on.Blamed.{failed_is}
@@ -95,3 +95,16 @@ pub returns-clause-most : goal.returns-clause-most
 returns-clause-most g c =
     let same : c.args.drive.now ≡ drive_of c.attach-disk.result = search rules in
     omega (arith, c.in-Ok-check.ensures.checked.most, c.check.ensures.count, ap g.D.Drive.count same)
+
+pub returns-clause-call : goal.returns-clause-call
+returns-clause-call g c = λ outside is few.
+    call_leaves g.D.Drive.contents g.S.Source.left g.T.Sink.taken g.P.Sink.taken c.new-system.result c.time_execution-ending.new.system _ _
+    (record {
+      drive = only_read g.D.Drive.contents (drive_of c.attach-disk.result) (drive_of c.check.new.disk) _ _ _ c.in-Ok-check.ensures.leaves
+          (search rules) (search rules);
+      input = search rules;
+      terminal = search rules;
+      printer = search rules;
+    })
+    (record { drive = search rules; input = search rules; terminal = search rules; printer = search rules })
+    c.args.code.now c.args.bound c.args.choices.now outside (c.time_execution-ending.ensures.call outside (sym c.failed.ensures.exact ∙ is) few)
