@@ -113,13 +113,13 @@ module _ (b m : Outside) (y : Option (List ℕ)) (still : StillTold m.shown y) w
   time_is file out options shown kernel =
       let r = timed_later_by b m y still (RunSteps before_ file options.choices) (RunSteps seen_later file options.choices) (λ v. text v.0) (λ v. v.1)
       options.turns out options.record_file shown kernel (run_later b m y still file options.choices) in
-      record { comes = r.comes; wants = r.wants; files = r.files; drive = r.broke; input = r.broke; output = r.broke }
+      record { comes = r.comes; wants = r.wants; files = r.files; drive = r.broke status.DriveFault; input = r.broke status.InputFault; output = r.broke status.OutputFault }
 
   time_code_is : (file out : List ℕ) (options : Options) (shown : List ℕ) (kernel : Lent) → Later (words.time_code file out options) shown kernel
   time_code_is file out options shown kernel =
       let r = timed_later_by b m y still (ExecSteps before_ file options.choices) (ExecSteps seen_later file options.choices) (λ v. code v.0) (λ v. v.1)
       options.turns out options.record_file shown kernel (exec_later b m y still file options.choices) in
-      record { comes = r.comes; wants = r.wants; files = r.files; drive = r.broke; input = r.broke; output = r.broke }
+      record { comes = r.comes; wants = r.wants; files = r.files; drive = r.broke status.DriveFault; input = r.broke status.InputFault; output = r.broke status.OutputFault }
 
   watch_is : (file points_file out : List ℕ) (options : Options) (shown : List ℕ) (kernel : Lent) → Later (words.watch file points_file out options) shown kernel
   watch_is file points_file out options shown kernel =

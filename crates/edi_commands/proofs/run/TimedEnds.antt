@@ -7,7 +7,7 @@ use Rattle.edi_calls.specs.declared.ends.Outside.TheVariants as object
 use Rattle.edi_calls.specs.Choice.{Choices}
 use Rattle.edi_calls.specs.Outcome as outcome
 use Rattle.edi_execute.specs.Objects as execute
-use Rattle.edi_execute.specs.Objects.{HasRun, StandsAtMoment}
+use Rattle.edi_execute.specs.Objects.{HasRun, StandsAtCall}
 use Rattle.edi_host.specs.declared.files.KeepEnd.{KeepEnd}
 use Rattle.edi_host.specs.declared.files.KeepEnd.TheVariants as keep
 use Rattle.edi_image.specs.declared.faults.MountFault.{MountFault}
@@ -24,20 +24,21 @@ use Rattle.edi_statuses.specs.declared.status.Status.{Status}
 use Rattle.edi_statuses.specs.declared.status.Status.TheVariants as status
 use Rattle.edi_statuses.specs.Counts.{Counts, HasCause}
 use Rattle.edi_statuses.specs.Outside.{Kept, Outside, seen, system_on, SameFiles, Lent}
-use Rattle.edi_statuses.specs.Executions.{Runnable, text, code, HasCode, BrokeRun, status_of}
+use Rattle.edi_statuses.specs.Executions.{Runnable, text, code, HasCode, BrokeRun, object_status, status_of}
 use Rattle.edi_statuses.specs.Commands.{IsNothing}
 use Rattle.edi_statuses.specs.Explored.{KeepsFirst, LosesNext}
 use Rattle.edi_statuses.specs.Timelines.{HasTimed, IsTimeline, KeepsAll, TimedInPart, TimedLost, Times, timable, timed_files}
 use Rattle.edi_statuses.proofs.EachLeft.{each_same}
 use Rattle.edi_statuses.proofs.Told.{same_told, still, shows_nothing, told_so}
 use Rattle.edi_commands.specs.steps.NotMounted.{mount_status}
-use Rattle.edi_commands.specs.run.CodeRan.{ending_status, object_status}
+use Rattle.edi_commands.specs.run.CodeRan.{ending_status}
 use Rattle.edi_commands.specs.run.OnMounted.{DriveAsked, OnMounted}
 use Rattle.edi_commands.specs.run.OnTimed.{OnTimed, ProgramTimed, RanTimed, timed_status}
 use Rattle.edi_commands.proofs.run.Asked.{asked_so}
 use Rattle.edi_commands.proofs.run.Endings.{broke_run, has_ran, status_is}
 use Rattle.edi_commands.proofs.run.Left.{devices_told, ending_of, told_by, IsNoFault}
 use Rattle.edi_commands.proofs.run.Mounting.{IsLeft, IsUnmounted, left_due, left_each, left_shows, mounts, shown_in, unmounted_by, unmounted_each}
+use Rattle.edi_commands.proofs.run.Past.{IsPast, past_so}
 use Rattle.edi_commands.proofs.run.TimedKept.{lost_timed, some_timed}
 use Rattle.edi_commands.proofs.text.ManyNames.{all_kept, keeps_first, loses_next}
 
@@ -83,7 +84,7 @@ module _ (parts : CodeParts) (bound : ℕ) (out : List ℕ) (name : Option (List
     shown = [];
     ran = λ program of.
         let x : Outside = seen before after in
-        let broken : Type 0 = BrokeRun program bound choices x after [] in
+        let broken : Type 0 = BrokeRun (mount_status why) program bound choices x after [] in
         let wants : Type 0 = TimedInPart program bound choices out name x after [] kernel in
         let lost : Type 0 = TimedLost program bound choices out name x after [] kernel in
         let comes : Status → Type 0 = λ end. Times program bound choices out name end x after [] kernel in
@@ -100,7 +101,7 @@ module _ (parts : CodeParts) (bound : ℕ) (out : List ℕ) (name : Option (List
     shown_now = shown_in due before after
 
     broke_timed : (program : Runnable) (failed : failing.Outside) (kernel : Lent) → SameFiles (seen before after) after
-        → BrokeRun program bound old.source (seen before after) after shown_now
+        → BrokeRun (object_status failed) program bound old.source (seen before after) after shown_now
         → ProgramTimed program bound old.source out name (object_status failed) (seen before after) after shown_now kernel
     broke_timed program object.Drive kernel files broke = (files, inr (mounts due before after left, broke))
     broke_timed program object.Input kernel files broke = (files, mounts due before after left, broke)
@@ -108,12 +109,13 @@ module _ (parts : CodeParts) (bound : ℕ) (out : List ℕ) (name : Option (List
     broke_timed program object.Printer kernel files broke = (files, mounts due before after left, broke)
 
     pub failed_so : (s : Status) (failed : failing.Outside) (kernel : Lent) → s ≡ object_status failed → after.files ≡ before.files
-        → WhereTold (told_by before) (told_by after) (StandsAtMoment parts bound old) → RanTimed parts bound old.source out name s due before after kernel
-    failed_so s failed kernel is files moment = record {
+        → WhereTold (told_by before) (told_by after) (StandsAtCall parts bound old failed)
+        → RanTimed parts bound old.source out name s due before after kernel
+    failed_so s failed kernel is files at = record {
       shown = shown_now;
       ran = λ program of. subst (λ t. ProgramTimed program bound old.source out name t (seen before after) after shown_now kernel) (sym is)
           (broke_timed program failed kernel (same_told before.files after.files files)
-          (broke_run parts bound old none due before after left moment program (has_code program parts of)));
+          (broke_run parts bound old none due before after left failed at program (has_code program parts of)));
       shows = left_shows due before after left;
       due_is = left_due due before after left;
       each = left_each due before after left;
@@ -192,6 +194,11 @@ pub timed_asked : (count : ℕ) (end : KeepEnd) (came s : Status) → s ≡ time
 timed_asked count keep.Ok came s is h = asked_so came s count is h
 timed_asked count keep.Failed came s is h = asked_so status.FileFault s count is (record { behind_steps = refl; fits = tt })
 timed_asked count keep.NoMemory came s is h = asked_so status.NoMemory s count is (record { behind_steps = refl; fits = tt })
+
+pub timed_past : (end : KeepEnd) (came s : Status) → s ≡ timed_status end came → IsPast came → IsPast s
+timed_past keep.Ok came s is h = past_so came s is h
+timed_past keep.Failed came s is h = past_so status.FileFault s is refl
+timed_past keep.NoMemory came s is h = past_so status.NoMemory s is refl
 
 pub timed_cause : (had has : Counts) (end : KeepEnd) (came s : Status) → s ≡ timed_status end came → HasCause came had has
     → (end ≡ keep.Failed → CountRose had.files has.files) → HasCause s had has

@@ -6,7 +6,7 @@ ghost use Rattle.edi_words.specs.View.{options_of};
 ghost use Rattle.edi_statuses.specs.Outside.{lent, outside_of};
 ghost use Rattle.edi_statuses.specs.Counts.{counts_of, HasCause, NoneFalls};
 ghost use Rattle.edi_statuses.specs.Decided.{Came};
-ghost use Rattle.edi_statuses.specs.EachObject.{DevicesStay, FitsCount, handed, is_before_drive};
+ghost use Rattle.edi_statuses.specs.EachObject.{DevicesStay, FitsCount, RunStays, handed, is_at_drive, is_before_drive};
 ghost use Rattle.edi_commands.specs.run.OnMounted.{DriveAsked};
 ghost use Rattle.edi_commands.specs.run.OnTimed.{RanTimed, ReadsTimed, TimedStep, timed_with};
 
@@ -55,6 +55,9 @@ fn time_code<F: Files, D: Drive, S: Source, T: Sink, P: Sink>(
         (counts_of F.faults D.faults S.faults T.faults P.faults files.new drive.new input.new terminal.new printer.new) }
     ensures size { D.count drive.new ≡ D.count drive.old }
     ensures asked { DriveAsked result.status (D.count drive.old) }
+    ensures unmounted { is_at_drive result.status ≡ true
+        → RunStays (handed files.old drive.old input.old terminal.old printer.old kernel.old)
+        (handed files.new drive.new input.new terminal.new printer.new kernel.new) }
 {
     let Ok(mut timeline) = Timeline::new(alloc) else {
         return stopped(Status::NoMemory);
@@ -142,6 +145,9 @@ pub fn time_file<F: Files, D: Drive, S: Source, T: Sink, P: Sink>(
     ensures fits { FitsCount result.status (D.count drive.old) }
     ensures early { is_before_drive result.status ≡ true
         → DevicesStay (handed files.old drive.old input.old terminal.old printer.old kernel.old)
+        (handed files.new drive.new input.new terminal.new printer.new kernel.new) }
+    ensures unmounted { is_at_drive result.status ≡ true
+        → RunStays (handed files.old drive.old input.old terminal.old printer.old kernel.old)
         (handed files.new drive.new input.new terminal.new printer.new kernel.new) }
 {
     let bytes = match fetch(alloc, files, file, limit_of(form)) {

@@ -1,20 +1,20 @@
 -- The exits of a run of a code with a timeline.
-use Rattle.std.proofs.Common.{rules, ◌≡◌, ◌∙◌, ◌+◌, ◌<◌, ◌^◌, option_map, IsSome, arith, refl, sym, subst, ap}
+use Rattle.std.proofs.Common.{rules, ◌≡◌, ◌∙◌, ◌+◌, ◌<◌, ◌^◌, option_map, arith, refl, sym, subst, ap}
 use Rattle.edi_kernel.specs.declared.ends.Ending.TheVariants as ending
 use Rattle.edi_statuses.specs.Counts.{Counts, HasCause, counts_of}
-use Rattle.edi_statuses.specs.Executions.{status_of}
+use Rattle.edi_statuses.specs.Executions.{object_status, status_of}
 use Rattle.edi_statuses.specs.Timelines.{timable}
 use Rattle.edi_statuses.specs.declared.status.Status.TheVariants as status
 use Rattle.edi_statuses.specs.Outside.{Outside, kernel_of, outside_of}
 use Rattle.edi_statuses.proofs.Silent.{nothing_seen}
 use Rattle.edi_commands.specs.steps.NotMounted.{mount_status}
-use Rattle.edi_commands.specs.run.CodeRan.{object_status}
 use Rattle.edi_commands.proofs.run.Asked.{asked_so, ended_asked, failed_asked, unmounted_asked}
 use Rattle.edi_commands.proofs.run.Left.{ending_of}
 use Rattle.edi_commands.proofs.run.Counted.{none_falls}
 use Rattle.edi_commands.proofs.run.Endings.{ended_cause, status_is}
 use Rattle.edi_commands.proofs.run.Mounting.{left_on}
-use Rattle.edi_commands.proofs.run.TimedEnds.{failed_so, no_timeline, not_mounted, timed_asked, timed_cause, timed_so}
+use Rattle.edi_commands.proofs.run.Past.{ended_past, failed_past, never_at, past_so}
+use Rattle.edi_commands.proofs.run.TimedEnds.{failed_so, no_timeline, not_mounted, timed_asked, timed_cause, timed_past, timed_so}
 use Rattle.edi_commands.proofs.run.timing.time_code.Goals as goal
 
 pub returns-in_default-clause-ran : goal.returns-in_default-clause-ran
@@ -53,10 +53,9 @@ pub returns-in-Some-clause-ran : goal.returns-in-Some-clause-ran
 returns-in-Some-clause-ran g c =
     let l = c.in-Ok-time_on.ensures.leaves in
     let few : c.args.choices.now.drawn + c.args.turns < 2 ^ 64 = omega (arith, c.requires.none_drawn) in
-    let there : IsSome c.in-Ok-time_on.ran.failed = search rules in
     failed_so c.args.code.now c.args.turns c.args.out.now (option_map (λ name. name.now) c.args.record_file) _ _ c.args.choices.now c.requires.none_drawn
     c.in-Ok-time_on.ran.due (left_on _ _ _ c.in-Ok-time_on.ensures.mounted l.told l.due) c.object_status.result c.in-Some.object _
-    c.object_status.ensures.exact refl (l.moment (c.in-Ok-time_on.ensures.failed.0 there) few)
+    c.object_status.ensures.exact refl (c.in-Ok-time_on.ensures.call c.in-Some.object c.in-Some.is few)
 
 pub returns-in-Some-clause-later : goal.returns-in-Some-clause-later
 returns-in-Some-clause-later g c =
@@ -105,3 +104,21 @@ returns-clause-asked g c =
     (asked_so (status_of (ending_of c.in-Ok-time_on.ran.ending)) c.ending_status-came.result _
     (status_is c.in-Ok-time_on.ran.ending c.ending_status-came.result c.ending_status-came.ensures.exact)
     (ended_asked _ (record { least = c.in-Ok-time_on.ensures.least; most = c.in-Ok-time_on.ensures.most }) (ending_of c.in-Ok-time_on.ran.ending)))
+
+pub returns-in-Err-clause-unmounted : goal.returns-in-Err-clause-unmounted
+returns-in-Err-clause-unmounted g c = λ at.
+    let n = c.in-Err.ensures.nothing_run in
+    record { input = n.0; printer = n.2; kernel = n.3 }
+
+pub returns-in-Some-clause-unmounted : goal.returns-in-Some-clause-unmounted
+returns-in-Some-clause-unmounted g c = λ at.
+    never_at c.object_status.result
+    (past_so (object_status c.in-Some.object) c.object_status.result c.object_status.ensures.exact (failed_past c.in-Some.object)) at
+
+pub returns-clause-unmounted : goal.returns-clause-unmounted
+returns-clause-unmounted g c = λ at.
+    never_at c.timed_status.result
+    (timed_past c.keep_timed-end.result c.ending_status-came.result c.timed_status.result c.timed_status.ensures.exact
+    (past_so (status_of (ending_of c.in-Ok-time_on.ran.ending)) c.ending_status-came.result
+    (status_is c.in-Ok-time_on.ran.ending c.ending_status-came.result c.ending_status-came.ensures.exact)
+    (ended_past (ending_of c.in-Ok-time_on.ran.ending)))) at
