@@ -1,5 +1,5 @@
 -- The last stint of a run of code that has ended tells how, and after how many turns.
-use Rattle.std.proofs.Common.{◌≡◌, ℕ, zero, suc, ◌-◌, Bool, List, [], ◌∷◌, ◌++◌, refl, subst}
+use Rattle.std.proofs.Common.{◌≡◌, ℕ, zero, suc, ◌-◌, Bool, List, [], ◌++◌, refl, subst}
 use Rattle.edi_calls.specs.Choice.{Choices}
 use Rattle.edi_calls.specs.Names.{Name, find}
 use Rattle.edi_calls.specs.Outcome as outcome
@@ -7,7 +7,7 @@ use Rattle.edi_calls.specs.Outcome.{Ending}
 use Rattle.edi_calls.specs.Ready.{stays, joins, Taking, nobody, taking, take_next}
 use Rattle.edi_target.specs.Attempts.{attempt_fails}
 use Rattle.edi_target.specs.Fetch.{fetch}
-use Rattle.edi_target.specs.Mach.{Machine, Stepped, went, ended, step, MachineRun, unfinished, finished, go_on, after_step, run, entered}
+use Rattle.edi_target.specs.Mach.{Machine, Stepped, went, ended, step, MachineRun, finished, go_on, after_step, run, entered}
 use Rattle.edi_timeline.specs.Stints.{over, Stint}
 use Rattle.edi_timed.specs.Ran.{Open, opened, end_in, start_in, closed, with_closed, timed_on, timed_after, timed}
 use Rattle.edi_timed.specs.on.Laws.{EndWith, StintsOfCodeEnd}

@@ -1,20 +1,16 @@
 -- A text, or a code, has one timeline. The last stint of an execution tells how it ended.
-use Rattle.std.proofs.Common.{◌≡◌, ℕ, ◌-◌, ◌≤◌, List, refl, sym, ap, ◌∙◌, subst}
+use Rattle.std.proofs.Common.{◌≡◌, ℕ, ◌-◌, List, sym, ap, ◌∙◌, subst}
 use Rattle.edi_calls.specs.Choice.{Choices}
 use Rattle.edi_calls.specs.Names.{Name}
 use Rattle.edi_calls.specs.Outcome.{Ending}
 use Rattle.edi_calls.specs.State.{State, Traced, fresh}
-use Rattle.edi_lex.specs.Symbols.{symbols_of}
-use Rattle.edi_unit.specs.Tree.{ProgramUnit}
 use Rattle.edi_meaning.specs.Select as selection
 use Rattle.edi_target.specs.Check.{CodeParts}
-use Rattle.edi_target.specs.Mach.{Machine}
 use Rattle.edi_target.proofs.Histories.{every_run_ends_through}
 use Rattle.edi_scheme.specs.Laws.{parts_of}
-use Rattle.edi_follows.specs.Theorem.{CanBeCoded}
-use Rattle.edi_texts.proofs.Once.{one_unit}
+use Rattle.edi_texts.proofs.Thing.{one_thing}
 use Rattle.edi_timeline.specs.Stints.{Stint, stints_of}
-use Rattle.edi_timeline.specs.Timelines.{Told, told_of}
+use Rattle.edi_timeline.specs.Timelines.{told_of}
 use Rattle.edi_timed.specs.Ran.{stints_of_code}
 use Rattle.edi_timed.specs.on.Laws.{EndWith, StintsEnd, StintsStay, TimelinesAreOne}
 use Rattle.edi_timed.specs.on.Timelines.{AreStints, AreStintsOf, AreStintsOfCode, Timable, text, code}
@@ -45,7 +41,7 @@ module _ (system : State) (bound : ℕ) (choices : Choices) where
 
   of_text : (bytes : List ℕ) (xs ys : List Stint) → AreStintsOf bytes system bound choices xs → AreStintsOf bytes system bound choices ys → xs ≡ ys
   of_text bytes xs ys h k =
-      let same : h.unit ≡ k.unit = one_unit (symbols_of bytes) h.unit k.unit h.unit_is k.unit_is in
+      let same : h.unit ≡ k.unit = one_thing.one_unit bytes h.unit k.unit h.unit_is k.unit_is in
       let selected : selection.Ends k.unit (fresh system) bound choices h.ending h.end h.turns h.drawn h.order =
       subst (λ u. selection.Ends u (fresh system) bound choices h.ending h.end h.turns h.drawn h.order) same h.selected in
       let order : h.order ≡ k.order =

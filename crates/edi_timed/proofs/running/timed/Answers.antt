@@ -31,7 +31,8 @@ rounds-init g c = record {
 
 pub returns-then-bound-eq0-clause-asked : goal.returns-then-bound-eq0-clause-asked
 returns-then-bound-eq0-clause-asked g c = λ small.
-    nothing_asked c.args.code.now c.args.bound c.args.choices.now (g.C.Calls.failed c.args.calls.now.calls.now) (g.C.Calls.state c.args.calls.now.calls.now) _ _
+    nothing_asked c.args.code.now c.args.bound c.args.choices.now (g.C.Calls.failed c.args.calls.now.calls.now) (g.C.Calls.state c.args.calls.now.calls.now)
+    c.start.new.self.used c.args.choices.now
 
 pub returns-in-Some-clause-asked : goal.returns-in-Some-clause-asked
 returns-in-Some-clause-asked g c = λ small.
