@@ -192,11 +192,11 @@ module _ (code : CodeParts) (input : List ℕ) (limits : Limits) where
   }
 
   -- the same was found
-  pub found_none : (a b : Search) → b.found ≡ a.found → b.moves ≡ a.moves → FindsAt code input limits a b
+  pub found_none : (a b : Search) → b.found.items ≡ a.found.items → b.moves ≡ a.moves → FindsAt code input limits a b
   found_none a b e same = record {
-    finds = subst (λ fs. Finds code input limits a.found.items fs) (sym (ap (λ x. x.items) e)) (finds_none a.found.items);
+    finds = subst (λ fs. Finds code input limits a.found.items fs) (sym e) (finds_none a.found.items);
     after = λ i one l at.
-        absurd (omega (arith, l, slice_get_within a.found.items i one (ap (λ x. slice_get x.items i) (sym e) ∙ at)));
+        absurd (omega (arith, l, slice_get_within a.found.items i one (ap (λ xs. slice_get xs i) (sym e) ∙ at)));
     moves = same;
   }
 

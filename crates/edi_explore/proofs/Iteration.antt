@@ -10,7 +10,7 @@ use Rattle.edi_kernel.specs.declared.state.KernelState.{KernelState}
 use Rattle.edi_kernel.specs.Kernel.{IsKernel, is_over}
 use Rattle.edi_kernel.specs.Runs.{IsAt}
 use Rattle.edi_kernel.specs.Table.{ready_slots}
-use Rattle.edi_explored.specs.Covered.{Report, Tells, tells_shown}
+use Rattle.edi_explored.specs.Covered.{Report}
 use Rattle.edi_explored.specs.machine.Alike.{Alike}
 use Rattle.edi_explored.specs.machine.Kernels as law
 use Rattle.edi_explored.specs.machine.Kernels.{IsBack, IsFailed, IsFound, LeadsOn, StintOf}

@@ -1,5 +1,5 @@
 -- One ending more is found.
-use Rattle.std.proofs.Common.{◌≡◌, ◌⊎◌, inl, inr, ℕ, ◌<◌, ◌≤◌, Bool, List, [], ◌∷◌, ◌++◌, length, Some, refl, sym, ap, subst, ◌∙◌, arith, length-append}
+use Rattle.std.proofs.Common.{◌≡◌, ◌⊎◌, inl, inr, ℕ, ◌<◌, ◌≤◌, Bool, List, [], ◌∷◌, ◌++◌, length, Some, sym, ap, subst, ◌∙◌, arith, length-append}
 use Rattle.std.specs.Prelude.{slice_get}
 use Rattle.std.proofs.lemmas.Option.{slice_get_within}
 use Rattle.edi_target.specs.Check.{CodeParts}
@@ -11,7 +11,7 @@ use Rattle.edi_explored.specs.machine.Alike.{SameShown}
 use Rattle.edi_explore.specs.declared.ends.Found.{Found}
 use Rattle.edi_explore.specs.declared.ends.Limits.{Limits}
 use Rattle.edi_explore.specs.declared.finding.Search.{Search}
-use Rattle.edi_explore.specs.Finding.{Finds, FindsAt, IsFresh}
+use Rattle.edi_explore.specs.Finding.{FindsAt, IsFresh}
 use Rattle.edi_explore.specs.Found.{IsTold, RunsWith, TellsWaits, most_choices, most_turns}
 use Rattle.edi_explore.specs.Shown.{HasEnding, IsMet, asks_of}
 use Rattle.edi_explore.proofs.Findings.{one_contained, one_distinct, one_recorded, one_waits, recorded_of, recorded_waiting, shown_back, shown_on}

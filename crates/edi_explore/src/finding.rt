@@ -141,7 +141,7 @@ impl Search {
         let found = finished(alloc, kernel, code, input, came, self.moves)?;
         match self.found.push(found) {
             Ok(()) => Ok(true),
-            Err(_) => Err(GivenUp::NoMemory),
+            Err(_failed) => Err(GivenUp::NoMemory),
         }
     }
 

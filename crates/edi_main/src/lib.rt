@@ -3,6 +3,5 @@
 
 mod top;
 
-pub use edi_explore::Watcher;
 pub use edi_statuses::{RefusalKind, Status};
 pub use top::edison;

@@ -157,7 +157,9 @@ fn perform<F: Files, D: Drive, S: Source, T: Sink, P: Sink, W: Watcher>(
             alloc, file, stops, out, options, files, drive, input, terminal, printer, kernel,
         ),
         Command::Explore { file, options } => {
-            explore_file(alloc, file, options, files, input, terminal, kernel, watcher)
+            explore_file(
+                alloc, file, options, files, input, terminal, kernel, watcher,
+            )
         }
         Command::Time { file, out, options } => time_file(
             alloc, Text, file, out, options, files, drive, input, terminal, printer, kernel,

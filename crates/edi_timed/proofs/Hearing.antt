@@ -133,6 +133,13 @@ refused_shows number end.OutsideFault ws h = refl
 
 -- ---- calls one after another
 
+-- the references that are held: that to the other object, and those of the other object
+pub same_first : {m n : ℕ} {ms ns : List ℕ} → m ∷ ms ≡ n ∷ ns → m ≡ n
+same_first e = cc
+
+pub same_others : {m n : ℕ} {ms ns : List ℕ} → m ∷ ms ≡ n ∷ ns → ms ≡ ns
+same_others e = cc
+
 -- what was shown by calls, and by one more
 shown_on : (first old now : Said) (more : List ℕ) (x y z : State) → HasShown first old x y → z.shown ≡ y.shown ++ more →
     said_in now ≡ take 7 (said_in old ++ more) → HasShown first now x z
@@ -157,8 +164,8 @@ module _ {C : Type 0} (state : C → Option State) (failed : C → Option Outsid
     (one_failed : (calls : C) (one other : Option Outside) → failed calls one → failed calls other → one ≡ other) where
   -- ONE CALL MORE
   pub hears_more : (start old now : Heard C) (number : ℕ) (words answer : List ℕ) (e : CallEnd) (before after : Outside → ℕ) → 1 ≤ number → number ≤ 10 →
-      failed old.calls None → WhereTold (state old.calls) (state now.calls) (λ s t. Meets (call number words s) e answer s t) →
-      Blames e (failed now.calls) before after → ((first : C) → leads first old.calls → leads first now.calls) →
+      failed old.calls.now None → WhereTold (state old.calls.now) (state now.calls.now) (λ s t. Meets (call number words s) e answer s t) →
+      Blames e (failed now.calls.now) before after → ((first : C) → leads first old.calls.now → leads first now.calls.now) →
       (old.said.many ≤ 7 → said_in now.said ≡ take 7 (said_in old.said ++ shown_by number e words)) → (old.said.many ≤ 7 → now.said.many ≤ 7) →
       Hears state failed leads start old → Hears state failed leads start now
   hears_more start old now number words answer e before after from to working exact blame led said few h = record {
@@ -166,11 +173,11 @@ module _ {C : Type 0} (state : C → Option State) (failed : C → Option Outsid
     few = λ f. few (h.few f);
     heard = λ short fine.
         WhereTold-then (HasShown start.said old.said) (λ s t. Meets (call number words s) e answer s t) (HasShown start.said now.said)
-        (state start.calls) (state old.calls) (state now.calls)
+        (state start.calls.now) (state old.calls.now) (state now.calls.now)
         (λ x y z shown meets.
         shown_on start.said old.said now.said (shown_by number e words) x y z shown
         (shown_at_end words y number (call number words y) e answer z (shows words y number from to) meets
-        (no_fault e before after (one_failed now.calls) blame fine))
+        (no_fault e before after (one_failed now.calls.now) blame fine))
         (said (h.few short)))
         (h.heard short working) exact;
   }
@@ -180,7 +187,7 @@ module _ {C : Type 0} (state : C → Option State) (failed : C → Option Outsid
   hears_none start = record {
     led = λ first f. f;
     few = λ few. few;
-    heard = λ few fine. nothing_told (state start.calls) few;
+    heard = λ few fine. nothing_told (state start.calls.now) few;
   }
     where
       nothing_told : (o : Option State) → start.said.many ≤ 7 → WhereTold o o (HasShown start.said start.said)
@@ -188,23 +195,23 @@ module _ {C : Type 0} (state : C → Option State) (failed : C → Option Outsid
       nothing_told (Some s) few = ([], sym (append-nil s.shown), kept_few start.said.characters [] start.said.many few refl)
 
   -- calls that go on from where nothing was heard
-  module _ (before start now : Heard C) (calls : start.calls ≡ before.calls) (few : start.said.many ≤ 7)
+  module _ (before start now : Heard C) (calls : start.calls.now ≡ before.calls.now) (few : start.said.many ≤ 7)
       (on : (first : Heard C) → Hears state failed leads first start → Hears state failed leads first now) where
     pub few_said : now.said.many ≤ 7
     few_said = (on start (hears_none start)).few few
 
-    pub heard_since : failed now.calls None → (said : Said) → said ≡ now.said → WhereTold (state before.calls) (state now.calls) (HasShown start.said said)
+    pub heard_since : failed now.calls.now None → (said : Said) → said ≡ now.said → WhereTold (state before.calls.now) (state now.calls.now) (HasShown start.said said)
     heard_since fine said is =
-        subst (λ z. WhereTold (state before.calls) (state now.calls) (HasShown start.said z)) (sym is)
-        (subst (λ z. WhereTold (state z) (state now.calls) (HasShown start.said now.said)) calls ((on start (hears_none start)).heard few fine))
+        subst (λ z. WhereTold (state before.calls.now) (state now.calls.now) (HasShown start.said z)) (sym is)
+        (subst (λ z. WhereTold (state z) (state now.calls.now) (HasShown start.said now.said)) calls ((on start (hears_none start)).heard few fine))
 
-    pub lasts_since : {R : Type 0} (faults : C → Outside → ℕ) (references : C → R) → ((outside : Outside) → faults start.calls outside ≤ faults now.calls outside) →
-        references now.calls ≡ references start.calls → CallsLast faults references leads before.calls now.calls
+    pub lasts_since : {R : Type 0} (faults : C → Outside → ℕ) (references : C → R) → ((outside : Outside) → faults start.calls.now outside ≤ faults now.calls.now outside) →
+        references now.calls.now ≡ references start.calls.now → CallsLast faults references leads before.calls.now now.calls.now
     lasts_since faults references later same = (
-      λ outside. subst (λ z. faults z outside ≤ faults now.calls outside) calls (later outside),
+      λ outside. subst (λ z. faults z outside ≤ faults now.calls.now outside) calls (later outside),
       same ∙ ap references calls,
       λ first led. (on start (hears_none start)).led first (subst (leads first) (sym calls) led),
     )
 
-    pub told_since : (P : State → State → Type 0) → WhereTold (state start.calls) (state now.calls) P → WhereTold (state before.calls) (state now.calls) P
-    told_since P h = subst (λ z. WhereTold (state z) (state now.calls) P) calls h
+    pub told_since : (P : State → State → Type 0) → WhereTold (state start.calls.now) (state now.calls.now) P → WhereTold (state before.calls.now) (state now.calls.now) P
+    told_since P h = subst (λ z. WhereTold (state z) (state now.calls.now) P) calls h

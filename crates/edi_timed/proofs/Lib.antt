@@ -10,4 +10,5 @@ pub mod Left
 pub mod Rounds
 pub mod Arms
 pub mod Whole
+pub mod Asked
 pub mod meant

@@ -1,1 +1,5 @@
 pub mod Ended
+pub mod Blamed
+pub mod Last
+pub mod Once
+pub mod One

@@ -32,6 +32,6 @@ HasShown start now s t = (more : List ℕ) × (t.shown ≡ s.shown ++ more) × (
 
 -- Calls lead the other object on from wherever they led. Where none has failed, what was kept is what was shown.
 pub record Hears {C : Type 0} (state : C → Option State) (failed : C → Option Outside → Type 0) (leads : C → C → Type 0) (start now : Heard C) : Type 0 where
-  pub led : (first : C) → leads first start.calls → leads first now.calls
+  pub led : (first : C) → leads first start.calls.now → leads first now.calls.now
   pub few : start.said.many ≤ 7 → now.said.many ≤ 7
-  pub heard : start.said.many ≤ 7 → failed now.calls None → WhereTold (state start.calls) (state now.calls) (HasShown start.said now.said)
+  pub heard : start.said.many ≤ 7 → failed now.calls.now None → WhereTold (state start.calls.now) (state now.calls.now) (HasShown start.said now.said)

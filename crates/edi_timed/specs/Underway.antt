@@ -1,6 +1,7 @@
 -- Helper. How far a timed run has come, which stints it has had, and where each of its processes sits.
-use Rattle.std.specs.Prelude.{◌≡◌, ◌≤◌, ◌<◌, ℕ, ◌-◌, true, List, [], ◌∷◌, length, Option, Some, None}
+use Rattle.std.specs.Prelude.{◌≡◌, ◌≤◌, ◌<◌, ℕ, ◌-◌, true, List, [], ◌∷◌, length, Option, Some, None, ⊤}
 use Rattle.edi_calls.specs.Choice.{Choices}
+use Rattle.edi_calls.specs.declared.ends.Outside.{Outside}
 use Rattle.edi_calls.specs.Names.{Name, find}
 use Rattle.edi_calls.specs.Ready.{child}
 use Rattle.edi_calls.specs.State.{State}
@@ -15,7 +16,7 @@ use Rattle.edi_kernel.specs.Table.{is_live}
 use Rattle.edi_kernel.specs.TableIsMachine.{Naming}
 use Rattle.edi_kernel.specs.Moments.{Moment, moment, moment_after}
 use Rattle.edi_kernel.specs.Named.{HoldsBy}
-use Rattle.edi_kernel.specs.Runs.{IsAt}
+use Rattle.edi_kernel.specs.Runs.{FaultsBy, IsAt}
 use Rattle.edi_timeline.specs.Stints.{Stint}
 use Rattle.edi_timeline.specs.Timelines.{Told, told_of}
 use Rattle.edi_timeline.specs.Adding.{is_at, nth_stint, process_after, used_by}
@@ -97,3 +98,8 @@ module _ (code : CodeParts) (s : State) (bound : ℕ) (first : Drawn) where
   abbrev pub RoundsTo : Option Ending → KernelState → State → Drawn → List Seated → Told → Type 0
   RoundsTo None k x now seats told = Going k x now seats told
   RoundsTo (Some e) k x now seats told = Timed code s bound first e k x now told
+
+  -- where it has ended by a fault, the call that failed uses the object that has failed
+  abbrev pub AsksFailed : (failed : Option Outside → Type 0) → Option Ending → KernelState → State → Drawn → Type 0
+  AsksFailed failed None k x now = ⊤
+  AsksFailed failed (Some e) k x now = FaultsBy failed code s bound first e k.used x now

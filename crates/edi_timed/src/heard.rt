@@ -10,9 +10,10 @@ ghost use Rattle.edi_timed.specs.Hearing as hearing;
 use edi_calls::{CallEnd, Calls, call_number};
 use edi_timeline::Said;
 
-/// The calls of another object. Of what they show the first seven characters are kept.
-pub struct Heard<C> {
-    pub(crate) calls: C,
+/// The calls of another object, which is lent. Of what they show the first seven characters are kept.
+#[derive(Drop)]
+pub struct Heard<'c, C> {
+    calls: &'c mut C,
     said: Said,
 }
 
@@ -72,10 +73,11 @@ fn said_after(said: Said, number: u8, end: CallEnd, args: &[u16]) -> Said
     said
 }
 
-impl<C: Calls> Heard<C> {
+impl<'c, C: Calls> Heard<'c, C> {
     /// Nothing has been heard.
-    pub fn new(calls: C) -> Heard<C>
-        ensures calls { result.calls ≡ calls }
+    pub fn new(calls: &'c mut C) -> Heard<'c, C>
+        ensures same_reference { result.calls.ghost_name ≡ calls.entry.ghost_name }
+        ensures calls { result.calls.now ≡ calls.old }
         ensures nothing { said_in result.said ≡ [] }
         ensures few { result.said.many ≤ 7 }
     {
@@ -85,17 +87,10 @@ impl<C: Calls> Heard<C> {
         }
     }
 
-    /// The other object again.
-    pub fn into_calls(self) -> C
-        ensures { result ≡ self.calls }
-    {
-        let Heard { calls, said: _ } = self;
-        calls
-    }
-
     /// Forgets what was shown.
     pub(crate) fn listen(&mut self)
-        ensures calls { self.new.calls ≡ self.old.calls }
+        ensures same_reference { self.new.calls.ghost_name ≡ self.old.calls.ghost_name }
+        ensures calls { self.new.calls.now ≡ self.old.calls.now }
         ensures nothing { said_in self.new.said ≡ [] }
         ensures few { self.new.said.many ≤ 7 }
     {
@@ -110,20 +105,21 @@ impl<C: Calls> Heard<C> {
     }
 }
 
-impl<C: Calls> Calls for Heard<C> {
+impl<C: Calls> Calls for Heard<'_, C> {
+    ghost use Rattle.std.specs.Prelude.{◌∷◌};
     ghost use Rattle.edi_timed.specs.Hearing.{Hears};
 
-    ghost state = { λ heard. C.state heard.calls };
+    ghost state = { λ heard. C.state heard.calls.now };
 
-    ghost faults = { λ heard. C.faults heard.calls };
+    ghost faults = { λ heard. C.faults heard.calls.now };
 
-    ghost failed = { λ heard outside. C.failed heard.calls outside };
+    ghost failed = { λ heard outside. C.failed heard.calls.now outside };
 
-    ghost references = { λ heard. C.references heard.calls };
+    ghost references = { λ heard. heard.calls.ghost_name ∷ C.references heard.calls.now };
 
     ghost leads = { λ start heard. Hears C.state C.failed C.leads start heard };
 
-    ghost one_failed = { λ heard one other p q. C.one_failed heard.calls one other p q };
+    ghost one_failed = { λ heard one other p q. C.one_failed heard.calls.now one other p q };
 
     fn call(&mut self, number: u8, args: &[u16], answer: &mut [u16]) -> CallEnd {
         let end = self.calls.call(number, args, answer);

@@ -4,6 +4,7 @@
 mod heard;
 pub mod laws;
 mod leaving;
+mod lent;
 pub mod on;
 mod places;
 mod running;

@@ -9,13 +9,14 @@ ghost use Rattle.edi_calls.specs.State.{State};
 ghost use Rattle.edi_trace.specs.Drawn.{Drawn};
 ghost use Rattle.edi_target.specs.Mach.{Machine};
 ghost use Rattle.edi_kernel.specs.Stretch.{Blamed};
+ghost use Rattle.edi_kernel.specs.Runs.{FaultsBy};
 ghost use Rattle.edi_kernel.specs.Table.{ready_slots};
 ghost use Rattle.edi_kernel.specs.Kernel.{IsKernel, ended_by, fault_of, is_over};
 ghost use Rattle.edi_timed.specs.Leaving as spec;
 ghost use Rattle.edi_timed.specs.Leaving.{AddsBy};
 ghost use Rattle.edi_timed.specs.Seats.{Fits};
 ghost use Rattle.edi_timed.specs.Timed.{Timed};
-ghost use Rattle.edi_timed.specs.Underway.{Going, RoundsTo};
+ghost use Rattle.edi_timed.specs.Underway.{AsksFailed, Going, RoundsTo};
 
 use crate::heard::Heard;
 use crate::leaving::{Begun, at_start, came_of, ended_as};
@@ -132,7 +133,7 @@ fn note(
 fn timed_round<C: Calls>(
     kernel: &mut Kernel,
     code: &Code,
-    heard: &mut Heard<C>,
+    heard: &mut Heard<'_, C>,
     bound: u32,
     choices: &mut Choices,
     seats: &mut Seats,
@@ -140,22 +141,27 @@ fn timed_round<C: Calls>(
 ) -> Option<Ending>
     requires taken { IsSome kernel.old.taken }
     requires kernel { IsKernel kernel.old }
-    requires working { C.failed heard.old.calls None }
+    requires working { C.failed heard.old.calls.now None }
     requires used { kernel.old.used ≤ bound }
     requires fits { Fits seats.old.items timeline.old }
     requires count { timeline.old.count ≤ kernel.old.used }
-    ensures exact { choices.old.drawn + (bound - kernel.old.used) < 2 ^ 64 → WhereTold (C.state heard.old.calls) (C.state heard.new.calls) (λ x y.
+    ensures exact { choices.old.drawn + (bound - kernel.old.used) < 2 ^ 64 → WhereTold (C.state heard.old.calls.now) (C.state heard.new.calls.now) (λ x y.
         (s : State) (first : Drawn) → first.source ≡ choices.old.source →
         Going code.now s bound first kernel.old x choices.old seats.old.items timeline.old →
         RoundsTo code.now s bound first result kernel.new y choices.new seats.new.items timeline.new) }
+    // The system call that failed uses the object that has failed.
+    ensures asked { WhereTold (C.state heard.old.calls.now) (C.state heard.new.calls.now) (λ x y. (s : State) (first : Drawn) →
+        first.source ≡ choices.old.source → Going code.now s bound first kernel.old x choices.old seats.old.items timeline.old →
+        AsksFailed code.now s bound first (C.failed heard.new.calls.now) result kernel.new y choices.new) }
+    ensures same_reference { heard.new.calls.ghost_name ≡ heard.old.calls.ghost_name }
     ensures taken { result ≡ None → IsSome kernel.new.taken }
     ensures kernel { result ≡ None → IsKernel kernel.new }
     ensures used { kernel.new.used ≤ bound }
     ensures spent { result ≡ None → kernel.old.used < kernel.new.used }
     ensures source { choices.new.source ≡ choices.old.source }
     ensures drawn { choices.new.drawn + kernel.old.used ≤ choices.old.drawn + kernel.new.used }
-    ensures blame { Blamed (fault_of result) (C.failed heard.new.calls) (C.faults heard.old.calls) (C.faults heard.new.calls) }
-    ensures lasts { CallsLast C.faults C.references C.leads heard.old.calls heard.new.calls }
+    ensures blame { Blamed (fault_of result) (C.failed heard.new.calls.now) (C.faults heard.old.calls.now) (C.faults heard.new.calls.now) }
+    ensures lasts { CallsLast C.faults C.references C.leads heard.old.calls.now heard.new.calls.now }
     ensures fits { result ≡ None → Fits seats.new.items timeline.new }
     ensures count { result ≡ None → timeline.new.count ≤ kernel.new.used }
 {
@@ -178,22 +184,26 @@ fn timed_round<C: Calls>(
 pub fn timed<C: Calls>(
     kernel: &mut Kernel,
     code: &Code,
-    calls: &mut Heard<C>,
+    calls: &mut Heard<'_, C>,
     bound: u32,
     choices: &mut Choices,
     timeline: &mut Timeline,
 ) -> Ending
-    requires working { C.failed calls.old.calls None }
+    requires working { C.failed calls.old.calls.now None }
     requires empty { timeline.old ≡ record { stints = []; count = 0 } }
-    ensures exact { choices.old.drawn + bound < 2 ^ 64 → WhereTold (C.state calls.old.calls) (C.state calls.new.calls) (λ s t.
+    ensures exact { choices.old.drawn + bound < 2 ^ 64 → WhereTold (C.state calls.old.calls.now) (C.state calls.new.calls.now) (λ s t.
         Timed code.now s bound choices.old result kernel.new t choices.new timeline.new) }
+    // The system call that failed uses the object that has failed.
+    ensures asked { choices.old.drawn + bound < 2 ^ 64 → WhereTold (C.state calls.old.calls.now) (C.state calls.new.calls.now) (λ s t.
+        FaultsBy (C.failed calls.new.calls.now) code.now s bound choices.old result kernel.new.used t choices.new) }
+    ensures same_reference { calls.new.calls.ghost_name ≡ calls.old.calls.ghost_name }
     ensures used { kernel.new.used ≤ bound }
     ensures source { choices.new.source ≡ choices.old.source }
     ensures drawn { choices.new.drawn ≤ choices.old.drawn + bound }
-    ensures later { (outside : Outside) → C.faults calls.old.calls outside ≤ C.faults calls.new.calls outside }
-    ensures blame { Blamed (fault_of (Some result)) (C.failed calls.new.calls) (C.faults calls.old.calls) (C.faults calls.new.calls) }
-    ensures references { C.references calls.new.calls ≡ C.references calls.old.calls }
-    ensures leads { (start : C) → C.leads start calls.old.calls → C.leads start calls.new.calls }
+    ensures later { (outside : Outside) → C.faults calls.old.calls.now outside ≤ C.faults calls.new.calls.now outside }
+    ensures blame { Blamed (fault_of (Some result)) (C.failed calls.new.calls.now) (C.faults calls.old.calls.now) (C.faults calls.new.calls.now) }
+    ensures references { C.references calls.new.calls.now ≡ C.references calls.old.calls.now }
+    ensures leads { (start : C) → C.leads start calls.old.calls.now → C.leads start calls.new.calls.now }
 {
     kernel.start(code);
     let mut seats = Seats::new();

@@ -1,4 +1,4 @@
--- Words of contracts. A stint that is added to a timeline.
+-- Definition. A stint after others: its number, its process, where it begins. And what is told of stints after one more.
 use Rattle.std.specs.Prelude.{◌≡◌, ℕ, zero, suc, ◌≤◌, Bool, true, false, ◌&&◌, not, nat_le, if◌then◌else◌, List, [], ◌∷◌, ◌++◌, length, take, slice_get, ⊤}
 use Rattle.std.specs.Prelude.{Option, Some, None}
 use Rattle.edi_calls.specs.Names.{Name}

@@ -1,4 +1,4 @@
--- Words of contracts. What a timeline keeps of the stints of a run.
+-- Definition. What is told of the stints of a run, and what a timeline keeps of them.
 use Rattle.std.specs.Prelude.{◌≡◌, ◌≤◌, ◌<◌, ℕ, Bool, true, false, List, map, take, length, vec_capacity}
 use Rattle.edi_timeline.specs.Stints.{Stint, at}
 use Rattle.edi_timeline.specs.Text.{most_lines, kept}

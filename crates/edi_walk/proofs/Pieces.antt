@@ -402,7 +402,7 @@ enters_calm old new number parent cells line stop.NoMemory h = tt
 enters_calm old new number parent cells line stop.Done h = tt
 enters_calm old new number parent cells line (stop.Halted l) h = tt
 enters_calm old new number parent cells line (stop.Failed c l) h = tt
-enters_calm old new number parent cells line (stop.Fault number) h = h
+enters_calm old new number parent cells line (stop.Fault asked) h = h
 
 abbrev pub Alike : {T : Type 0} → Result T Stop → Result T Stop → Type 0
 Alike a b = a ≡ b

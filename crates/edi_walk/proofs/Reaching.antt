@@ -234,22 +234,23 @@ module _ (unit : ProgramUnit) (bound : ℕ) (old mid_drawn : Drawn) (mid : code_
       let e = through p others d h.world taken h.goes in
       let grew = grows_all (begun first) r.processes.world.system h.before r.grew h.grew in
       let after : Grows (after_call h.next h.before) e.1 = subst (λ y. Grows y e.1) h.world_is e.6.2 in
-      let same : h.before.now ≡ newest first h.before.past = sym (ap (newest first) (grew.1 ∙ append-nil grew.0) ∙ grew.2) in
-      (record {
-        ending = e.0;
-        last = e.1;
-        turns = e.2;
-        drawn = e.3;
-        order = e.4;
-        is = e.5;
-        later = after.0;
-        earlier = h.before.past;
-        next = h.next;
-        past = after.1;
-        torn = subst (λ y. IsTorn y h.next u) same h.torn;
-        draws = omega (arith, drawn, e.7);
-      },
-      record { arguments = h.arguments; answer = h.answer; is = subst (λ y. call number h.arguments y ≡ answered h.answer h.next) same h.answers })
+      let same : h.before.now ≡ newest first h.before.past = sym (ap (newest first) (grew.1 ∙ append-nil grew.0) ∙ grew.2) in (
+        record {
+          ending = e.0;
+          last = e.1;
+          turns = e.2;
+          drawn = e.3;
+          order = e.4;
+          is = e.5;
+          later = after.0;
+          earlier = h.before.past;
+          next = h.next;
+          past = after.1;
+          torn = subst (λ y. IsTorn y h.next u) same h.torn;
+          draws = omega (arith, drawn, e.7);
+        },
+        record { arguments = h.arguments; answer = h.answer; is = subst (λ y. call number h.arguments y ≡ answered h.answer h.next) same h.answers },
+      )
 
   cut_so : (new : Drawn) (p : Name) (others : List Name) (d : ℕ) (u : State) → take_next mid_drawn.source mid_drawn.drawn r.listed ≡ taking p others d →
       new.drawn ≡ d → StepIsCut unit r.processes p u → WalkIsCut unit first bound old u new

@@ -1,7 +1,7 @@
 //! How far an exploration is: a line on the error stream, once a second, for who sits at a terminal. It is no part of what the call `edison`
 //! shows, so that no clause speaks of it.
 
-use edi_main::Watcher;
+use edi_explore::Watcher;
 use std::io::IsTerminal;
 use std::time::{Duration, Instant};
 

@@ -13,10 +13,9 @@ use Rattle.edi_walk.specs.declared.walking.WalkEnd.TheVariants as end
 use Rattle.edi_statuses.specs.declared.status.Status.{Status}
 use Rattle.edi_statuses.specs.declared.status.Status.TheVariants as status
 use Rattle.edi_statuses.specs.EachObject.{is_at_drive}
-use Rattle.edi_statuses.specs.Executions.{status_of}
+use Rattle.edi_statuses.specs.Executions.{object_status, status_of}
 use Rattle.edi_statuses.specs.Sessions.{session_status}
 use Rattle.edi_commands.specs.steps.OnFiles.{RecordEnd, RecordStep}
-use Rattle.edi_commands.specs.run.CodeRan.{object_status}
 use Rattle.edi_commands.specs.run.OnWalked.{end_status}
 use Rattle.edi_commands.specs.run.OnWatched.{LogEnd, LogUnkept}
 

@@ -23,16 +23,16 @@ advice_lines kind.NestingTooDeep =
     ∷ codes "Put an inner part into a procedure of its own, or an inner value into a variable."
     ∷ []
 advice_lines kind.NotInProfile =
-    codes "Edison has this, and this system leaves it out: 'lib', ':' behind a value to change its type,"
+    codes "Edison has this, and this system leaves it out: 'lib', ':' after a value (write char(x) or int(c)),"
     ∷ codes "and the standard names addr, obtain, place and sense."
     ∷ []
 advice_lines kind.UndeclaredName =
     codes "A name of this line means nothing here. Each of these may be the reason:"
-    ∷ codes "- It is display or another call of the system, and the heading of the program does not name it."
-    ∷ codes "- It is spelled in another way. Small and capital letters differ. The standard types are int, char and bool."
+    ∷ codes "- It is a call of the system that the heading does not name. Write proc main(proc display(c: char)) for display."
+    ∷ codes "- It is declared nowhere, or spelled in another way: 'Int' is not 'int'. The standard types are int, char and bool."
     ∷ codes "- It is declared further down. Move it up; or put 'pre proc' and its heading above, and 'post' before the later 'proc'."
     ∷ codes "- Its procedure or its module has ended. A module shows what has a '*' before its declaration, as in * var x: int."
-    ∷ codes "- It is a field that the record has not."
+    ∷ codes "- It stands after a period, and the record has no field of this name."
     ∷ []
 advice_lines kind.AmbiguousName =
     codes "A name of this line is declared twice in one procedure, module, heading, record or enumeration; or it is"
@@ -79,6 +79,7 @@ advice_lines kind.InvalidProgramHeading =
     ∷ codes "- accept(var c: char), display(c: char), print(c: char), fresh, more(var b: bool), read(var c: char),"
     ∷ codes "- write(c: char), find(title: name; var found: bool), close(title: name; var done: bool) and"
     ∷ codes "- remove(title: name; var done: bool)."
+    ∷ codes "- No call shows a number: display(char(int('0') + n)) shows the digit n."
     ∷ []
 
 abbrev pub line_text : List ℕ → List ℕ

@@ -16,9 +16,9 @@ use Rattle.edi_explain.specs.told.Words.{is_text_of}
 abbrev pub word_notes : List (List ℕ × List ℕ)
 word_notes =
     (codes "then", codes "'then' is no word of the language: after a condition comes 'do'.")
-    ∷ (codes "for", codes "'for' is no word of the language: a loop is 'while CONDITION do ... end', with a variable that counts.")
-    ∷ (codes "repeat", codes "'repeat' is no word of the language: a loop is 'while CONDITION do ... end'.")
-    ∷ (codes "until", codes "'until' is no word of the language: a loop is 'while CONDITION do ... end'.")
+    ∷ (codes "for", codes "'for' is no word of the language: a loop is while i <= 9 do ...; i := i + 1 end, after i := 1.")
+    ∷ (codes "repeat", codes "'repeat' is no word of the language: a loop is while x <> 9 do ... end, which goes on as long as its condition is true.")
+    ∷ (codes "until", codes "'until' is no word of the language: a loop is while x <> 9 do ... end, which goes on as long as its condition is true.")
     ∷ (codes "loop", codes "'loop' is no word of the language: a loop is 'while CONDITION do ... end'.")
     ∷ (codes "return", codes "'return' is no word of the language: a function f gives its value by 'val f := ...'.")
     ∷ (codes "elsif", codes "'elsif' is no word of the language: a further case is 'else CONDITION do'.")
@@ -26,10 +26,10 @@ word_notes =
     ∷ (codes "case", codes "'case' is no word of the language: cases are 'if CONDITION do ... else CONDITION do ... end'.")
     ∷ (codes "procedure", codes "'procedure' is no word of the language: a procedure begins with 'proc'.")
     ∷ (codes "function", codes "'function' is no word of the language: a function begins with 'proc' and has a type, as in proc f: int.")
-    ∷ (codes "program", codes "'program' is no word of the language: a program is a procedure, as in proc main.")
+    ∷ (codes "program", codes "'program' is no word of the language: a program is a procedure, as in proc main, without a semicolon.")
     ∷ (codes "type", codes "'type' is no word of the language: a type is declared by 'array', 'enum', 'record' or 'set' and its name.")
     ∷ (codes "of", codes "'of' is no word of the language: an array is declared as array t [1:10] (int).")
-    ∷ (codes "let", codes "'let' is no word of the language: variables are declared as var x: int, before 'begin'.")
+    ∷ (codes "let", codes "'let' is no word of the language: variables are declared as var x: int, before 'begin', without a semicolon after the last.")
     ∷ []
 
 abbrev pub note_beside : List (List ℕ × List ℕ) → List ℕ → Option (List ℕ)
@@ -118,7 +118,7 @@ abbrev pub branch_note : List ℕ
 branch_note = codes "each branch begins with a constant and 'do', as in cobegin 1 do p also 2 do q end."
 
 abbrev pub also_note : List ℕ
-also_note = codes "'also' stands between two branches."
+also_note = codes "'also' stands between two branches, in place of a semicolon."
 
 abbrev pub type_note : List ℕ
 type_note = codes "after the name of a type come parentheses: array t [1:10] (int), enum e (a, b), record r (a: int; b: char) or set s (int)."
@@ -160,7 +160,7 @@ note_rows =
     ∷ asking comparison (kind.Do ∷ []) (codes "a condition has one comparison outside parentheses, as in (x > 0) and (x < 9).")
     ∷ asking (kind.Semicolon ∷ ends) (kind.Do ∷ [])
     (codes "after a condition comes 'do'; after 'else' comes a condition too: 'else true do' takes all other cases.")
-    ∷ asking [] (kind.Do ∷ []) (codes "after a condition comes 'do'.")
+    ∷ asking [] (kind.Do ∷ []) (codes "after a condition comes 'do', and no 'begin'.")
     ∷ asking (kind.Numeral ∷ kind.Char ∷ kind.Text ∷ []) (kind.Open ∷ kind.Becomes ∷ []) (codes "the arguments of a call stand in parentheses.")
     ∷ asking (kind.Plus ∷ kind.Minus ∷ []) (kind.Becomes ∷ []) (codes "a variable is changed by ':=', as in x := x + 1.")
     ∷ asking (kind.Colon ∷ []) (kind.Becomes ∷ []) (codes "':=' is one symbol; variables are declared before 'begin'.")
@@ -182,7 +182,7 @@ note_rows =
     ∷ record (asking (kind.Close ∷ []) [] (codes "a heading or a call without parameters has no parentheses.")) { last = kind.Open ∷ [] }
     ∷ record (asking (kind.Else ∷ kind.Also ∷ []) [] (codes "one 'end' stands after the last branch, and none before 'else' or 'also'."))
     { last = kind.End ∷ [] }
-    ∷ record (asking declaration [] (codes "declarations stand before the 'begin' of their procedure; or an 'end' is missing before this one."))
+    ∷ record (asking declaration [] (codes "declarations stand before the 'begin' of their procedure, without a semicolon after the last; or an 'end' is missing here."))
     { inside = worded }
     ∷ asking (kind.End_of_text ∷ []) (kind.End ∷ []) (codes "each 'begin', 'if', 'while', 'when' and 'cobegin' has an 'end' of its own; count them from the last one.")
     ∷ asking declaration (kind.End_of_text ∷ [])
@@ -216,7 +216,7 @@ is_type_mark (Some m) = is_type_name m.symbol
 -- an assignment may go on here, and a name stands after one of these types
 abbrev pub type_before : (before : Option Mark) → Seen → Option (List ℕ)
 type_before before seen =
-    if (seen.found == kind.Name) && seen.may kind.Becomes && is_type_mark before then Some (codes "variables are declared as var x: int, before 'begin'.")
+    if (seen.found == kind.Name) && seen.may kind.Becomes && is_type_mark before then Some (codes "variables are declared as var x: int, before 'begin', without a semicolon after the last.")
     else None
 
 -- ---- the note

@@ -145,7 +145,7 @@ row_semicolon = refl
 
 -- int i; among statements: a semicolon is missing after any other name
 pub row_type_before : note_of (Some (mark (is.Name (codes "i")))) (Some (mark (is.Name (codes "int")))) (seen kind.Name kind.Name kind.Begin (14 ∷ 43 ∷ 45 ∷ 46 ∷ 47 ∷ 49 ∷ []))
-    ≡ codes "variables are declared as var x: int, before 'begin'."
+    ≡ codes "variables are declared as var x: int, before 'begin', without a semicolon after the last."
 row_type_before = refl
 
 pub row_name_before : note_of (Some (mark (is.Name (codes "i")))) (Some (mark (is.Name (codes "p")))) (seen kind.Name kind.Name kind.Begin (14 ∷ 43 ∷ 45 ∷ 46 ∷ 47 ∷ 49 ∷ []))

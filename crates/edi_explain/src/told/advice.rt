@@ -31,17 +31,17 @@ static NESTING_TOO_DEEP: [&str; 2] = [
 ];
 
 static NOT_IN_PROFILE: [&str; 2] = [
-    "Edison has this, and this system leaves it out: 'lib', ':' behind a value to change its type,",
+    "Edison has this, and this system leaves it out: 'lib', ':' after a value (write char(x) or int(c)),",
     "and the standard names addr, obtain, place and sense.",
 ];
 
 static UNDECLARED_NAME: [&str; 6] = [
     "A name of this line means nothing here. Each of these may be the reason:",
-    "- It is display or another call of the system, and the heading of the program does not name it.",
-    "- It is spelled in another way. Small and capital letters differ. The standard types are int, char and bool.",
+    "- It is a call of the system that the heading does not name. Write proc main(proc display(c: char)) for display.",
+    "- It is declared nowhere, or spelled in another way: 'Int' is not 'int'. The standard types are int, char and bool.",
     "- It is declared further down. Move it up; or put 'pre proc' and its heading above, and 'post' before the later 'proc'.",
     "- Its procedure or its module has ended. A module shows what has a '*' before its declaration, as in * var x: int.",
-    "- It is a field that the record has not.",
+    "- It stands after a period, and the record has no field of this name.",
 ];
 
 static AMBIGUOUS_NAME: [&str; 2] = [
@@ -90,12 +90,13 @@ static INVALID_SPLIT_PROCEDURE: [&str; 2] = [
     "'post proc' with the same heading and the body. One of the two is missing, or the headings differ.",
 ];
 
-static INVALID_PROGRAM_HEADING: [&str; 5] = [
+static INVALID_PROGRAM_HEADING: [&str; 6] = [
     "The heading of the program names the calls of the system that it uses, as in proc main(proc display(c: char)).",
     "It has no result and no other parameter. The calls are these, where a name is an array [1:12] (char):",
     "- accept(var c: char), display(c: char), print(c: char), fresh, more(var b: bool), read(var c: char),",
     "- write(c: char), find(title: name; var found: bool), close(title: name; var done: bool) and",
     "- remove(title: name; var done: bool).",
+    "- No call shows a number: display(char(int('0') + n)) shows the digit n.",
 ];
 
 // The lines of a kind.

@@ -11,15 +11,15 @@ pub(crate) static WORDS: [(&str, &str); 15] = [
     ),
     (
         "for",
-        "'for' is no word of the language: a loop is 'while CONDITION do ... end', with a variable that counts.",
+        "'for' is no word of the language: a loop is while i <= 9 do ...; i := i + 1 end, after i := 1.",
     ),
     (
         "repeat",
-        "'repeat' is no word of the language: a loop is 'while CONDITION do ... end'.",
+        "'repeat' is no word of the language: a loop is while x <> 9 do ... end, which goes on as long as its condition is true.",
     ),
     (
         "until",
-        "'until' is no word of the language: a loop is 'while CONDITION do ... end'.",
+        "'until' is no word of the language: a loop is while x <> 9 do ... end, which goes on as long as its condition is true.",
     ),
     (
         "loop",
@@ -51,7 +51,7 @@ pub(crate) static WORDS: [(&str, &str); 15] = [
     ),
     (
         "program",
-        "'program' is no word of the language: a program is a procedure, as in proc main.",
+        "'program' is no word of the language: a program is a procedure, as in proc main, without a semicolon.",
     ),
     (
         "type",
@@ -63,6 +63,6 @@ pub(crate) static WORDS: [(&str, &str); 15] = [
     ),
     (
         "let",
-        "'let' is no word of the language: variables are declared as var x: int, before 'begin'.",
+        "'let' is no word of the language: variables are declared as var x: int, before 'begin', without a semicolon after the last.",
     ),
 ];

@@ -122,7 +122,9 @@ fn type_before(before: Option<&Mark>, seen: &Seen) -> Option<&'static str>
     ensures exact { option_map (λ text. text.now) result ≡ spec.type_before (option_copied before.entry) (seen_of seen.now) }
 {
     if seen.found == 1 && may(&seen.may, 43) && is_type_mark(before) {
-        return Some("variables are declared as var x: int, before 'begin'.");
+        return Some(
+            "variables are declared as var x: int, before 'begin', without a semicolon after the last.",
+        );
     }
     None
 }

@@ -46,14 +46,14 @@ pub(crate) static ROWS: [Row; 50] = [
         found: &[2, 3],
         last: &[45],
         inside: &[9],
-        note: "'also' stands between two branches.",
+        note: "'also' stands between two branches, in place of a semicolon.",
         ..ANYWHERE
     },
     Row {
         found: &[12],
         inside: &[9],
         may: &[5],
-        note: "'also' stands between two branches.",
+        note: "'also' stands between two branches, in place of a semicolon.",
         ..ANYWHERE
     },
     Row {
@@ -177,7 +177,7 @@ pub(crate) static ROWS: [Row; 50] = [
     },
     Row {
         may: &[12],
-        note: "after a condition comes 'do'.",
+        note: "after a condition comes 'do', and no 'begin'.",
         ..ANYWHERE
     },
     Row {
@@ -286,7 +286,7 @@ pub(crate) static ROWS: [Row; 50] = [
     Row {
         found: &[7, 10, 15, 20, 23, 24, 25, 26, 27, 30],
         inside: &[8, 9, 16, 31, 32],
-        note: "declarations stand before the 'begin' of their procedure; or an 'end' is missing before this one.",
+        note: "declarations stand before the 'begin' of their procedure, without a semicolon after the last; or an 'end' is missing here.",
         ..ANYWHERE
     },
     Row {

@@ -1,8 +1,9 @@
 //! All that is outside of a call of `edison`, in memory.
 
+use edi_explore::Watcher;
 use edi_host::{MemoryDrive, MemoryFiles, MemorySink, MemorySource};
 use edi_kernel::Kernel;
-use edi_main::{Watcher, edison};
+use edi_main::edison;
 use std::alloc::Global;
 use std::process::Abort;
 

@@ -181,11 +181,11 @@ older_among first (x ∷ later) past s h = Contains-append_right (x ∷ []) (mom
 pub followed_among : (system : State) (past : List State) (one next : State) → IsFollowed system past one next
     → Contains (moments_of system past) one × Contains (moments_of system past) next
 followed_among system past one next f = (
-    at one (subst (λ s. Contains (moments_of system (f.later ++ next ∷ f.earlier)) s) f.last
-    (older_among system f.later (next ∷ f.earlier) (newest system f.earlier)
-    (Contains-append_right (next ∷ []) (moments_of system f.earlier) (newest system f.earlier) (newest_among system f.earlier)))),
-    at next (older_among system f.later (next ∷ f.earlier) next (newest_among system (next ∷ f.earlier))),
-  )
+  at one (subst (λ s. Contains (moments_of system (f.later ++ next ∷ f.earlier)) s) f.last
+      (older_among system f.later (next ∷ f.earlier) (newest system f.earlier)
+      (Contains-append_right (next ∷ []) (moments_of system f.earlier) (newest system f.earlier) (newest_among system f.earlier)))),
+  at next (older_among system f.later (next ∷ f.earlier) next (newest_among system (next ∷ f.earlier))),
+)
   where
     at : (s : State) → Contains (moments_of system (f.later ++ next ∷ f.earlier)) s → Contains (moments_of system past) s
     at s h = subst (λ p. Contains (moments_of system p) s) (sym f.is) h

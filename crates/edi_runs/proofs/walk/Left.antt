@@ -18,7 +18,7 @@ use Rattle.edi_walk.specs.Ends.{WalkFails, WalkFailsBy, WalkFaultsBy, WalkIsCut,
 use Rattle.edi_walk.specs.Walk.{WalkEnds}
 use Rattle.edi_walk.specs.declared.walking.WalkEnd.{WalkEnd}
 use Rattle.edi_walk.specs.declared.walking.WalkEnd.TheVariants as end
-use Rattle.edi_execute.specs.Objects.{Contents, Objects, Show, system_on}
+use Rattle.edi_execute.specs.Objects.{Contents, Objects, Show, contents_with, system_on}
 use Rattle.edi_execute.proofs.Runs.{AreOf, AreUnder, due_run, on_objects, told_run}
 use Rattle.edi_runs.specs.walk.Leaves.{BrokeAtCall, BrokeAtCallOf, HasWalked, WalkLeaves}
 use Rattle.edi_runs.specs.declared.walk.run.Walked.{Walked}
@@ -86,8 +86,8 @@ module _ {D S T P : Type 0} (contents : D → Option (List (List ℕ))) (left : 
         }) exact;
     broke = on_objects contents left shown printed before after o o' are are'
         (λ s t. WalkFaultsBy (λ o. failed_in after ≡ o) unit (fresh s) bound old walked.end t new) (BrokeAtCallOf walked.failed unit bound old)
-        (λ x x' y y' z z' w w' is. broke_of unit bound old new _ _ (state_with after x' y' z' w') walked.end walked.failed (failed_in after) named fault is
-        (record { input = refl; shown = refl; printed = refl; slots = refl; blocks = refl })) asked;
+        (λ x x' y y' z z' w w' is. broke_of unit bound old new (contents_with x y z w) (contents_with x' y' z' w') (state_with after x' y' z' w') walked.end
+        walked.failed (failed_in after) named fault is (record { input = refl; shown = refl; printed = refl; slots = refl; blocks = refl })) asked;
     told = told_run contents left shown printed before after o o' are are' told;
     due = due_run contents left shown printed before after o o' are are' walked.due begins due told keeps;
   }

@@ -47,10 +47,9 @@ abbrev pub BrokeAtCallOf : Option Outside → ProgramUnit → (bound : ℕ) → 
 BrokeAtCallOf None unit bound old before after = ⊤
 BrokeAtCallOf (Some outside) unit bound old before after = BrokeAtCall outside unit bound old before after
 
--- What a walk leaves: where the four objects tell what they hold, what the walk of the unit leaves, and where an object has failed, what a call leaves
--- that uses it; what is told in the end was told at the
--- start, the input only loses its first bytes, what the terminal and the printer have taken only grows, and the drive is a valid image; and whether
--- a line is due is told by the bytes that the terminal has taken in between.
+-- What a walk leaves, where the four objects tell what they hold: what the walk of the unit leaves, and after a fault what a call of it leaves
+-- that uses the object. What is told in the end was told at the start. The input only loses its first bytes, what the terminal and the printer
+-- have taken only grows, and the drive is a valid image. Whether a line is due is told by the bytes that the terminal has taken in between.
 pub record WalkLeaves {D S T P : Type 0} (contents : D → Option (List (List ℕ))) (left : S → Option (List ℕ)) (shown : T → Option (List ℕ))
     (printed : P → Option (List ℕ)) (unit : ProgramUnit) (bound : ℕ) (old : Drawn) (walked : Walked) (new : Drawn)
     (before after : Objects D S T P) : Type 0 where

@@ -32,8 +32,8 @@ pub fn explore_text<W: Watcher>(
 ) -> Result<Report, AllocError>
     ensures explored { (text : List ℕ) (unit : ProgramUnit) → IsFrontOf text unit → code.now ≡ parts_of unit →
         IfOk result (λ report. IsExplorationOf text input.now limits.states limits.turns limits.shown (findings_of report)) }
-    ensures watches { WhereTold (W.seen watcher.old) (W.seen watcher.new)
-        (λ before now. IfOk result (λ report. IsWatched report.verdict (limits.states + 1) report.states before now)) }
+    ensures watches { IfOk result (λ report. WhereTold (W.seen watcher.old) (W.seen watcher.new)
+        (IsWatched report.verdict (limits.states + 1) report.states)) }
 {
     let report = explore(alloc, kernel, code, input, limits, watcher)?;
     Ok(report)

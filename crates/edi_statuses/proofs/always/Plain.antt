@@ -1,5 +1,5 @@
 -- The commands that run no program: how each may end.
-use Rattle.std.proofs.Common.{◌≡◌, ◌≤◌, ◌<◌, ℕ, ◌+◌, Bool, true, false, List, [], ◌∷◌, ◌++◌, length, drop, Some, None, refl, sym, ap, subst, inl, inr}
+use Rattle.std.proofs.Common.{◌≡◌, ◌≤◌, ◌<◌, ℕ, ◌+◌, Bool, true, false, List, [], ◌∷◌, ◌++◌, length, drop, Option, Some, None, is_some, refl, sym, ap, subst, inl, inr}
 use Rattle.std.proofs.Common.{true≢false, arith, ◌∙◌, length-append, length-drop, take, take-append-drop}
 use Rattle.std.specs.Prelude.{replicate, slice_get, suc}
 use Rattle.std.specs.List.{list_all}

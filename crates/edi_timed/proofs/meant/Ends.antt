@@ -110,7 +110,7 @@ module _ (code : CodeParts) (choices : Choices) (system : State) (bound before :
   abbrev Of : ℕ → List Stint
   Of n = stints_of_code code system bound choices before n
 
-  longer : (n k : ℕ) → n ≤ k → EndsIn code.words choices bound (From n) → Of k ≡ Of n
+  pub longer : (n k : ℕ) → n ≤ k → EndsIn code.words choices bound (From n) → Of k ≡ Of n
   longer n k le e =
       next_settled code.words choices bound n k (settled code.words choices bound n k le) _ _ [] [] [] before
       (entered (fetch code.words code.entry) code.entry code.calls bound system) e

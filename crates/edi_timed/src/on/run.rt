@@ -1,17 +1,17 @@
 //! A run with its timeline, on four objects.
 
-ghost use Rattle.std.specs.Prelude.{◌≡◌, ◌≤◌, ◌<◌, ◌+◌, ◌↔◌, [], IfErr, IfOk, IsSome};
+ghost use Rattle.std.specs.Prelude.{◌≡◌, ◌≤◌, ◌<◌, ◌+◌, ◌^◌, ◌↔◌, [], IfErr, IfOk, IsSome, Some};
 ghost use Rattle.edi_told.specs.Faults.{CountRose};
 ghost use Rattle.edi_told.specs.Told.{WhereTold};
+ghost use Rattle.edi_calls.specs.declared.ends.Outside.{Outside};
 ghost use Rattle.edi_catalog.specs.Counted.{IsOfCount};
 ghost use Rattle.edi_image.specs.Image.{mount_fault_of};
 ghost use Rattle.edi_image.specs.Finds.{IsFirst};
 ghost use Rattle.edi_system.specs.Parts.{IsValid};
-ghost use Rattle.edi_execute.specs.Objects.{FailedIs, NoneFalls, RunLeaves, contents_of, faults_in, objects, system_on};
+ghost use Rattle.edi_execute.specs.Objects.{FailedIs, NoneFalls, RunLeaves, StandsAtCall, contents_of, faults_in, objects, system_on};
 ghost use Rattle.edi_timed.specs.on.Timelines.{IsOf, IsTimelineOf, Timable};
 
-use crate::Heard;
-use crate::on::execution::time_heard;
+use crate::on::execution::time_execution;
 use edi_catalog::{MountFault, check, mount};
 use edi_disk::Disk;
 use edi_execute::Ran;
@@ -41,6 +41,10 @@ pub fn time_on<D: Drive, S: Source, T: Sink, P: Sink>(
     // As for `run_on`.
     ensures leaves { IfOk result (λ ran. RunLeaves D.contents S.left T.taken P.taken code.now bound choices.old ran kernel.new.store kernel.new.used choices.new
         (objects drive.old input.old terminal.old printer.old) (objects drive.new input.new terminal.new printer.new)) }
+    ensures call { IfOk result (λ ran. (outside : Outside) → ran.failed ≡ Some outside → choices.old.drawn + bound < 2 ^ 64
+        → WhereTold (contents_of D.contents S.left T.taken P.taken (objects drive.old input.old terminal.old printer.old))
+        (contents_of D.contents S.left T.taken P.taken (objects drive.new input.new terminal.new printer.new))
+        (StandsAtCall code.now bound choices.old outside)) }
     // Where the four objects tell what they hold, no choice was drawn before, and no object has failed, the timeline is that of the code,
     // and of each text whose code this is.
     ensures stints { IfOk result (λ ran. (ran.ending ≡ Ending.Fault → ⊥) → choices.old.drawn ≡ 0 → (program : Timable) → IsOf program code.now
@@ -77,9 +81,8 @@ pub fn time_on<D: Drive, S: Source, T: Sink, P: Sink>(
         Err(fault) => return Err(fault),
     };
     let catalog = mount(disk, &mut room);
-    let mut heard = Heard::new(System::new(catalog, input, terminal, printer, &mut buffer));
-    let ending = time_heard(kernel, code, &mut heard, bound, choices, timeline);
-    let system = heard.into_calls();
+    let mut system = System::new(catalog, input, terminal, printer, &mut buffer);
+    let ending = time_execution(kernel, code, &mut system, bound, choices, timeline);
     Ok(Ran {
         ending,
         failed: system.failed(),

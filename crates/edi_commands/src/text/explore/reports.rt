@@ -32,8 +32,8 @@ pub(crate) fn explore_program<W: Watcher>(
 ) -> Result<Explored, AllocError>
     ensures finds { (text : List ℕ) (unit : ProgramUnit) → IsExplorable text unit program.now →
         IfOk result (λ e. IsExplored text input.now limits.states limits.turns limits.shown (option_map (λ name. name.now) record_file.entry) e) }
-    ensures watches { WhereTold (W.seen watcher.old) (W.seen watcher.new)
-        (λ before now. IfOk result (λ e. IsWatched e.report.verdict (limits.states + 1) e.report.states before now)) }
+    ensures watches { IfOk result (λ e. WhereTold (W.seen watcher.old) (W.seen watcher.new)
+        (IsWatched e.report.verdict (limits.states + 1) e.report.states)) }
 {
     let report = explore_text(alloc, kernel, &program.code, input, limits, watcher)?;
     let lines = report_text(alloc, &report, limits.shown.is_some(), record_file)?;

@@ -17,4 +17,5 @@ returns c =
     let five = c.in_ok-arg-5.ensures.shape c.option_of-5.ensures.local ∙ ap₂ with_rule four c.option_of-5.ensures.rule in
     let six = c.in_ok-arg-6.ensures.shape c.option_of-6.ensures.local ∙ ap₂ with_rule five c.option_of-6.ensures.rule in
     let seven = c.in_ok-arg-7.ensures.shape c.option_of-7.ensures.local ∙ ap₂ with_rule six c.option_of-7.ensures.rule in
-    IfOk-weaker c.arg-8.result _ _ (λ r h. h.shape c.operands_of.ensures.local ∙ ap₂ with_rule seven c.operands_of.ensures.rule) c.arg-8.ensures
+    let eight = c.in_ok-arg-8.ensures.shape c.option_of-8.ensures.local ∙ ap₂ with_rule seven c.option_of-8.ensures.rule in
+    IfOk-weaker c.arg-9.result _ _ (λ r h. h.shape c.operands_of.ensures.local ∙ ap₂ with_rule eight c.operands_of.ensures.rule) c.arg-9.ensures

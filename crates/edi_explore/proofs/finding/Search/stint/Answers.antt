@@ -1,5 +1,5 @@
 -- How the stint was followed, and what came of it.
-use Rattle.std.proofs.Common.{false, sym, ap, subst, ◌∙◌}
+use Rattle.std.proofs.Common.{false, refl, sym, ap, subst, ◌∙◌}
 use Rattle.edi_explore.specs.declared.expand.Expanded.TheVariants as expanded
 use Rattle.edi_explore.specs.declared.finding.Search.{Search}
 use Rattle.edi_explore.specs.declared.step.Followed.{Followed}
@@ -9,6 +9,7 @@ use Rattle.edi_explored.specs.machine.Alike.{SameShown}
 use Rattle.edi_explore.specs.Shown.{asks_of}
 use Rattle.edi_explore.specs.Steps.{FollowsStint}
 use Rattle.edi_explore.proofs.Expanding.{came_cut, came_ended, came_failed, came_led}
+use Rattle.edi_explore.proofs.Findings.{found_none}
 use Rattle.edi_explore.proofs.Recording.{has_as}
 use Rattle.edi_explore.proofs.finding.Search.stint.Goals as goal
 
@@ -66,3 +67,33 @@ returns-in_ok-told-in-Ended-clause-follows c =
     has_as (asks_of c.args.limits) b.found.items c.in-Ended.ending c.in_ok-shown_if-in-Ended.field-0.items c.follow.new.calls.shown.items
     (subst (λ x. SameShown x c.in_ok-shown_if-in-Ended.field-0.items c.follow.new.calls.shown.items) c.asks.ensures
     c.in_ok-shown_if-in-Ended.ensures) (c.in_ok-told-in-Ended.ensures.told told)))
+
+pub returns-in_err-followed-clause-finds : goal.returns-in_err-followed-clause-finds
+returns-in_err-followed-clause-finds c =
+    let b : Search = record c.args.self.now { states = c.follow.new.states; calls = c.follow.new.calls } in
+    found_none c.args.code.now c.args.input.now c.args.limits c.args.self.now b refl refl
+
+pub returns-in_err-shown_if-in-Ended-clause-finds : goal.returns-in_err-shown_if-in-Ended-clause-finds
+returns-in_err-shown_if-in-Ended-clause-finds c =
+    let b : Search = record c.args.self.now { states = c.follow.new.states; calls = c.follow.new.calls } in
+    found_none c.args.code.now c.args.input.now c.args.limits c.args.self.now b refl refl
+
+pub returns-in-Led-clause-finds : goal.returns-in-Led-clause-finds
+returns-in-Led-clause-finds c =
+    let b : Search = record c.args.self.now { states = c.follow.new.states; calls = c.follow.new.calls } in
+    found_none c.args.code.now c.args.input.now c.args.limits c.args.self.now b refl refl
+
+pub returns-in-Failed-clause-finds : goal.returns-in-Failed-clause-finds
+returns-in-Failed-clause-finds c =
+    let b : Search = record c.args.self.now { states = c.follow.new.states; calls = c.follow.new.calls } in
+    found_none c.args.code.now c.args.input.now c.args.limits c.args.self.now b refl refl
+
+pub returns-in_err-note_cut-in-Cut-clause-finds : goal.returns-in_err-note_cut-in-Cut-clause-finds
+returns-in_err-note_cut-in-Cut-clause-finds c =
+    found_none c.args.code.now c.args.input.now c.args.limits c.args.self.now c.note_cut.new.self
+    (ap (λ (s : Search). s.found.items) c.note_cut.ensures.rest) (ap (λ (s : Search). s.moves) c.note_cut.ensures.rest)
+
+pub returns-in_ok-note_cut-in-Cut-clause-finds : goal.returns-in_ok-note_cut-in-Cut-clause-finds
+returns-in_ok-note_cut-in-Cut-clause-finds c =
+    found_none c.args.code.now c.args.input.now c.args.limits c.args.self.now c.note_cut.new.self
+    (ap (λ (s : Search). s.found.items) c.note_cut.ensures.rest) (ap (λ (s : Search). s.moves) c.note_cut.ensures.rest)

@@ -17,14 +17,16 @@ pub loop-slot-init : goal.loop-slot-init
 loop-slot-init c =
     let there = c.in_ok-place.ensures.there in
     record {
-      parts = parts_none c.place_of.new.self.processes.keys c.args.kernel.now;
+      parts =
+          subst (λ (xs : List ℕ). ArePartsBelow 0 c.place_of.new.self.processes.keys xs c.args.kernel.now) (sym c.in_ok-parts.ensures.items)
+          (parts_none c.place_of.new.self.processes.keys c.args.kernel.now);
       adds = c.in_ok-place.ensures.adds;
       place = (there.0, there.1, same_place c.args.asks c.args.calls.now c.in_ok-keep.field-0 there.0 c.in_ok-keep.ensures there.2);
     }
 
 pub returns-clause-key : goal.returns-clause-key
 returns-clause-key c =
-    parts_key c.args.asks c.loop-slot.self (record { place = c.loop-slot.place; parts = c.loop-slot.parts }) c.args.kernel.now c.args.calls.now c.loop-slot.slot
+    parts_key c.args.asks c.loop-slot.self (record { place = c.in_ok-place.place; parts = c.loop-slot.parts }) c.args.kernel.now c.args.calls.now c.loop-slot.slot
     c.loop-slot.invariant.parts (omega (arith, c.loop-slot-test.false)) c.loop-slot.invariant.place
 
 pub loop-slot-preserved-then-not-lives : goal.loop-slot-preserved-then-not-lives

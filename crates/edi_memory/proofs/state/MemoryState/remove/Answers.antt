@@ -19,5 +19,5 @@ returns-in-Some c =
     record {
       exact = removed c.args.words.now c.in-Some.title.items before after c.from.result named
           (subst (λ w. Reaches (remove_as c.in-Some.title.items before) (Ok (Some w)) before after) (sym word) reached);
-      used = tt
+      used = tt;
     }

@@ -3,6 +3,7 @@ use Rattle.edi_unit.specs.View.{unit_of}
 use Rattle.edi_system.proofs.Chained.{behind_none, keeps_on, keeps_told_on, told_behind, told_then}
 use Rattle.edi_system.proofs.Lasting.{valid_ready}
 use Rattle.edi_execute.proofs.Executing.{run_keeps}
+use Rattle.edi_system.specs.AsCalls.{HasFailed}
 use Rattle.edi_system.specs.State.{failed_in}
 use Rattle.edi_walk.specs.Ends.{WalkFaultsBy, WalksTo}
 use Rattle.edi_runs.proofs.walk.Walking.{blamed, failed_so, named}
@@ -19,7 +20,8 @@ returns-clause-asked g c =
     told_then _ _ _ _ _ _
     (λ x y z same faults. subst
     (λ s. WalkFaultsBy (λ o. failed_in c.walk.new.calls ≡ o) (unit_of c.args.unit.now) s c.args.bound c.args.choices.now c.walk.result z c.walk.new.choices) same
-    (failed_so _ (λ o. failed_in c.walk.new.calls ≡ o) _ _ _ _ c.walk.result _ _ (λ o h. h.is) faults))
+    (failed_so (HasFailed g.D.Drive.contents g.D.Drive.count c.walk.new.calls) (λ o. failed_in c.walk.new.calls ≡ o) (unit_of c.args.unit.now) y c.args.bound
+    c.args.choices.now c.walk.result z c.walk.new.choices (λ o h. h.is) faults))
     c.begin_program.ensures.exact c.walk.ensures.asked
 
 pub returns-clause-failed : goal.returns-clause-failed
