@@ -1,5 +1,5 @@
 -- The commands that keep a timeline: how each may end.
-use Rattle.std.proofs.Common.{ℕ, List, ◌++◌, Option, refl}
+use Rattle.std.proofs.Common.{Option, ℕ, List, ◌++◌, refl}
 use Rattle.edi_calls.specs.Choice.{Choices}
 use Rattle.edi_calls.specs.State.{fresh}
 use Rattle.edi_host.specs.Contents.{Contents}
