@@ -21,7 +21,7 @@ use Rattle.edi_walk.specs.Walk.{WalkEnds}
 use Rattle.edi_walk.specs.declared.walking.WalkEnd.{WalkEnd}
 use Rattle.edi_walk.specs.declared.walking.WalkEnd.TheVariants as end
 use Rattle.edi_runs.specs.walk.Leaves as leaves
-use Rattle.edi_runs.specs.walk.Leaves.{BrokeAtCall}
+use Rattle.edi_runs.specs.walk.Leaves.{BrokeAtCall, BrokeAtCallOf}
 use Rattle.edi_runs.specs.walk.Walks.{IsCallOfWalk, IsMomentOfWalk, IsWalkEnding}
 use Rattle.edi_runs.proofs.walk.Chained.{followed_among, walk_end_blocks, walk_moment_blocks}
 use Rattle.edi_runs.proofs.walk.Left.{IsBrokenOff, StandsInWalk, stands_in_walk}
@@ -266,11 +266,13 @@ module _ (unit : ProgramUnit) (bound : ℕ) (before after : Outside) (kernel : K
         (λ x y h. stands_in_walk unit bound old e new x y off h) told
 
     -- an object has failed
-    pub failed_so : (s : Status) (failed : failing.Outside) → s ≡ object_status failed
-        → WhereTold (told_by before) (told_by after) (BrokeAtCall failed unit bound old) → RanWalk unit bound old.source s due before after (idle kernel)
-    failed_so s failed is told =
+    pub failed_so : (s : Status) (failed : failing.Outside) (which : Option failing.Outside) → s ≡ object_status failed → which ≡ Some failed
+        → WhereTold (told_by before) (told_by after) (BrokeAtCallOf which unit bound old) → RanWalk unit bound old.source s due before after (idle kernel)
+    failed_so s failed which is there told =
+        let broke_there : WhereTold (told_by before) (told_by after) (BrokeAtCall failed unit bound old) =
+        subst (λ w. WhereTold (told_by before) (told_by after) (BrokeAtCallOf w unit bound old)) there told in
         ran_so s (λ bytes whose. subst (λ t. TextWalked bytes bound old.source t (seen before after) after shown_now (idle kernel)) (sym is)
-        (failed_by failed bytes (failed_at failed told bytes whose)))
+        (failed_by failed bytes (failed_at failed broke_there bytes whose)))
 
     -- memory ran out
     wants_so : (s : Status) → s ≡ status.NoMemory → WhereTold (told_by before) (told_by after) (StandsInWalk unit bound old)

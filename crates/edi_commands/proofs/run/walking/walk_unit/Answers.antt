@@ -1,9 +1,7 @@
 -- The exits of a walk.
-use Rattle.std.proofs.Common.{rules, ◌≡◌, ◌∙◌, Some, arith, refl, sym, subst, ap}
+use Rattle.std.proofs.Common.{rules, ◌≡◌, ◌∙◌, refl, ap}
 use Rattle.edi_calls.specs.declared.ends.Outside.TheVariants as object
-use Rattle.edi_told.specs.Told.{WhereTold}
 use Rattle.edi_unit.specs.View.{unit_of}
-use Rattle.edi_runs.specs.walk.Leaves.{BrokeAtCallOf}
 use Rattle.edi_walk.specs.declared.walking.WalkEnd.TheVariants as end
 use Rattle.edi_commands.specs.steps.NotMounted.{mount_status}
 use Rattle.edi_statuses.specs.Executions.{object_status}
@@ -30,11 +28,10 @@ returns-in-Err-clause-ran g c = λ files kernel.
 pub returns-in-Some-clause-ran : goal.returns-in-Some-clause-ran
 returns-in-Some-clause-ran g c = λ files kernel.
     let l = c.in-Ok.ensures.leaves in
-    let there : c.in-Ok.walked.failed ≡ Some c.in-Some.object = search rules in
     with_bound c.from.result c.args.turns (search rules) _ _ _ _ _ _ _
     (failed_so (unit_of c.args.unit.now) c.from.result _ _ kernel c.args.choices.now c.requires.none_drawn c.in-Ok.walked.due
-    (left_on _ _ _ c.in-Ok.ensures.mounted l.told l.due) refl c.object_status.result c.in-Some.object c.object_status.ensures.exact
-    (subst (λ f. WhereTold _ _ (BrokeAtCallOf f (unit_of c.args.unit.now) c.from.result c.args.choices.now)) there l.broke))
+    (left_on _ _ _ c.in-Ok.ensures.mounted l.told l.due) refl c.object_status.result c.in-Some.object c.in-Ok.walked.failed
+    c.object_status.ensures.exact c.in-Some.is l.broke)
 
 pub returns-clause-ran : goal.returns-clause-ran
 returns-clause-ran g c = λ files kernel.
