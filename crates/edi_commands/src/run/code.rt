@@ -1,6 +1,6 @@
 //! Running a code.
 
-ghost use Rattle.std.specs.Prelude.{◌≡◌, ⊤, None, Some, option_map};
+ghost use Rattle.std.specs.Prelude.{◌≡◌, true, ⊤, None, Some, option_map};
 ghost use Rattle.edi_told.specs.Told.{WhereTold};
 ghost use Rattle.edi_statuses.specs.Outside.{lent, outside_of};
 ghost use Rattle.edi_statuses.specs.Counts.{counts_of, HasCause, NoneFalls};

@@ -16,8 +16,8 @@ returns-then-not-is_kept-clause-keeps g c =
     stops_told (record_of (option_map (λ text. text.now) c.args.record_file) c.args.choices.now.source c.args.choices.now.drawn)
     (timeline_files c.args.out.now c.args.timeline.now) c.keep_record-recorded.result _ _ lost c.keep_record-recorded.ensures.keeps
 
-pub returns-then-not-is_kept-lines-clause-keeps : goal.returns-then-not-is_kept-lines-clause-keeps
-returns-then-not-is_kept-lines-clause-keeps g c =
+pub returns-then-not-is_kept-2-clause-keeps : goal.returns-then-not-is_kept-2-clause-keeps
+returns-then-not-is_kept-2-clause-keeps g c =
     let told = c.args.timeline.now in
     let out : List ℕ = c.args.out.now in
     let lines : Kept = (out ++ codes ".txt", text_of told.count told.stints) in
