@@ -107,7 +107,7 @@ fn show_watch(rt: &HostRuntime, asked: Asked<'_>, more: &str) {
     let file = asked.file;
     if asked.command == "run" || asked.command == "replay" {
         let _ = eprintln!(rt;
-            "edison watch {file} STOPS OUT logs what variables hold at each 'when'{more}"
+            "--timeline NAME keeps a picture of the run; edison watch {file} STOPS OUT logs what variables hold{more}"
         );
     }
 }
