@@ -18,7 +18,7 @@ use Rattle.edi_statuses.specs.declared.status.Status.{Status}
 use Rattle.edi_statuses.specs.declared.status.Status.TheVariants as status
 use Rattle.edi_statuses.specs.Counts.{Counts, HasCause}
 use Rattle.edi_statuses.specs.Decided.{Came}
-use Rattle.edi_statuses.specs.EachObject.{FitsCount, is_before_drive}
+use Rattle.edi_statuses.specs.EachObject.{FitsCount, LeavesEach, is_before_drive}
 use Rattle.edi_statuses.specs.Outside.{Outside, IsSomeFile, SameBut, SameFiles, seen, still_told, Lent}
 use Rattle.edi_statuses.specs.Steps.{AfterStep, goes, stops, Accepts, Fetches, Loads, Mounts, ReadsChoices}
 use Rattle.edi_statuses.specs.Executions.{Runnable, text, code, BrokeRun, status_of}
@@ -265,6 +265,10 @@ module _ (name out : List ℕ) (o : Options) (before : Outside) (kernel : Lent) 
         let P : Contents → Type 0 = λ files. map.get files name ≡ Some all in
         till_the_last P before.files new after.files last (till_the_last P before.files mid new (just_told (λ a b. b ≡ a) mid new second) f)
 
+    left_each : (parts : CodeParts) → RanTimed parts o.turns choices out o.record_file s due (with_files before new) after kernel
+        → LeavesEach None before after
+    left_each parts r = record { drive = λ stays. r.each.drive refl; input = r.each.input; printer = r.each.printer }
+
     -- the files before the run are those before the call
     ran_so : (p : Runnable) (parts : CodeParts) → IsOf (timable p) parts
         → (r : RanTimed parts o.turns choices out o.record_file s due (with_files before new) after kernel)
@@ -282,7 +286,7 @@ module _ (name out : List ℕ) (o : Options) (before : Outside) (kernel : Lent) 
         (ran_means (IsSomeFile then_ name) (RunAsks then_ name o.choices) (RunSteps then_ name o.choices) (λ a. text a.0) (λ a. a.1) (all, choices)
         o.turns out o.record_file then_ after r.shown kernel (unit, inr (all, got, inr (choices, there, u)))
         (λ m. inr (all, got, inr (choices, there, inr (unit, u, inr (tt, m, refl)))))
-        (λ x m. inr (all, got, inr (choices, there, inr (unit, u, inl m)))) s (ran_so (text all) parts is r))) r.shows r.due_is r.each
+        (λ x m. inr (all, got, inr (choices, there, inr (unit, u, inl m)))) s (ran_so (text all) parts is r))) r.shows r.due_is (left_each parts r)
 
     pub code_timed : (parts : CodeParts) → Loads all (goes parts)
         → RanTimed parts o.turns choices out o.record_file s due (with_files before new) after kernel
@@ -293,7 +297,7 @@ module _ (name out : List ℕ) (o : Options) (before : Outside) (kernel : Lent) 
         (ran_means (IsSomeFile then_ name) (ExecAsks then_ name o.choices) (ExecSteps then_ name o.choices) (λ a. code a.0) (λ a. a.1) (parts, choices)
         o.turns out o.record_file then_ after r.shown kernel (parts, inr (all, got, inr (choices, there, u)))
         (λ m. inr (all, got, inr (choices, there, inr (parts, u, inr (tt, m, refl)))))
-        (λ x m. inr (all, got, inr (choices, there, inr (parts, u, inl m)))) s (ran_so (code parts) parts refl r))) r.shows r.due_is r.each
+        (λ x m. inr (all, got, inr (choices, there, inr (parts, u, inl m)))) s (ran_so (code parts) parts refl r))) r.shows r.due_is (left_each parts r)
 
     pub file_timed : (x : Form) (parts : CodeParts) → bytes ≡ take (limit_of x) all → TimedStep x bytes (Ok parts)
         → RanTimed parts o.turns choices out o.record_file s due (with_files before new) after kernel

@@ -21,7 +21,8 @@ returns-in-Err-clause-came g c =
     let f = c.args.form in
     let o : Options = options_of c.args.options in
     stopped_timed f c.args.file.now c.args.out.now o before kernel c.in-Err.status _ _ _
-    (fetch_is_stop {V = Vec ℕ Global} (λ v. v.items) _ c.args.file.now c.limit_of.result c.in-Err.status c.in-Err.ensures.fetched)
+    (fetch_is_stop {V = Vec ℕ Global} (λ v. v.items)
+    (files_only (still_told (g.F.Files.contents c.args.files.now) (g.F.Files.contents c.fetch.new.files))) c.args.file.now c.limit_of.result c.in-Err.status c.in-Err.ensures.fetched)
     c.stopped.ensures.status_is c.stopped.ensures.due
     (fetch_stops (third f) (make f) (program f) c.args.file.now o.choices o.turns None before kernel {V = Vec ℕ Global} (λ v. v.items)
     c.limit_of.result (g.F.Files.contents c.fetch.new.files) c.in-Err.status refl c.in-Err.ensures.fetched c.in-Err.ensures.only.unchanged)
@@ -35,7 +36,7 @@ returns-in-Err-read_from-clause-came g c =
     let o : Options = options_of c.args.options in
     let fetched = c.in-Ok.ensures.fetched in
     stopped_timed f c.args.file.now c.args.out.now o before kernel c.in-Err-read_from.status _ _ _
-    (choices_are_stop _ o.choices c.in-Err-read_from.status c.in-Err-read_from.ensures.reads) c.stopped-in-Err-read_from.ensures.status_is
+    (choices_are_stop (files_only (still_told (g.F.Files.contents c.fetch.new.files) (g.F.Files.contents c.read_from.new.files))) o.choices c.in-Err-read_from.status c.in-Err-read_from.ensures.reads) c.stopped-in-Err-read_from.ensures.status_is
     c.stopped-in-Err-read_from.ensures.due
     (choices_stop (third f) (make f) (program f) c.args.file.now o.choices o.turns None before kernel fetched.0
     (g.F.Files.contents c.fetch.new.files) (g.F.Files.contents c.read_from.new.files) fetched.1 c.in-Ok.ensures.only.unchanged
