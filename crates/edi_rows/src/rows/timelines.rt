@@ -62,22 +62,42 @@ none r
 /// The files fail: at the record, at the lines, at the picture; and the terminal, in the run.
 const FAULTS: &str = "
 files 2
+| proc main(proc display(value: char))
+| var x: int
+| begin cobegin 1 do when x = 0 do display('a'); x := 1 end
+| also 2 do when true do display('b') end end end
+file race
 call 6 run race --record r --timeline t
 shows ab/file fault/
 none t.txt
 none t.svg
 files 3
+| proc main(proc display(value: char))
+| var x: int
+| begin cobegin 1 do when x = 0 do display('a'); x := 1 end
+| also 2 do when true do display('b') end end end
+file race
 call 6 run race --record s --timeline u
 shows ab/file fault/
 holds s 0/0/0/
 none u.svg
 files 4
+| proc main(proc display(value: char))
+| var x: int
+| begin cobegin 1 do when x = 0 do display('a'); x := 1 end
+| also 2 do when true do display('b') end end end
+file race
 call 6 run race --record v --timeline w
 shows ab/file fault/
 holds v 0/0/0/
 none w.svg
 files 0
 terminal 0 0
+| proc main(proc display(value: char))
+| var x: int
+| begin cobegin 1 do when x = 0 do display('a'); x := 1 end
+| also 2 do when true do display('b') end end end
+file race
 call 9 run race --record x --timeline y
 none x
 none y.txt
