@@ -129,11 +129,11 @@ EXPLAINED = b"""2: begin f end
          ^
 the name 'f' seems to mean nothing here
 A name of this line means nothing here. Each of these may be the reason:
-- It is display or another call of the system, and the heading of the program does not name it.
-- It is spelled in another way. Small and capital letters differ. The standard types are int, char and bool.
-- It is declared further down. A procedure may be announced before, by 'pre proc' with its heading.
-- It is declared in a procedure or a module that has ended. A name of a module is seen outside if it has a '*'.
-- It is a field that the record has not.
+- It is a call of the system that the heading does not name. Write proc main(proc display(c: char)) for display.
+- It is declared nowhere, or spelled in another way: 'Int' is not 'int'. The standard types are int, char and bool.
+- It is declared further down. Move it up; or put 'pre proc' and its heading above, and 'post' before the later 'proc'.
+- Its procedure or its module has ended. A module shows what has a '*' before its declaration, as in * var x: int.
+- It stands after a period, and the record has no field of this name.
 """
 
 # A text that is explored. Where branch 2 is first, branch 1 waits for ever: entry, fork, two arrivals, an end and an attempt; else both end.
