@@ -48,11 +48,11 @@ module _ (b m : Outside) (y : Option (List ℕ)) (still : StillTold m.shown y) w
         own_later (λ a c. RanUnkept program bound choices a c shown kernel)
         (λ disk left. unkept_later (with_own [] [] b) (with_own disk left m) y still program bound choices shown kernel)
 
-    own_broke : (shown : List ℕ) → OnItsOwn (λ a c. SameFiles a c × BrokeRun status.OutputFault program bound choices a c shown) before_ m
-        → OnItsOwn (λ a c. SameFiles a c × BrokeRun status.OutputFault program bound choices a c shown) seen_later later_
+    own_broke : (shown : List ℕ) → OnItsOwn (λ a c. SameFiles a c × BrokeRun status.OutputFault kernel.failed program bound choices a c shown) before_ m
+        → OnItsOwn (λ a c. SameFiles a c × BrokeRun status.OutputFault kernel.failed program bound choices a c shown) seen_later later_
     own_broke shown =
-        own_later (λ a c. SameFiles a c × BrokeRun status.OutputFault program bound choices a c shown)
-        (λ disk left h. (h.0, broke_later (with_own [] [] b) (with_own disk left m) y still status.OutputFault program bound choices shown h.1))
+        own_later (λ a c. SameFiles a c × BrokeRun status.OutputFault kernel.failed program bound choices a c shown)
+        (λ disk left h. (h.0, broke_later (with_own [] [] b) (with_own disk left m) y still status.OutputFault kernel.failed program bound choices shown h.1))
 
     pub demonstrates_later : (s : Status) (shown : List ℕ) → Demonstrates n bound choices name s before_ m shown kernel
         → Demonstrates n bound choices name s seen_later later_ shown kernel
@@ -61,4 +61,4 @@ module _ (b m : Outside) (y : Option (List ℕ)) (still : StillTold m.shown y) w
     pub broke_demo_later : (shown : List ℕ) → BrokeDemo n bound choices name before_ m shown kernel → BrokeDemo n bound choices name seen_later later_ shown kernel
     broke_demo_later shown (inl h) = inl (own_broke shown h)
     broke_demo_later shown (inr h) =
-        inr (record { by_program = h.by_program; line = h.line; front = h.front; shown_ = h.shown_; ran = own_runs status.Ok h.by_program h.ran })
+        inr (record { by_program = h.by_program; line = h.line; front = h.front; shown_ = h.shown_; blamed = h.blamed; ran = own_runs status.Ok h.by_program h.ran })

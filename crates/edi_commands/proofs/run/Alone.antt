@@ -5,6 +5,7 @@ use Rattle.std.specs.Prelude.{⊤}
 use Rattle.edi_told.specs.Told.{WhereTold}
 use Rattle.edi_host.specs.Blocks.{block_of}
 use Rattle.edi_host.specs.Contents.{Contents}
+use Rattle.edi_calls.specs.declared.ends.Outside.TheVariants as object
 use Rattle.edi_calls.specs.Choice.{Choices}
 use Rattle.edi_target.specs.Check.{CodeParts}
 use Rattle.edi_texts.specs.Run.{IsCodeFor}
@@ -17,7 +18,7 @@ use Rattle.edi_statuses.specs.declared.status.Status.TheVariants as status
 use Rattle.edi_statuses.specs.Counts.{HasCause, counts_with}
 use Rattle.edi_statuses.specs.EachObject.{LeavesEach}
 use Rattle.edi_statuses.specs.Means.{MeansOf}
-use Rattle.edi_statuses.specs.Outside.{KernelLeft, Lent, Outside, idle, outside_with, seen, still_told}
+use Rattle.edi_statuses.specs.Outside.{KernelLeft, Lent, Outside, blaming, idle, outside_with, seen, still_told}
 use Rattle.edi_statuses.specs.Showing.{ShowsBytes, due_behind}
 use Rattle.edi_statuses.specs.Steps.{ReadsChoices, goes}
 use Rattle.edi_statuses.specs.Executions.{text}
@@ -191,22 +192,35 @@ module _ (n : ℕ) (o : Options) (old mid new : Option Contents) (choices : Choi
   -- the line of its size was shown, or a first part of it
   module _ (ok : s ≡ status.Ok) (shows : Option (List ℕ)) (ended : Ended)
       (line : ShowsBytes (size_line n kernel.after.used r.ran.shown) due ended takes shows) where
+    -- for which the terminal is blamed
+    abbrev blaming_it : Lent
+    blaming_it = blaming (Some object.Terminal) kernel
+
     runs : Runs (text (demo_text n)) o.turns choices o.record_file status.Ok
         (outside_with (still_told old new) (Some []) (Some []) (still_told taken shows) (still_told printed prints))
-        (outside_with new (Some r.disk) (Some r.left) shows prints) r.ran.shown kernel
+        (outside_with new (Some r.disk) (Some r.left) shows prints) r.ran.shown blaming_it
     runs =
         let whole = subst (λ t. CodeRan (text (demo_text n)) o.turns choices o.record_file t
         (outside_with (still_told old new) (Some []) (Some []) (still_told taken takes) (still_told printed prints))
         (outside_with new (Some r.disk) (Some r.left) takes prints) r.ran.shown kernel) ok ran in
-        runs_later (outside_with old (Some []) (Some []) taken printed) (outside_with new (Some r.disk) (Some r.left) takes prints) shows
-        (closing.still_told takes shows _ line.2) (text (demo_text n)) o.turns choices o.record_file status.Ok r.ran.shown kernel whole.1
+        let later = runs_later (outside_with old (Some []) (Some []) taken printed) (outside_with new (Some r.disk) (Some r.left) takes prints) shows
+        (closing.still_told takes shows _ line.2) (text (demo_text n)) o.turns choices o.record_file status.Ok r.ran.shown kernel whole.1 in
+        record {
+          ending = later.ending;
+          drawn = later.drawn;
+          within = later.within;
+          used = later.used;
+          status_is = later.status_is;
+          ran = later.ran;
+          keeps = later.keeps;
+        }
 
-    pub lined : CameAlone (words.demo n o) ended.status ended.due old new taken shows printed prints kernel
+    pub lined : CameAlone (words.demo n o) ended.status ended.due old new taken shows printed prints blaming_it
     lined = λ blocks input. record {
       shown = r.ran.shown ++ line.0;
       means = line_means n o (seen (outside_with old blocks input taken printed) (outside_with new blocks input shows prints))
-          (outside_with new blocks input shows prints) (same_told blocks blocks refl) (same_told input input refl) kernel choices (steps shows blocks input)
-          r.disk r.left r.ran.shown runs ended.status line.0 line.1;
+          (outside_with new blocks input shows prints) (same_told blocks blocks refl) (same_told input input refl) blaming_it refl choices
+          (steps shows blocks input) r.disk r.left r.ran.shown runs ended.status line.0 line.1;
       shows = closing.shown_line taken takes shows r.ran.shown line.0 r.ran.shows line.2;
       due_is = line.3 ∙ ap (λ d. due_behind d line.0) r.ran.due_is ∙ sym (due_then r.ran.shown line.0);
       each = each_alone shows blocks input;

@@ -12,6 +12,7 @@ ghost use Rattle.edi_statuses.specs.Lines.{feed};
 ghost use Rattle.edi_statuses.specs.EachObject.{is_before_drive, names_file};
 ghost use Rattle.edi_statuses.specs.Outside.{lent};
 ghost use Rattle.edi_statuses.specs.Showing.{ShowsBytes};
+ghost use Rattle.edi_commands.specs.run.Blaming.{Blaming};
 ghost use Rattle.edi_commands.specs.run.Demonstrated.{CameAlone, DemoStep, HasCauseAlone, RanAlone, is_ok};
 
 use crate::run::code::run_code;
@@ -78,8 +79,9 @@ fn run_alone<F: Files, T: Sink, P: Sink>(
     kernel: &mut Kernel,
 ) -> Ended
     requires none_drawn { choices.old.drawn ≡ 0 }
-    ensures ran { RanAlone code.now turns choices.old.source (option_map (λ name. name.now) record_file.entry) result.status result.due
-        (F.contents files.old) (F.contents files.new) (T.taken terminal.old) (T.taken terminal.new) (P.taken printer.old) (P.taken printer.new)
+    ensures ran { Blaming result.status (T.faults terminal.old) (T.faults terminal.new) (P.faults printer.old) (P.faults printer.new)
+        (RanAlone code.now turns choices.old.source (option_map (λ name. name.now) record_file.entry) result.status result.due
+        (F.contents files.old) (F.contents files.new) (T.taken terminal.old) (T.taken terminal.new) (P.taken printer.old) (P.taken printer.new))
         (lent kernel.old.store kernel.old.used kernel.new.store kernel.new.used) }
     ensures tells { WhereTold (F.contents files.old) (F.contents files.new) (λ old new. ⊤) }
     ensures cause { HasCauseAlone result.status (F.faults files.old) (F.faults files.new) (T.faults terminal.old) (T.faults terminal.new)
@@ -165,8 +167,9 @@ pub fn demonstrate<F: Files, T: Sink, P: Sink>(
 ) -> Ended
     requires some { 1 ≤ n }
     requires many { n ≤ 1000 }
-    ensures came { CameAlone (demo_words n (options_of options.entry)) result.status result.due
-        (F.contents files.old) (F.contents files.new) (T.taken terminal.old) (T.taken terminal.new) (P.taken printer.old) (P.taken printer.new)
+    ensures came { Blaming result.status (T.faults terminal.old) (T.faults terminal.new) (P.faults printer.old) (P.faults printer.new)
+        (CameAlone (demo_words n (options_of options.entry)) result.status result.due
+        (F.contents files.old) (F.contents files.new) (T.taken terminal.old) (T.taken terminal.new) (P.taken printer.old) (P.taken printer.new))
         (lent kernel.old.store kernel.old.used kernel.new.store kernel.new.used) }
     ensures cause { HasCauseAlone result.status (F.faults files.old) (F.faults files.new) (T.faults terminal.old) (T.faults terminal.new)
         (P.faults printer.old) (P.faults printer.new) }
