@@ -10,7 +10,7 @@ use Rattle.edi_statuses.proofs.EachLeft.{same_valid, untouched, untouched_alone,
 use Rattle.edi_statuses.proofs.Silent.{on_files}
 use Rattle.edi_statuses.proofs.Told.{told_so}
 use Rattle.edi_main.proofs.Obeyed.{counts_so, obeyed, obeyed_demo, obeyed_replay, obeyed_so, on_disk, unmounted_last, unmounted_never, unmounted_so}
-use Rattle.edi_main.proofs.Obeyed.{came_else, came_run, never_on_disk, never_on_files, terminal_rose, untouched_so}
+use Rattle.edi_main.proofs.Obeyed.{came_else, came_run, never_on_disk, never_on_files, run_so, terminal_rose, untouched_so}
 use Rattle.edi_main.proofs.top.perform.Goals as goal
 
 pub returns-in-Compile-clause-came : goal.returns-in-Compile-clause-came
@@ -371,28 +371,28 @@ returns-in-TimeCode-clause-unmounted g c =
 
 pub returns-in-Run-clause-came : goal.returns-in-Run-clause-came
 returns-in-Run-clause-came g c =
-    came_run (Some (view c.args.command)) c.run_file.result.status c.run_file.result.due _ _ _ _ _ (ap (λ x. command_does uses_devices (Some (view x))) c.in-Run.is) c.run_file.ensures.cause c.run_file.ensures.came.0 c.run_file.ensures.came.1
-    (obeyed_so c.args.command (command.Run c.in-Run.file c.in-Run.options) c.run_file.result.status c.run_file.result.due _ _ _ c.in-Run.is c.run_file.ensures.came.2)
+    run_so c.args.command (command.Run c.in-Run.file c.in-Run.options) c.run_file.result.status c.run_file.result.due _ _ _ _ _
+    c.in-Run.is refl c.run_file.ensures.cause c.run_file.ensures.came
 
 pub returns-in-Exec-clause-came : goal.returns-in-Exec-clause-came
 returns-in-Exec-clause-came g c =
-    came_run (Some (view c.args.command)) c.run_file-in-Exec.result.status c.run_file-in-Exec.result.due _ _ _ _ _ (ap (λ x. command_does uses_devices (Some (view x))) c.in-Exec.is) c.run_file-in-Exec.ensures.cause c.run_file-in-Exec.ensures.came.0 c.run_file-in-Exec.ensures.came.1
-    (obeyed_so c.args.command (command.Exec c.in-Exec.file c.in-Exec.options) c.run_file-in-Exec.result.status c.run_file-in-Exec.result.due _ _ _ c.in-Exec.is c.run_file-in-Exec.ensures.came.2)
+    run_so c.args.command (command.Exec c.in-Exec.file c.in-Exec.options) c.run_file-in-Exec.result.status c.run_file-in-Exec.result.due _ _ _ _ _
+    c.in-Exec.is refl c.run_file-in-Exec.ensures.cause c.run_file-in-Exec.ensures.came
 
 pub returns-in-Watch-clause-came : goal.returns-in-Watch-clause-came
 returns-in-Watch-clause-came g c =
-    came_run (Some (view c.args.command)) c.watch_file.result.status c.watch_file.result.due _ _ _ _ _ (ap (λ x. command_does uses_devices (Some (view x))) c.in-Watch.is) c.watch_file.ensures.cause c.watch_file.ensures.came.0 c.watch_file.ensures.came.1
-    (obeyed_so c.args.command (command.Watch c.in-Watch.file c.in-Watch.stops c.in-Watch.out c.in-Watch.options) c.watch_file.result.status c.watch_file.result.due _ _ _ c.in-Watch.is c.watch_file.ensures.came.2)
+    run_so c.args.command (command.Watch c.in-Watch.file c.in-Watch.stops c.in-Watch.out c.in-Watch.options) c.watch_file.result.status c.watch_file.result.due _ _ _ _ _
+    c.in-Watch.is refl c.watch_file.ensures.cause c.watch_file.ensures.came
 
 pub returns-in-Time-clause-came : goal.returns-in-Time-clause-came
 returns-in-Time-clause-came g c =
-    came_run (Some (view c.args.command)) c.time_file.result.status c.time_file.result.due _ _ _ _ _ (ap (λ x. command_does uses_devices (Some (view x))) c.in-Time.is) c.time_file.ensures.cause c.time_file.ensures.came.0 c.time_file.ensures.came.1
-    (obeyed_so c.args.command (command.Time c.in-Time.file c.in-Time.out c.in-Time.options) c.time_file.result.status c.time_file.result.due _ _ _ c.in-Time.is c.time_file.ensures.came.2)
+    run_so c.args.command (command.Time c.in-Time.file c.in-Time.out c.in-Time.options) c.time_file.result.status c.time_file.result.due _ _ _ _ _
+    c.in-Time.is refl c.time_file.ensures.cause c.time_file.ensures.came
 
 pub returns-in-TimeCode-clause-came : goal.returns-in-TimeCode-clause-came
 returns-in-TimeCode-clause-came g c =
-    came_run (Some (view c.args.command)) c.time_file-in-TimeCode.result.status c.time_file-in-TimeCode.result.due _ _ _ _ _ (ap (λ x. command_does uses_devices (Some (view x))) c.in-TimeCode.is) c.time_file-in-TimeCode.ensures.cause c.time_file-in-TimeCode.ensures.came.0 c.time_file-in-TimeCode.ensures.came.1
-    (obeyed_so c.args.command (command.TimeCode c.in-TimeCode.file c.in-TimeCode.out c.in-TimeCode.options) c.time_file-in-TimeCode.result.status c.time_file-in-TimeCode.result.due _ _ _ c.in-TimeCode.is c.time_file-in-TimeCode.ensures.came.2)
+    run_so c.args.command (command.TimeCode c.in-TimeCode.file c.in-TimeCode.out c.in-TimeCode.options) c.time_file-in-TimeCode.result.status c.time_file-in-TimeCode.result.due _ _ _ _ _
+    c.in-TimeCode.is refl c.time_file-in-TimeCode.ensures.cause c.time_file-in-TimeCode.ensures.came
 
 pub returns-in-Boot-clause-came : goal.returns-in-Boot-clause-came
 returns-in-Boot-clause-came g c =
