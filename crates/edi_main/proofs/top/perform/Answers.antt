@@ -71,10 +71,8 @@ returns-in-Demo-clause-cause g c = c.demonstrate.ensures.cause (g.D.Drive.faults
 
 pub returns-in-Walk-clause-came : goal.returns-in-Walk-clause-came
 returns-in-Walk-clause-came g c =
-    let came = c.walk_file.ensures.came (kernel_of c.args.kernel.now.store c.args.kernel.now.used) in
-    came_run (Some (view c.args.command)) c.walk_file.result.status c.walk_file.result.due _ _ _ _ _ (ap (λ x. command_does uses_devices (Some (view x))) c.in-Walk.is) c.walk_file.ensures.cause came.0 came.1
-    (obeyed_so c.args.command (command.Walk c.in-Walk.file c.in-Walk.choices c.in-Walk.turns) c.walk_file.result.status c.walk_file.result.due _ _ _
-    c.in-Walk.is came.2)
+    run_so c.args.command (command.Walk c.in-Walk.file c.in-Walk.choices c.in-Walk.turns) c.walk_file.result.status c.walk_file.result.due _ _ _ _ _
+    c.in-Walk.is refl c.walk_file.ensures.cause (c.walk_file.ensures.came (kernel_of c.args.kernel.now.store c.args.kernel.now.used))
 
 pub returns-in-Walk-clause-size : goal.returns-in-Walk-clause-size
 returns-in-Walk-clause-size g c =
