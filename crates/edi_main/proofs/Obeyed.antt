@@ -27,6 +27,7 @@ use Rattle.edi_statuses.specs.Facts.{DriveUse, leaves_drive, mounts_last, mounts
 use Rattle.edi_statuses.specs.EachObject.{CountsBlocks, CountsNew, CountsUsed, FitsCount, FitsGet, Handed, KeepsImage, LeavesEach, RunStays, UnmountedStay, UnusedStay}
 use Rattle.edi_statuses.specs.EachObject.{asks_first, asks_last, command_does, comes_to, formats, handed, is_at_drive, is_unread, stops_by, stops_first, uses_devices, uses_drive}
 use Rattle.edi_statuses.specs.EachObject.{uses_input, uses_kernel}
+use Rattle.edi_statuses.specs.Always.{lent_from}
 use Rattle.edi_statuses.specs.Decided.{Came, CameBlaming}
 
 pub no_words : (f : Option commands.Command) (x : Option Command) → option_map view f ≡ x → f ≡ None → x ≡ None
@@ -65,27 +66,27 @@ obeyed c d meant s due before after kernel is same silent came =
 -- ---- what is blamed
 
 -- a command that runs a program blames what has failed in it
-pub came_run : (c : Option Command) (s : Status) (due : Bool) (before after : Outside) (had has : Counts) (kernel : Lent)
+pub came_run : (c : Option Command) (s : Status) (due : Bool) (before after : Outside) (had has : Counts) (was now : KernelLeft)
     → command_does uses_devices c ≡ true → HasCause s had has → (blamed : Blamed)
-    → IsBlamed blamed s had.terminal has.terminal had.printer has.printer → Came s due c before after (blaming blamed kernel)
-    → CameBlaming s due c before after had has kernel
-came_run c s due before after had has kernel uses cause blamed is came =
+    → IsBlamed blamed s had.terminal has.terminal had.printer has.printer → Came s due c before after (blaming blamed (lent_from was now))
+    → CameBlaming s due c before after had has (lent_from was now)
+came_run c s due before after had has was now uses cause blamed is came =
     (blamed, (λ same. subst (λ u. OutputRose u blamed had has) (sym uses) (output_rose blamed s had has is cause same)), came)
 
 -- so of a command as the code has it
-pub run_so : (c d : commands.Command) (s : Status) (due : Bool) (before after : Outside) (had has : Counts) (kernel : Lent) → c ≡ d
+pub run_so : (c d : commands.Command) (s : Status) (due : Bool) (before after : Outside) (had has : Counts) (was now : KernelLeft) → c ≡ d
     → uses_devices (view d) ≡ true → HasCause s had has
-    → Blaming s had.terminal has.terminal had.printer has.printer (Came s due (Some (view d)) before after) kernel
-    → CameBlaming s due (Some (view c)) before after had has kernel
-run_so c d s due before after had has kernel is uses cause came =
-    came_run (Some (view c)) s due before after had has kernel (ap (λ x. uses_devices (view x)) is ∙ uses) cause came.0 came.1
-    (obeyed_so c d s due before after (blaming came.0 kernel) is came.2)
+    → Blaming s had.terminal has.terminal had.printer has.printer (Came s due (Some (view d)) before after) (lent_from was now)
+    → CameBlaming s due (Some (view c)) before after had has (lent_from was now)
+run_so c d s due before after had has was now is uses cause came =
+    came_run (Some (view c)) s due before after had has was now (ap (λ x. uses_devices (view x)) is ∙ uses) cause came.0 came.1
+    (obeyed_so c d s due before after (blaming came.0 (lent_from was now)) is came.2)
 
 -- another one blames none: of the output only the terminal can have failed
-pub came_else : (c : Option Command) (s : Status) (due : Bool) (before after : Outside) (had has : Counts) (kernel : Lent)
+pub came_else : (c : Option Command) (s : Status) (due : Bool) (before after : Outside) (had has : Counts) (was now : KernelLeft)
     → command_does uses_devices c ≡ false → (s ≡ status.OutputFault → CountRose had.terminal has.terminal)
-    → Came s due c before after (blaming None kernel) → CameBlaming s due c before after had has kernel
-came_else c s due before after had has kernel none rose came =
+    → Came s due c before after (blaming None (lent_from was now)) → CameBlaming s due c before after had has (lent_from was now)
+came_else c s due before after had has was now none rose came =
     (None, (λ same. subst (λ u. OutputRose u None had has) (sym none) (rose same)), came)
 
 -- where a printer that never fails is no cause, the terminal is

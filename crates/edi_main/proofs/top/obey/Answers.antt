@@ -12,7 +12,7 @@ use Rattle.edi_main.proofs.top.obey.Goals as goal
 pub returns-in-Ok-None-clause-came : goal.returns-in-Ok-None-clause-came
 returns-in-Ok-None-clause-came g c =
     let none = no_words c.in-Ok-None.field-0 (command_of (map string_bytes c.args.words.now)) c.in-Ok-None.ensures.exact c.in-Ok-None.field-0-is in
-    came_else (command_of (map string_bytes c.args.words.now)) c.silent.result.status c.silent.result.due _ _ _ _ _ (ap (command_does uses_devices) none)
+    came_else (command_of (map string_bytes c.args.words.now)) c.silent.result.status c.silent.result.due _ _ _ _ _ _ (ap (command_does uses_devices) none)
     (never_so status.Words c.silent.result.status _ _ c.silent.ensures.status (λ never. cc))
     (refused c.silent.result.status c.silent.result.due _ _ (kernel_of c.args.kernel.now.store c.args.kernel.now.used) c.silent.ensures.status c.silent.ensures.due none)
 
