@@ -40,7 +40,7 @@ holds r
 call 0 demo 1 --record q --timeline d
 shows demo 1 symbols 32 turns 11/
 holds d.txt 1 turns 1 2 process main from begin forks 2/2 turns 3 4 process 1.1 from begin arrives 4 6/3 turns 5 6 process 1.2 from begin arrives 4 7/4 turns 7 8 process 1.1 from 4 6 ends/5 turns 9 10 process 1.2 from 4 7 ends/6 turns 11 11 process main from join done/
-holds q 0/0/0/0/
+holds q 0/0/0/
 ";
 
 /// Words that are refused, and programs that are not run: no timeline is kept.
@@ -96,6 +96,10 @@ call 6 run race --record v --timeline w
 shows ab/file fault/
 holds v 0/0/0/
 none w.svg
+files 2
+call 6 demo 1 --timeline z
+shows file fault/
+none z.svg
 files 0
 terminal 0 0
 | proc main(proc display(value: char))
@@ -109,9 +113,6 @@ none y.txt
 none y.svg
 call 9 demo 1 --timeline z
 holds z.txt 1 turns 1 2 process main from begin forks 2/2 turns 3 4 process 1.1 from begin arrives 4 6/3 turns 5 6 process 1.2 from begin arrives 4 7/4 turns 7 8 process 1.1 from 4 6 ends/5 turns 9 10 process 1.2 from 4 7 ends/6 turns 11 11 process main from join done/
-files 2
-call 6 demo 1 --timeline z
-none z.svg
 ";
 
 #[test]
