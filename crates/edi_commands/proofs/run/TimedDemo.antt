@@ -44,8 +44,8 @@ module _ (n : ℕ) (out : List ℕ) (o : Options) (before after : Outside) (bloc
   program = text (demo_text n)
 
   -- it uses the files, whatever its choices are
-  uses : uses_files (words.time_demo n out o) ≡ true
-  uses = or_second (is_in_file o.choices) true refl
+  uses_some : uses_files (words.time_demo n out o) ≡ true
+  uses_some = or_second (is_in_file o.choices) true refl
 
   alone : (P : Outside → Outside → Type 0) (disk : List (List ℕ)) (left : List ℕ) → P (with_own [] [] before) (with_own disk left after)
       → OnItsOwn P before after
@@ -61,7 +61,7 @@ module _ (n : ℕ) (out : List ℕ) (o : Options) (before after : Outside) (bloc
     timed_ran status.NoMemory of_ not_ok (inr h) =
         inr (choices, steps, alone (λ b a. TimedInPart program o.turns choices out o.record_file b a shown kernel) disk left h.1)
     timed_ran status.FileFault of_ not_ok h = record {
-      uses = uses;
+      uses = uses_some;
       far = inr (h.0, (choices, steps, alone (λ b a. TimedLost program o.turns choices out o.record_file b a shown kernel) disk left h.2));
     }
     timed_ran status.OutputFault of_ not_ok h = record {
@@ -130,7 +130,7 @@ module _ (n : ℕ) (out : List ℕ) (o : Options) (before after : Outside) (bloc
     timed_unread : (s : Status) → ChoicesStep (files_only before.files) o.choices (Err s) → MeansHere s []
     timed_unread status.NoMemory h = inl nothing
     timed_unread status.FileFault h = record {
-      uses = uses;
+      uses = uses_some;
       far = inl (nothing.same.files, there_on_files before o.choices h, not_begun n o before after blocks input kernel nothing);
     }
     timed_unread s h =
