@@ -1,4 +1,5 @@
 pub mod Alone
+pub mod Blamed
 pub mod Blocks
 pub mod Coded
 pub mod Counted

@@ -53,11 +53,11 @@ module _ (b m : Outside) (y : Option (List ℕ)) (still : StillTold m.shown y) w
         own_later (λ a c. RanUnkept program bound choices a c shown kernel)
         (λ disk left. unkept_later (with_own [] [] b) (with_own disk left m) y still program bound choices shown kernel)
 
-    own_broke : (shown : List ℕ) → OnItsOwn (λ a c. SameFiles a c × BrokeRun status.OutputFault program bound choices a c shown) before_ m
-        → OnItsOwn (λ a c. SameFiles a c × BrokeRun status.OutputFault program bound choices a c shown) seen_later later_
+    own_broke : (shown : List ℕ) → OnItsOwn (λ a c. SameFiles a c × BrokeRun status.OutputFault kernel.failed program bound choices a c shown) before_ m
+        → OnItsOwn (λ a c. SameFiles a c × BrokeRun status.OutputFault kernel.failed program bound choices a c shown) seen_later later_
     own_broke shown =
-        own_later (λ a c. SameFiles a c × BrokeRun status.OutputFault program bound choices a c shown)
-        (λ disk left h. (h.0, broke_later (with_own [] [] b) (with_own disk left m) y still status.OutputFault program bound choices shown h.1))
+        own_later (λ a c. SameFiles a c × BrokeRun status.OutputFault kernel.failed program bound choices a c shown)
+        (λ disk left h. (h.0, broke_later (with_own [] [] b) (with_own disk left m) y still status.OutputFault kernel.failed program bound choices shown h.1))
 
     -- an effect stays, of the program on its own
     abbrev OwnStays : CommandEffect → Type 0
@@ -71,7 +71,7 @@ module _ (b m : Outside) (y : Option (List ℕ)) (still : StillTold m.shown y) w
     cut_later : (effect : CommandEffect) → OwnStays effect → (shown : List ℕ) → CutsSize n effect before_ m shown kernel
         → CutsSize n effect seen_later later_ shown kernel
     cut_later effect own shown h =
-        record { by_program = h.by_program; line = h.line; front = h.front; shown_ = h.shown_; ran = own status.Ok h.by_program h.ran }
+        record { by_program = h.by_program; line = h.line; front = h.front; shown_ = h.shown_; blamed = h.blamed; ran = own status.Ok h.by_program h.ran }
 
     pub demonstrates_later : (s : Status) (shown : List ℕ) → Demonstrates n bound choices name s before_ m shown kernel
         → Demonstrates n bound choices name s seen_later later_ shown kernel

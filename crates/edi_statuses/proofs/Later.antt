@@ -60,8 +60,8 @@ module _ (b m : Outside) (y : Option (List ℕ)) (still : StillTold m.shown y) w
         → IsNothing seen_later later_ shown kernel ⊎ AtRecord name steps' (λ v. RanUnkept (program v) bound (choices v) seen_later later_ shown kernel)
     files : AtRecord name steps (λ v. RanWhole (program v) bound (choices v) before_ m shown kernel)
         → AtRecord name steps' (λ v. RanWhole (program v) bound (choices v) seen_later later_ shown kernel)
-    broke : (s : Status) → HasBegun steps (λ v. BrokeRun s (program v) bound (choices v) before_ m shown)
-        → HasBegun steps' (λ v. BrokeRun s (program v) bound (choices v) seen_later later_ shown)
+    broke : (s : Status) → HasBegun steps (λ v. BrokeRun s kernel.failed (program v) bound (choices v) before_ m shown)
+        → HasBegun steps' (λ v. BrokeRun s kernel.failed (program v) bound (choices v) seen_later later_ shown)
 
   -- memory is wanting before the first effect, or at the record
   wants_later : {A : Type 0} (name : Option (List ℕ)) (steps steps' : AfterStep A → Type 0) (P P' : A → Type 0) (shown : List ℕ) (kernel : Lent)
@@ -81,7 +81,7 @@ module _ (b m : Outside) (y : Option (List ℕ)) (still : StillTold m.shown y) w
     files = record_later b m y still name steps steps' (λ v. RanWhole (program v) bound (choices v) before_ m shown kernel)
         (λ v. RanWhole (program v) bound (choices v) seen_later later_ shown kernel) go
         (λ v. whole_later b m y still (program v) bound (choices v) shown kernel);
-    broke = λ s h. (h.0, go (goes h.0) h.1, broke_later b m y still s (program h.0) bound (choices h.0) shown h.2);
+    broke = λ s h. (h.0, go (goes h.0) h.1, broke_later b m y still s kernel.failed (program h.0) bound (choices h.0) shown h.2);
   }
 
   run_is : (file : List ℕ) (options : Options) (shown : List ℕ) (kernel : Lent) → Later (words.run file options) shown kernel
@@ -124,7 +124,7 @@ module _ (b m : Outside) (y : Option (List ℕ)) (still : StillTold m.shown y) w
   watch_is : (file points_file out : List ℕ) (options : Options) (shown : List ℕ) (kernel : Lent) → Later (words.watch file points_file out options) shown kernel
   watch_is file points_file out options shown kernel =
       let steps = watch_later b m y still file points_file options.choices in
-      let broke = watched_broke b m y still file points_file options.choices options.turns shown in
+      let broke = watched_broke b m y still file points_file options.choices options.turns shown kernel.failed in
       record {
         comes = λ s. does_later b m y still (WatchSteps before_ file points_file options.choices) (WatchSteps seen_later file points_file options.choices)
             (λ a. Watches a.0 a.2 options.turns a.1 out options.record_file) (λ a. Watches a.0 a.2 options.turns a.1 out options.record_file) s shown

@@ -76,8 +76,8 @@ module _ (b m : Outside) (y : Option (List ℕ)) (still : StillTold m.shown y) w
         ⊎ HasBegun steps' (λ v. TimedInPart (program v) bound (choices v) out name seen_later later_ shown kernel)
     pub files : HasBegun steps (λ v. TimedLost (program v) bound (choices v) out name before_ m shown kernel)
         → HasBegun steps' (λ v. TimedLost (program v) bound (choices v) out name seen_later later_ shown kernel)
-    pub broke : (s : Status) → HasBegun steps (λ v. BrokeRun s (program v) bound (choices v) before_ m shown)
-        → HasBegun steps' (λ v. BrokeRun s (program v) bound (choices v) seen_later later_ shown)
+    pub broke : (s : Status) → HasBegun steps (λ v. BrokeRun s kernel.failed (program v) bound (choices v) before_ m shown)
+        → HasBegun steps' (λ v. BrokeRun s kernel.failed (program v) bound (choices v) seen_later later_ shown)
 
   wants_later : {A : Type 0} (steps steps' : AfterStep A → Type 0) (program : A → Runnable) (choices : A → Choices) (bound : ℕ) (out : List ℕ)
       (name : Option (List ℕ)) (shown : List ℕ) (kernel : Lent) → ((r : AfterStep A) → steps r → steps' r)
@@ -104,5 +104,5 @@ module _ (b m : Outside) (y : Option (List ℕ)) (still : StillTold m.shown y) w
       go (goes h.0) h.1,
       lost_later (program h.0) bound (choices h.0) out name shown kernel h.2,
     );
-    broke = λ s h. (h.0, go (goes h.0) h.1, broke_later b m y still s (program h.0) bound (choices h.0) shown h.2);
+    broke = λ s h. (h.0, go (goes h.0) h.1, broke_later b m y still s kernel.failed (program h.0) bound (choices h.0) shown h.2);
   }

@@ -27,7 +27,7 @@ HasBlocks d = list_all is_block d.blocks ≡ true
 
 -- the kernel before a call and after it
 abbrev pub lent_from : (before after : KernelLeft) → Lent
-lent_from before after = record { before = before; after = after }
+lent_from before after = record { before = before; after = after; failed = None }
 
 -- ---- an end that is open
 

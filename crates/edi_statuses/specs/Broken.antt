@@ -1,6 +1,7 @@
 -- Definition. What is left by a command that was broken off: memory ran out, or an object outside failed.
 use Rattle.std.specs.Prelude.{◌≡◌, ◌≤◌, ◌⊎◌, ℕ, List, [], ◌∷◌, ◌++◌, length, Option, Some, None, IsSome, ⊤}
 use Rattle.edi_told.specs.Told.{WhereTold}
+use Rattle.edi_calls.specs.declared.ends.Outside.TheVariants as object
 use Rattle.edi_calls.specs.Choice.{Choices}
 use Rattle.edi_calls.specs.Outcome.{Ending}
 use Rattle.edi_image.specs.Image.{Holds, slots_of}
@@ -114,12 +115,13 @@ WatchedLost bytes points bound choices out record_file before after shown kernel
     RanWhole (text bytes) bound choices before after shown kernel
     × (SameBut (out ∷ []) before after ⊎ LosesRecord bytes points bound choices out record_file before after)
 
--- the line of a demonstration was not shown whole; all else is as behind a whole one
+-- The line of a demonstration was not shown whole, for which the terminal is blamed. All else is as behind a whole one.
 pub record CutsSize (n : ℕ) (effect : CommandEffect) (before after : Outside) (shown : List ℕ) (kernel : Lent) : Type 0 where
   pub by_program : List ℕ
   pub line : List ℕ
   pub front : IsFront line (size_line n kernel.after.used by_program)
   pub shown_ : shown ≡ by_program ++ line
+  pub blamed : kernel.failed ≡ Some object.Terminal
   pub ran : OnItsOwn (λ b a. effect status.Ok b a by_program kernel) before after
 
 abbrev pub CutsDemo : (n bound : ℕ) → Choices → (record_file : Option (List ℕ)) → Outside → Outside → (shown : List ℕ) → Lent → Type 0
@@ -128,14 +130,14 @@ CutsDemo n bound choices record_file = CutsSize n (Runs (text (demo_text n)) bou
 -- the program of a demonstration was broken off, and no record was kept; or its line was not shown
 abbrev pub BrokeDemo : (n bound : ℕ) → Choices → (record_file : Option (List ℕ)) → Outside → Outside → (shown : List ℕ) → Lent → Type 0
 BrokeDemo n bound choices record_file before after shown kernel =
-    OnItsOwn (λ b a. SameFiles b a × BrokeRun status.OutputFault (text (demo_text n)) bound choices b a shown) before after
+    OnItsOwn (λ b a. SameFiles b a × BrokeRun status.OutputFault kernel.failed (text (demo_text n)) bound choices b a shown) before after
     ⊎ CutsDemo n bound choices record_file before after shown kernel
 
 -- so of one with a timeline, of which no file was kept; or its line was not shown
 abbrev pub BrokeTimedDemo : (n bound : ℕ) → Choices → (out : List ℕ) → (record_file : Option (List ℕ)) → Outside → Outside → (shown : List ℕ) → Lent
     → Type 0
 BrokeTimedDemo n bound choices out record_file before after shown kernel =
-    OnItsOwn (λ b a. SameFiles b a × BrokeRun status.OutputFault (text (demo_text n)) bound choices b a shown) before after
+    OnItsOwn (λ b a. SameFiles b a × BrokeRun status.OutputFault kernel.failed (text (demo_text n)) bound choices b a shown) before after
     ⊎ CutsSize n (Times (text (demo_text n)) bound choices out record_file) before after shown kernel
 
 -- the steps of a command went on, and it was broken off there

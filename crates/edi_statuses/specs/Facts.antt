@@ -112,7 +112,7 @@ abbrev pub program_run : {A : Type 0} → (file : List ℕ) → (asks : Outside 
     → (program : A → Runnable) → (choices : A → Choices) → (bound : ℕ) → (record_file : Option (List ℕ)) → Facts
 program_run file asks steps program choices bound record_file =
     let broken : Status → Left = λ s before after shown kernel.
-    HasBegun (steps before) (λ a. BrokeRun s (program a) bound (choices a) before after shown) in
+    HasBegun (steps before) (λ a. BrokeRun s kernel.failed (program a) bound (choices a) before after shown) in
     record (on_devices (file_named file) record_file) {
       asks_drive = asks;
       no_memory = λ before after shown kernel.

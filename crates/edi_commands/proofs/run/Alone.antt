@@ -5,6 +5,7 @@ use Rattle.std.specs.Prelude.{⊤}
 use Rattle.edi_told.specs.Told.{WhereTold}
 use Rattle.edi_host.specs.Blocks.{block_of}
 use Rattle.edi_host.specs.Contents.{Contents}
+use Rattle.edi_calls.specs.declared.ends.Outside.TheVariants as object
 use Rattle.edi_calls.specs.Choice.{Choices}
 use Rattle.edi_target.specs.Check.{CodeParts}
 use Rattle.edi_timed.specs.on.Timelines.{IsOf}
@@ -16,7 +17,7 @@ use Rattle.edi_statuses.specs.declared.status.Status.TheVariants as status
 use Rattle.edi_statuses.specs.Counts.{HasCause, counts_with}
 use Rattle.edi_statuses.specs.EachObject.{LeavesEach}
 use Rattle.edi_statuses.specs.Means.{MeansOf}
-use Rattle.edi_statuses.specs.Outside.{KernelLeft, Lent, Outside, idle, outside_with, seen, still_told}
+use Rattle.edi_statuses.specs.Outside.{KernelLeft, Lent, Outside, blaming, idle, outside_with, seen, still_told}
 use Rattle.edi_statuses.specs.Showing.{ShowsBytes, due_behind}
 use Rattle.edi_statuses.specs.Steps.{ReadsChoices, goes}
 use Rattle.edi_statuses.specs.Executions.{Runnable, text}
@@ -194,22 +195,26 @@ module _ (n : ℕ) (timeline : Option (List ℕ)) (o : Options) (old mid new : O
   -- the line of its size was shown, or a first part of it
   module _ (ok : s ≡ status.Ok) (shows : Option (List ℕ)) (ended : Ended)
       (line : ShowsBytes (size_line n kernel.after.used r.ran.shown) due ended takes shows) where
+    -- for which the terminal is blamed
+    abbrev blaming_it : Lent
+    blaming_it = blaming (Some object.Terminal) kernel
+
     ends : EndsWell timeline (text (demo_text n)) o.turns choices o.record_file
         (outside_with (still_told old new) (Some []) (Some []) (still_told taken shows) (still_told printed prints))
-        (outside_with new (Some r.disk) (Some r.left) shows prints) r.ran.shown kernel
+        (outside_with new (Some r.disk) (Some r.left) shows prints) r.ran.shown blaming_it
     ends =
         well_later (outside_with old (Some []) (Some []) taken printed) (outside_with new (Some r.disk) (Some r.left) takes prints) shows
-        (closing.still_told takes shows _ line.2) timeline (text (demo_text n)) o.turns choices o.record_file r.ran.shown kernel
+        (closing.still_told takes shows _ line.2) timeline (text (demo_text n)) o.turns choices o.record_file r.ran.shown (Some object.Terminal) kernel
         (subst (λ t. ProgramRan timeline (text (demo_text n)) o.turns choices o.record_file t
         (outside_with (still_told old new) (Some []) (Some []) (still_told taken takes) (still_told printed prints))
         (outside_with new (Some r.disk) (Some r.left) takes prints) r.ran.shown kernel) ok ran)
 
-    pub lined : CameAlone (demo_with n timeline o) ended.status ended.due old new taken shows printed prints kernel
+    pub lined : CameAlone (demo_with n timeline o) ended.status ended.due old new taken shows printed prints blaming_it
     lined = λ blocks input. record {
       shown = r.ran.shown ++ line.0;
       means = line_by n timeline o (seen (outside_with old blocks input taken printed) (outside_with new blocks input shows prints))
-          (outside_with new blocks input shows prints) (same_told blocks blocks refl) (same_told input input refl) kernel choices (steps shows blocks input)
-          r.disk r.left r.ran.shown ends ended.status line.0 line.1;
+          (outside_with new blocks input shows prints) (same_told blocks blocks refl) (same_told input input refl) blaming_it refl choices
+          (steps shows blocks input) r.disk r.left r.ran.shown ends ended.status line.0 line.1;
       shows = closing.shown_line taken takes shows r.ran.shown line.0 r.ran.shows line.2;
       due_is = line.3 ∙ ap (λ d. due_behind d line.0) r.ran.due_is ∙ sym (due_then r.ran.shown line.0);
       each = each_alone shows blocks input;

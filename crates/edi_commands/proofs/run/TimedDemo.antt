@@ -2,6 +2,7 @@
 use Rattle.std.proofs.Common.{◌≡◌, ◌||◌, ℕ, Bool, true, false, true≢false, List, [], ◌++◌, append-nil, Option, Some, None, option_map, Err, refl, sym, ap, inl, inr}
 use Rattle.std.specs.Prelude.{not, is_none}
 use Rattle.std.specs.Borrow.{Bor}
+use Rattle.edi_calls.specs.declared.ends.Outside.TheVariants as object
 use Rattle.edi_calls.specs.Choice.{Choices}
 use Rattle.edi_utils.specs.Demo.{demo_text}
 use Rattle.edi_words.specs.Words as words
@@ -10,7 +11,7 @@ use Rattle.edi_words.specs.View.{choices_from, options_of}
 use Rattle.edi_words.specs.declared.commands.Options as options
 use Rattle.edi_statuses.specs.declared.status.Status.{Status}
 use Rattle.edi_statuses.specs.declared.status.Status.TheVariants as status
-use Rattle.edi_statuses.specs.Outside.{Outside, Lent, SameBlocks, SameFiles, SameInput, seen}
+use Rattle.edi_statuses.specs.Outside.{Blamed, Outside, Lent, SameBlocks, SameFiles, SameInput, blaming, seen}
 use Rattle.edi_statuses.specs.Showing.{ShowsFar}
 use Rattle.edi_statuses.specs.Steps.{goes, stops}
 use Rattle.edi_statuses.specs.Executions.{Runnable, BrokeRun, text}
@@ -44,8 +45,8 @@ module _ (n : ℕ) (out : List ℕ) (o : Options) (before after : Outside) (bloc
   program = text (demo_text n)
 
   -- it uses the files, whatever its choices are
-  uses : uses_files (words.time_demo n out o) ≡ true
-  uses = or_second (is_in_file o.choices) true refl
+  uses_some : uses_files (words.time_demo n out o) ≡ true
+  uses_some = or_second (is_in_file o.choices) true refl
 
   alone : (P : Outside → Outside → Type 0) (disk : List (List ℕ)) (left : List ℕ) → P (with_own [] [] before) (with_own disk left after)
       → OnItsOwn P before after
@@ -61,14 +62,14 @@ module _ (n : ℕ) (out : List ℕ) (o : Options) (before after : Outside) (bloc
     timed_ran status.NoMemory of_ not_ok (inr h) =
         inr (choices, steps, alone (λ b a. TimedInPart program o.turns choices out o.record_file b a shown kernel) disk left h.1)
     timed_ran status.FileFault of_ not_ok h = record {
-      uses = uses;
+      uses = uses_some;
       far = inr (h.0, (choices, steps, alone (λ b a. TimedLost program o.turns choices out o.record_file b a shown kernel) disk left h.2));
     }
     timed_ran status.OutputFault of_ not_ok h = record {
       uses = tt;
       far = (
         same_but (timeline_names out ++ names_in o.record_file) before.files after.files h.0,
-        (choices, steps, inl (alone (λ b a. SameFiles b a × BrokeRun status.OutputFault program o.turns choices b a shown) disk left (h.0, h.2))),
+        (choices, steps, inl (alone (λ b a. SameFiles b a × BrokeRun status.OutputFault kernel.failed program o.turns choices b a shown) disk left (h.0, h.2))),
       );
     }
     timed_ran status.DriveFault of_ not_ok h = absurd of_
@@ -85,11 +86,11 @@ module _ (n : ℕ) (out : List ℕ) (o : Options) (before after : Outside) (bloc
           },
         )
 
-  -- its line was shown, or a first part of it
-  timed_line : (choices : Choices) → DemoSteps before o.choices (goes choices) → (disk : List (List ℕ)) (left by_program : List ℕ)
+  -- its line was shown, or a first part of it, for which the terminal is blamed
+  timed_line : kernel.failed ≡ Some object.Terminal → (choices : Choices) → DemoSteps before o.choices (goes choices) → (disk : List (List ℕ)) (left by_program : List ℕ)
       → Times program o.turns choices out o.record_file status.Ok (with_own [] [] before) (with_own disk left after) by_program kernel
       → (s : Status) (front : List ℕ) → ShowsFar s front (size_line n kernel.after.used by_program) → MeansHere s (by_program ++ front)
-  timed_line choices steps disk left by_program times status.Ok front far =
+  timed_line named choices steps disk left by_program times status.Ok front far =
       inr (
         choices,
         steps,
@@ -99,7 +100,7 @@ module _ (n : ℕ) (out : List ℕ) (o : Options) (before after : Outside) (bloc
           ran = alone (λ b a. Times program o.turns choices out o.record_file status.Ok b a by_program kernel) disk left times;
         },
       )
-  timed_line choices steps disk left by_program times status.OutputFault front far = record {
+  timed_line named choices steps disk left by_program times status.OutputFault front far = record {
     uses = tt;
     far = (
       kept_timed choices times.2.drawn out times.2.told o.record_file before.files after.files times.2.files,
@@ -111,12 +112,13 @@ module _ (n : ℕ) (out : List ℕ) (o : Options) (before after : Outside) (bloc
           line = front;
           front = far;
           shown_ = refl;
+          blamed = named;
           ran = alone (λ b a. Times program o.turns choices out o.record_file status.Ok b a by_program kernel) disk left times;
         }),
       ),
     );
   }
-  timed_line choices steps disk left by_program times s front far = absurd far
+  timed_line named choices steps disk left by_program times s front far = absurd far
 
   -- the command stopped before it ran anything
   module _ (nothing : IsNothing before after [] kernel) where
@@ -130,7 +132,7 @@ module _ (n : ℕ) (out : List ℕ) (o : Options) (before after : Outside) (bloc
     timed_unread : (s : Status) → ChoicesStep (files_only before.files) o.choices (Err s) → MeansHere s []
     timed_unread status.NoMemory h = inl nothing
     timed_unread status.FileFault h = record {
-      uses = uses;
+      uses = uses_some;
       far = inl (nothing.same.files, there_on_files before o.choices h, not_begun n o before after blocks input kernel nothing);
     }
     timed_unread s h =
@@ -144,14 +146,36 @@ abbrev pub EndsWell : (timeline : Option (List ℕ)) → Runnable → (bound : �
 EndsWell None program bound choices name = Runs program bound choices name status.Ok
 EndsWell (Some out) program bound choices name = Times program bound choices out name status.Ok
 
--- whatever the terminal takes after it
+-- whatever the terminal takes after it, and whichever object is blamed then
 pub well_later : (b m : Outside) (y : Option (List ℕ)) → StillTold m.shown y → (timeline : Option (List ℕ)) (program : Runnable) (bound : ℕ)
-    (choices : Choices) (name : Option (List ℕ)) (shown : List ℕ) (kernel : Lent)
+    (choices : Choices) (name : Option (List ℕ)) (shown : List ℕ) (blamed : Blamed) (kernel : Lent)
     → ProgramRan timeline program bound choices name status.Ok (seen b m) m shown kernel
-    → EndsWell timeline program bound choices name (seen b (with_shown y m)) (with_shown y m) shown kernel
-well_later b m y still None program bound choices name shown kernel h = runs_later b m y still program bound choices name status.Ok shown kernel h.1
-well_later b m y still (Some out) program bound choices name shown kernel h =
-    times_later b m y still program bound choices out name status.Ok shown kernel h.1
+    → EndsWell timeline program bound choices name (seen b (with_shown y m)) (with_shown y m) shown (blaming blamed kernel)
+well_later b m y still None program bound choices name shown blamed kernel h =
+    let later = runs_later b m y still program bound choices name status.Ok shown kernel h.1 in
+    record {
+      ending = later.ending;
+      drawn = later.drawn;
+      within = later.within;
+      used = later.used;
+      status_is = later.status_is;
+      ran = later.ran;
+      keeps = later.keeps;
+    }
+well_later b m y still (Some out) program bound choices name shown blamed kernel h =
+    let later = times_later b m y still program bound choices out name status.Ok shown kernel h.1 in (
+      later.0,
+      later.1,
+      record {
+        drawn = later.2.drawn;
+        within = later.2.within;
+        used = later.2.used;
+        ran = later.2.ran;
+        told = later.2.told;
+        told_is = later.2.told_is;
+        files = later.2.files;
+      },
+    )
 
 never_or : (a : Bool) → (a || true) ≡ false → ⊥
 never_or true h = true≢false h
@@ -190,16 +214,16 @@ module _ (n : ℕ) (timeline : Option (List ℕ)) (o : Options) (before after : 
       go None = ran_means n o before after blocks input kernel choices steps disk left shown s of_ not_ok
       go (Some out) = timed_ran n out o before after blocks input kernel choices steps disk left shown s of_ not_ok
 
-  pub line_by : (choices : Choices) → DemoSteps before o.choices (goes choices) → (disk : List (List ℕ)) (left by_program : List ℕ)
+  pub line_by : kernel.failed ≡ Some object.Terminal → (choices : Choices) → DemoSteps before o.choices (goes choices) → (disk : List (List ℕ)) (left by_program : List ℕ)
       → EndsWell timeline (text (demo_text n)) o.turns choices o.record_file (with_own [] [] before) (with_own disk left after) by_program kernel
       → (s : Status) (front : List ℕ) → ShowsFar s front (size_line n kernel.after.used by_program) → MeansSo timeline s (by_program ++ front)
-  line_by choices steps disk left by_program ends s front far = go timeline ends
+  line_by named choices steps disk left by_program ends s front far = go timeline ends
     where
       go : (t : Option (List ℕ))
           → EndsWell t (text (demo_text n)) o.turns choices o.record_file (with_own [] [] before) (with_own disk left after) by_program kernel
           → MeansSo t s (by_program ++ front)
-      go None h = line_means n o before after blocks input kernel choices steps disk left by_program h s front far
-      go (Some out) h = timed_line n out o before after blocks input kernel choices steps disk left by_program h s front far
+      go None h = line_means n o before after blocks input kernel named choices steps disk left by_program h s front far
+      go (Some out) h = timed_line n out o before after blocks input kernel named choices steps disk left by_program h s front far
 
   -- the choices were not read
   pub unread_by : IsNothing before after [] kernel → (s : Status) → ChoicesStep (files_only before.files) o.choices (Err s) → MeansSo timeline s []

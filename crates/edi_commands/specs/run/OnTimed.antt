@@ -81,7 +81,7 @@ OnTimed out name broken wants lost comes s before after shown kernel = Mounts be
 abbrev pub ProgramTimed : Runnable → (bound : ℕ) → Choices → (out : List ℕ) → (record_file : Option (List ℕ)) → Status → Outside → Outside
     → (shown : List ℕ) → Lent → Type 0
 ProgramTimed program bound choices out name s before after shown kernel =
-    OnTimed out name (BrokeRun s program bound choices before after shown) (TimedInPart program bound choices out name before after shown kernel)
+    OnTimed out name (BrokeRun s kernel.failed program bound choices before after shown) (TimedInPart program bound choices out name before after shown kernel)
     (TimedLost program bound choices out name before after shown kernel) (λ end. Times program bound choices out name end before after shown kernel) s
     before after shown kernel
 

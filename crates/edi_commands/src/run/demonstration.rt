@@ -11,6 +11,7 @@ ghost use Rattle.edi_statuses.specs.Lines.{feed};
 ghost use Rattle.edi_statuses.specs.EachObject.{is_before_drive, uses_files};
 ghost use Rattle.edi_statuses.specs.Outside.{lent};
 ghost use Rattle.edi_statuses.specs.Showing.{ShowsBytes};
+ghost use Rattle.edi_commands.specs.run.Blaming.{Blaming};
 ghost use Rattle.edi_commands.specs.run.Demonstrated.{CameAlone, DemoStep, HasCauseAlone, RanAlone, demo_with, is_ok};
 
 use crate::run::timing::{run_with, timed_text};
@@ -76,9 +77,10 @@ fn run_alone<F: Files, T: Sink, P: Sink>(
     kernel: &mut Kernel,
 ) -> Ended
     requires none_drawn { choices.old.drawn ≡ 0 }
-    ensures ran { RanAlone (option_map (λ name. name.now) timeline.entry) code.now turns choices.old.source
+    ensures ran { Blaming result.status (T.faults terminal.old) (T.faults terminal.new) (P.faults printer.old) (P.faults printer.new)
+        (RanAlone (option_map (λ name. name.now) timeline.entry) code.now turns choices.old.source
         (option_map (λ name. name.now) record_file.entry) result.status result.due
-        (F.contents files.old) (F.contents files.new) (T.taken terminal.old) (T.taken terminal.new) (P.taken printer.old) (P.taken printer.new)
+        (F.contents files.old) (F.contents files.new) (T.taken terminal.old) (T.taken terminal.new) (P.taken printer.old) (P.taken printer.new))
         (lent kernel.old.store kernel.old.used kernel.new.store kernel.new.used) }
     ensures tells { WhereTold (F.contents files.old) (F.contents files.new) (λ old new. ⊤) }
     ensures cause { HasCauseAlone result.status (F.faults files.old) (F.faults files.new) (T.faults terminal.old) (T.faults terminal.new)
@@ -167,8 +169,9 @@ pub fn demonstrate<F: Files, T: Sink, P: Sink>(
 ) -> Ended
     requires some { 1 ≤ n }
     requires many { n ≤ 1000 }
-    ensures came { CameAlone (demo_with n (option_map (λ name. name.now) timeline.entry) (options_of options.entry)) result.status result.due
-        (F.contents files.old) (F.contents files.new) (T.taken terminal.old) (T.taken terminal.new) (P.taken printer.old) (P.taken printer.new)
+    ensures came { Blaming result.status (T.faults terminal.old) (T.faults terminal.new) (P.faults printer.old) (P.faults printer.new)
+        (CameAlone (demo_with n (option_map (λ name. name.now) timeline.entry) (options_of options.entry)) result.status result.due
+        (F.contents files.old) (F.contents files.new) (T.taken terminal.old) (T.taken terminal.new) (P.taken printer.old) (P.taken printer.new))
         (lent kernel.old.store kernel.old.used kernel.new.store kernel.new.used) }
     ensures cause { HasCauseAlone result.status (F.faults files.old) (F.faults files.new) (T.faults terminal.old) (T.faults terminal.new)
         (P.faults printer.old) (P.faults printer.new) }

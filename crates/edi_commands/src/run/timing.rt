@@ -7,6 +7,7 @@ ghost use Rattle.edi_statuses.specs.Outside.{lent, outside_of};
 ghost use Rattle.edi_statuses.specs.Counts.{counts_of, HasCause, NoneFalls};
 ghost use Rattle.edi_statuses.specs.Decided.{Came};
 ghost use Rattle.edi_statuses.specs.EachObject.{DevicesStay, FitsCount, RunStays, handed, is_at_drive, is_before_drive};
+ghost use Rattle.edi_commands.specs.run.Blaming.{Blaming};
 ghost use Rattle.edi_commands.specs.run.OnMounted.{DriveAsked};
 ghost use Rattle.edi_commands.specs.run.OnTimed.{RanTimed, RanWith, ReadsTimed, TimedStep, timed_with};
 
@@ -42,9 +43,10 @@ fn time_code<F: Files, D: Drive, S: Source, T: Sink, P: Sink>(
     kernel: &mut Kernel,
 ) -> Ended
     requires none_drawn { choices.old.drawn ≡ 0 }
-    ensures ran { RanTimed code.now turns choices.old.source out.now (option_map (λ name. name.now) record_file.entry) result.status result.due
+    ensures ran { Blaming result.status (T.faults terminal.old) (T.faults terminal.new) (P.faults printer.old) (P.faults printer.new)
+        (RanTimed code.now turns choices.old.source out.now (option_map (λ name. name.now) record_file.entry) result.status result.due
         (outside_of F.contents D.contents S.left T.taken P.taken files.old drive.old input.old terminal.old printer.old)
-        (outside_of F.contents D.contents S.left T.taken P.taken files.new drive.new input.new terminal.new printer.new)
+        (outside_of F.contents D.contents S.left T.taken P.taken files.new drive.new input.new terminal.new printer.new))
         (lent kernel.old.store kernel.old.used kernel.new.store kernel.new.used) }
     ensures tells { WhereTold (F.contents files.old) (F.contents files.new) (λ old new. ⊤) }
     ensures cause { HasCause result.status
@@ -107,10 +109,11 @@ pub(crate) fn run_with<F: Files, D: Drive, S: Source, T: Sink, P: Sink>(
     kernel: &mut Kernel,
 ) -> Ended
     requires none_drawn { choices.old.drawn ≡ 0 }
-    ensures ran { RanWith (option_map (λ name. name.now) timeline.entry) code.now turns choices.old.source
+    ensures ran { Blaming result.status (T.faults terminal.old) (T.faults terminal.new) (P.faults printer.old) (P.faults printer.new)
+        (RanWith (option_map (λ name. name.now) timeline.entry) code.now turns choices.old.source
         (option_map (λ name. name.now) record_file.entry) result.status result.due
         (outside_of F.contents D.contents S.left T.taken P.taken files.old drive.old input.old terminal.old printer.old)
-        (outside_of F.contents D.contents S.left T.taken P.taken files.new drive.new input.new terminal.new printer.new)
+        (outside_of F.contents D.contents S.left T.taken P.taken files.new drive.new input.new terminal.new printer.new))
         (lent kernel.old.store kernel.old.used kernel.new.store kernel.new.used) }
     ensures tells { WhereTold (F.contents files.old) (F.contents files.new) (λ old new. ⊤) }
     ensures cause { HasCause result.status
@@ -197,9 +200,10 @@ pub fn time_file<F: Files, D: Drive, S: Source, T: Sink, P: Sink>(
     printer: &mut P,
     kernel: &mut Kernel,
 ) -> Ended
-    ensures came { Came result.status result.due (Some (timed_with form file.now out.now (options_of options.entry)))
+    ensures came { Blaming result.status (T.faults terminal.old) (T.faults terminal.new) (P.faults printer.old) (P.faults printer.new)
+        (Came result.status result.due (Some (timed_with form file.now out.now (options_of options.entry)))
         (outside_of F.contents D.contents S.left T.taken P.taken files.old drive.old input.old terminal.old printer.old)
-        (outside_of F.contents D.contents S.left T.taken P.taken files.new drive.new input.new terminal.new printer.new)
+        (outside_of F.contents D.contents S.left T.taken P.taken files.new drive.new input.new terminal.new printer.new))
         (lent kernel.old.store kernel.old.used kernel.new.store kernel.new.used) }
     ensures cause { HasCause result.status
         (counts_of F.faults D.faults S.faults T.faults P.faults files.old drive.old input.old terminal.old printer.old)
