@@ -7,7 +7,7 @@ use Rattle.edi_walk.specs.Frames.{nothing, performs}
 use Rattle.edi_walk.specs.Machine.{deeper_of, given_of, Resumes, rest_of, world_of}
 use Rattle.edi_walk.specs.Reads.{AssignsAtOnce}
 use Rattle.edi_walk.proofs.AtOnce.{made_goes, made_stops, stays}
-use Rattle.edi_walk.proofs.FrameSteps.{assign_goes}
+use Rattle.edi_walk.proofs.ActSteps.{assign_goes}
 use Rattle.edi_walk.proofs.evaluation.Evaluation.assignment.Goals as goal
 
 pub returns-then-made-clause-exact : goal.returns-then-made-clause-exact

@@ -4,7 +4,7 @@ use Rattle.edi_told.proofs.Told.{WhereTold-map, WhereTold-then}
 use Rattle.edi_walk.proofs.Calls.{same_on}
 use Rattle.edi_unit.specs.View.{arguments, argument_of}
 use Rattle.edi_walk.specs.Processes.{work_of}
-use Rattle.edi_walk.proofs.Pieces.{called_stop, called_then}
+use Rattle.edi_walk.proofs.CallPieces.{called_stop, called_then}
 use Rattle.edi_walk.proofs.evaluation.Evaluation.called.Goals as goal
 
 pub returns-in-Ok-clause-exact : goal.returns-in-Ok-clause-exact

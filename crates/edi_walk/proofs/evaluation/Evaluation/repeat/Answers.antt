@@ -5,7 +5,7 @@ use Rattle.edi_unit.specs.View.{clause_of, unit_of}
 use Rattle.edi_walk.specs.Frames.{loops, tries, whether}
 use Rattle.edi_walk.specs.Machine.{given_of, next_of, rest_of, world_of}
 use Rattle.edi_walk.proofs.Arms.{above}
-use Rattle.edi_walk.proofs.FrameSteps.{loop_again}
+use Rattle.edi_walk.proofs.ActSteps.{loop_again}
 use Rattle.edi_walk.proofs.evaluation.Evaluation.repeat.Goals as goal
 
 pub returns-clause-exact : goal.returns-clause-exact
