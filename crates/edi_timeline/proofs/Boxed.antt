@@ -11,7 +11,7 @@ use Rattle.edi_timeline.specs.declared.rows.Kind.{Kind}
 use Rattle.edi_timeline.specs.declared.rows.Kind.TheVariants as kind
 use Rattle.edi_calls.specs.Outcome as outcome
 use Rattle.edi_timeline.specs.Stints.{Stint, Start, arrives}
-use Rattle.edi_timeline.specs.Picture.{line_kind, line_back, line_to, line_on, lines_on, box, boxes, box_text, ink, inside, lane_of, lane_name, lane_names, lanes_of, most_boxes}
+use Rattle.edi_timeline.specs.Picture.{line_kind, line_back, line_to, line_of, line_on, lines_on, box, boxes, box_text, ink, inside, lane_of, lane_name, lane_names, lanes_of, most_boxes}
 use Rattle.edi_timeline.specs.Picture.{opened, width, lane_y}
 use Rattle.edi_timeline.specs.Picture.{headed, body, drawn, picture_of}
 use Rattle.edi_timeline.specs.Told.{process_in, row_at, no_row, used_before, stint_in, stint_at, stints_before, stints_in, end_as}
@@ -94,6 +94,45 @@ module _ (e : Ending) (rows few : List Row) (p : Name) where
         ∙ ap (Back (suc (suc back))) left
         ∙ sym (reached ∙ ap (λ x. Tried x (same (process_in rows r) (parent_of p)) r (suc back) (index - 1 - back)) (sym f ∙ g)
         ∙ ap (λ x. Tried false x r (suc back) (index - 1 - back)) (sym h ∙ i))
+        ∙ whole
+
+-- ---- the line from the last stint of a process
+
+module _ (e : Ending) (rows few : List Row) (p : Name) where
+  abbrev Own : (n : ℕ) (index : ℕ) → List ℕ
+  Own n index = line_of p n (stints_before e rows few index)
+
+  abbrev Owned : (one : Bool) → (r : Row) → (n at : ℕ) → List ℕ
+  Owned one r n at = if one then line_back (end_as e r r.kind) n else Own (suc n) at
+
+  owns : (n at : ℕ) → let r : Row = row_at few at in Own n (suc at) ≡ Owned (same (process_in rows r) p) r n at
+  owns n at = refl
+
+  module _ (index back : ℕ) (within : back < index) (r : Row) (is : r ≡ row_at few (index - 1 - back)) where
+    own_reached : Own (suc back) (index - back) ≡ Owned (same (process_in rows r) p) r (suc back) (index - 1 - back)
+    own_reached =
+        let one : index - back ≡ suc (index - 1 - back) = omega (arith, within) in
+        ap (Own (suc back)) one
+        ∙ owns (suc back) (index - 1 - back)
+        ∙ ap (λ x. Owned (same (process_in rows x) p) x (suc back) (index - 1 - back)) (sym is)
+
+    pub own_here : (b : Bool) → b ≡ same (process_in rows r) p → b ≡ true → Own (suc back) (index - back) ≡ Own 1 index →
+        line_back (end_as ending.Done no_row r.kind) (back + 1) ≡ Own 1 index
+    own_here b f g whole =
+        let n : back + 1 ≡ suc back = omega arith in
+        same_back e r r.kind (back + 1)
+        ∙ ap (line_back (end_as e r r.kind)) n
+        ∙ sym (own_reached ∙ ap (λ c. Owned c r (suc back) (index - 1 - back)) (sym f ∙ g))
+        ∙ whole
+
+    pub own_further : (b : Bool) → b ≡ same (process_in rows r) p → b ≡ false → Own (suc back) (index - back) ≡ Own 1 index →
+        Own (suc (back + 1)) (index - (back + 1)) ≡ Own 1 index
+    own_further b f g whole =
+        let n : back + 1 ≡ suc back = omega arith in
+        let left : index - (back + 1) ≡ index - 1 - back = omega arith in
+        ap (λ m. Own (suc m) (index - (back + 1))) n
+        ∙ ap (Own (suc (suc back))) left
+        ∙ sym (own_reached ∙ ap (λ c. Owned c r (suc back) (index - 1 - back)) (sym f ∙ g))
         ∙ whole
 
 -- ---- the boxes

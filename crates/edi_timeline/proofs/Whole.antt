@@ -8,7 +8,7 @@ use Rattle.edi_calls.specs.Ready.{parent_of}
 use Rattle.edi_calls.specs.Outcome.{Ending}
 use Rattle.edi_timeline.specs.Stints.{Stint, arrives, ending_of}
 use Rattle.edi_timeline.specs.Text.{head_text, start_text, end_text, characters_text, shown_text, stint_text, lines_text, most_lines, cut_text, text_of, kept}
-use Rattle.edi_timeline.specs.Picture.{lanes_behind, with_lane, lanes_of, lane_of, line_back, line_to, lines_on, box, boxes, shown_above, drawn, body, headed, opened, width}
+use Rattle.edi_timeline.specs.Picture.{lanes_behind, with_lane, lanes_of, lane_of, line_back, line_to, line_of, lines_on, box, boxes, shown_above, drawn, body, headed, opened, width}
 use Rattle.edi_timeline.specs.Picture.{height, most_boxes, picture_of, over_column, moved, column_x, lane_y, rectangle, inside, escaped_text, lane_names, key}
 use Rattle.edi_timeline.specs.Timelines.{told_of}
 use Rattle.edi_timeline.proofs.Counting.{taken_whole}
@@ -69,10 +69,14 @@ same_line_to p n [] = refl
 same_line_to p n (y ∷ ys) =
     ap (λ l. if same y.process p then line_back y.end n else if same y.process (parent_of p) then line_back (arrives []) n else l) (same_line_to p (suc n) ys)
 
+same_line_of : (p : Name) (n : ℕ) (ys : List Stint) → line_of p n (map kept ys) ≡ line_of p n ys
+same_line_of p n [] = refl
+same_line_of p n (y ∷ ys) = ap (λ l. if same y.process p then line_back y.end n else l) (same_line_of p (suc n) ys)
+
 same_lines_on : (columns lane : ℕ) (lanes : List Name) (before : List Stint) → lines_on columns lane lanes (map kept before) ≡ lines_on columns lane lanes before
 same_lines_on columns lane [] before = refl
 same_lines_on columns lane (p ∷ lanes) before =
-    (λ i. (moved (column_x columns) (lane_y lane) ++ (same_line_to p 1 before i ++ codes "</g>\n")) ++ same_lines_on columns (suc lane) lanes before i)
+    (λ i. (moved (column_x columns) (lane_y lane) ++ (same_line_of p 1 before i ++ codes "</g>\n")) ++ same_lines_on columns (suc lane) lanes before i)
 
 same_box : (n lane : ℕ) (line : List ℕ) (x : Stint) → box n lane line (kept x) ≡ box n lane line x
 same_box n lane line x =

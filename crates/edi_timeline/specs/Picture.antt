@@ -86,9 +86,14 @@ line_to p columns (y ∷ ys) =
     else if same y.process (parent_of p) then line_back (arrives []) columns
     else line_to p (suc columns) ys
 
+-- from the last stint of this process, so many columns before
+abbrev pub line_of : Name → (columns : ℕ) → List Stint → List ℕ
+line_of p columns [] = []
+line_of p columns (y ∷ ys) = if same y.process p then line_back y.end columns else line_of p (suc columns) ys
+
 -- behind the last column each process goes on that has not ended
 abbrev pub line_on : (columns lane : ℕ) → Name → (before : List Stint) → List ℕ
-line_on columns lane p before = moved (column_x columns) (lane_y lane) ++ (line_to p 1 before ++ codes "</g>\n")
+line_on columns lane p before = moved (column_x columns) (lane_y lane) ++ (line_of p 1 before ++ codes "</g>\n")
 
 -- those of these lanes, from this one on
 abbrev pub lines_on : (columns lane : ℕ) → List Name → (before : List Stint) → List ℕ

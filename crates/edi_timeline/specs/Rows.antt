@@ -268,11 +268,12 @@ pub row_lines :
 unfolding digits
 row_lines = (refl, refl, refl)
 
--- Behind the last of two columns: the program waits for its branches, branch 1 has ended, and branch 2 has not run yet, and is ready.
+-- Behind the last of three columns: the program waits for its branches, branch 1 has ended, and branch 2 waits at its `when`.
 pub row_lines_on :
-    lines_on 2 0 ([] ∷ branch 1 ∷ branch 2 ∷ []) (row 3 3 (branch 1) begin ends [] ∷ row 1 2 [] begin (forks 2) [] ∷ []) ≡
-    codes "<g transform=\"translate(176 62)\"><path d=\"M-44 13H0\" stroke=\"#666\" stroke-width=\"2\" stroke-dasharray=\"1 4\"/></g>\n"
-    ++ codes "<g transform=\"translate(176 108)\"></g>\n<g transform=\"translate(176 154)\"><path d=\"M-44 13H0\" stroke=\"#56a8d8\" stroke-width=\"4\"/></g>\n"
+    lines_on 3 0 ([] ∷ branch 1 ∷ branch 2 ∷ [])
+    (row 5 5 (branch 2) (at (4 ∷ [])) waits [] ∷ row 3 3 (branch 1) begin ends [] ∷ row 1 2 [] begin (forks 2) [] ∷ []) ≡
+    codes "<g transform=\"translate(214 62)\"><path d=\"M-82 13H0\" stroke=\"#666\" stroke-width=\"2\" stroke-dasharray=\"1 4\"/></g>\n"
+    ++ codes "<g transform=\"translate(214 108)\"></g>\n<g transform=\"translate(214 154)\"><path d=\"M-6 13H0\" stroke=\"#000\" stroke-width=\"2\" stroke-dasharray=\"4 3\"/></g>\n"
 unfolding digits
 row_lines_on = refl
 

@@ -4,7 +4,7 @@ use Rattle.edi_calls.specs.Names.{Name}
 use Rattle.edi_timeline.specs.declared.rows.Row.{Row}
 use Rattle.edi_timeline.specs.declared.boxes.Sheet.{Sheet}
 use Rattle.edi_timeline.specs.Told.{AreRows, IsRow, process_in, row_at, used_before, stint_in, stint_at, stints_before, stints_in, end_as, start_in, said_of}
-use Rattle.edi_timeline.specs.Picture.{lanes_of, lane_of, line_to, line_on, lines_on, over_column, moved, column_x, lane_y, title, box}
+use Rattle.edi_timeline.specs.Picture.{lanes_of, lane_of, line_to, line_of, line_on, lines_on, over_column, moved, column_x, lane_y, title, box}
 
 -- the names of the lanes
 abbrev pub lanes_in : Sheet → List Name
@@ -20,6 +20,10 @@ pub record IsSheet (s : Sheet) : Type 0 where
 -- the line of the process of such a row to the column of this index
 abbrev pub line_for : Sheet → Row → (index : ℕ) → List ℕ
 line_for s r index = line_to (process_in s.rows.now r) 1 (stints_before s.ending s.rows.now s.few.now index)
+
+-- the line from the last stint of the process of such a row in the first columns to behind these
+abbrev pub own_line : Sheet → Row → (columns : ℕ) → List ℕ
+own_line s r columns = line_of (process_in s.rows.now r) 1 (stints_before s.ending s.rows.now s.few.now columns)
 
 -- the line of the process of such a row behind the last column, and those of all lanes
 abbrev pub line_on_in : Sheet → (lane : ℕ) → Row → List ℕ

@@ -2,7 +2,7 @@
 
 ghost use Rattle.std.specs.Prelude.{◌≡◌, suc, ◌+◌, ◌-◌, ◌++◌, ◌≤◌, ◌<◌, ◌^◌, OnOk, codes, decimal, length, map, take};
 ghost use Rattle.edi_timeline.specs.Text.{characters_text};
-ghost use Rattle.edi_timeline.specs.Sheet.{IsSheet, box_in, frame_in, line_for};
+ghost use Rattle.edi_timeline.specs.Sheet.{IsSheet, box_in, frame_in, line_for, own_line};
 ghost use Rattle.edi_timeline.specs.Told.{AreRows, IsRow};
 ghost use Rattle.edi_timeline.specs.Told as told;
 ghost use Rattle.edi_timeline.specs.Picture as spec;
@@ -122,12 +122,7 @@ fn put_line_back(out: &mut Vec<u8>, kind: Kind, columns: u64) -> Result<(), Allo
 }
 
 // Puts the line of the process of such a row to the column of this index.
-pub(crate) fn put_line_to(
-    out: &mut Vec<u8>,
-    sheet: &Sheet,
-    row: &Row,
-    index: usize,
-) -> Result<(), AllocError>
+fn put_line_to(out: &mut Vec<u8>, sheet: &Sheet, row: &Row, index: usize) -> Result<(), AllocError>
     requires rows { AreRows sheet.now.rows.now }
     requires within { index ≤ 1000 }
     ensures exact { OnOk result (out.new.items ≡ out.old.items ++ line_for sheet.now row.now index) }
@@ -139,6 +134,26 @@ pub(crate) fn put_line_to(
         }
         if is_of_parent(sheet.rows, &before, row) {
             return put_line_back(out, Kind::Arrives, back as u64 + 1);
+        }
+    }
+    Ok(())
+}
+
+// Puts the line from the last stint of the process of such a row in the first columns to behind these.
+pub(crate) fn put_own_line(
+    out: &mut Vec<u8>,
+    sheet: &Sheet,
+    row: &Row,
+    columns: usize,
+) -> Result<(), AllocError>
+    requires rows { AreRows sheet.now.rows.now }
+    requires within { columns ≤ 1000 }
+    ensures exact { OnOk result (out.new.items ≡ out.old.items ++ own_line sheet.now row.now columns) }
+{
+    for back in 0..columns {
+        let before = row_at(sheet.few, columns - 1 - back);
+        if is_same(sheet.rows, &before, row) {
+            return put_line_back(out, before.kind, back as u64 + 1);
         }
     }
     Ok(())

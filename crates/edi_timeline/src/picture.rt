@@ -7,7 +7,7 @@ ghost use Rattle.edi_timeline.specs.Told.{AreRows, stints_in};
 ghost use Rattle.edi_timeline.specs.Told as told;
 ghost use Rattle.edi_timeline.specs.Picture as spec;
 
-use crate::boxes::{Sheet, column_x, lane_y, put_box, put_line_to, put_moved};
+use crate::boxes::{Sheet, column_x, lane_y, put_box, put_moved, put_own_line};
 use crate::lanes::lanes_of;
 use crate::rows::{Row, ending_in};
 use crate::text::{put_name, whole_path};
@@ -128,7 +128,7 @@ fn put_line_on(out: &mut Vec<u8>, sheet: &Sheet, lane: usize, row: &Row) -> Resu
     ensures exact { OnOk result (out.new.items ≡ out.old.items ++ line_on_in sheet.now lane row.now) }
 {
     put_moved(out, column_x(sheet.few.len()), lane_y(lane))?;
-    put_line_to(out, sheet, row, sheet.few.len())?;
+    put_own_line(out, sheet, row, sheet.few.len())?;
     out.extend_from_slice(b"</g>\n")?;
     Ok(())
 }

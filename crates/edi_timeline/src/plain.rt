@@ -55,16 +55,16 @@ fn write_place(lines: &[u16], line: &mut [u8; ROOM], end: usize) -> usize
 }
 
 // Writes the turns of a stint.
-fn write_turns(first: u64, last: u64, line: &mut [u8; ROOM], end: usize) -> usize
-    requires small { (first < 10000000000) × (last < 10000000000) }
+fn write_turns(first: u64, last: u32, line: &mut [u8; ROOM], end: usize) -> usize
+    requires small { first < 10000000000 }
     requires within { (28 ≤ end) × (end ≤ 208) }
     ensures start { (end ≤ result + 28) × (result ≤ end) }
     ensures written { drop result line.new ≡ spec.turns_text first last ++ drop end line.old }
 {
-    if first > last {
+    if first > u64::from(last) {
         return write_text(b" no turn", line, end);
     }
-    let behind_first = write_number(last, line, end);
+    let behind_first = write_number(u64::from(last), line, end);
     let first_end = write_text(b" ", line, behind_first);
     let first_start = write_number(first, line, first_end);
     write_text(b" turns ", line, first_start)
@@ -151,7 +151,7 @@ fn write_head(
 {
     let name_start = write_name(row, line, end);
     let turns_end = write_text(b" process ", line, name_start);
-    let number_end = write_turns(u64::from(used) + 1, u64::from(row.used), line, turns_end);
+    let number_end = write_turns(u64::from(used) + 1, row.used, line, turns_end);
     write_number(u64::from(number), line, number_end)
 }
 
