@@ -26,7 +26,7 @@ pub struct Found {
     pub choices: Vec<u8>,
     /// The turns of the run with these choices, at most 1,000,000,000.
     pub turns: u64,
-    /// No execution of fewer moves ends so.
+    /// No execution of fewer moves ends so, as far as the verdict speaks of them. That the run with these choices has so many is not promised.
     pub moves: usize,
     /// All that the run has shown.
     pub shown: Vec<u8>,
@@ -41,7 +41,7 @@ pub enum Verdict {
     All,
     /// As many states were kept as may be.
     Full(usize),
-    /// As many endings were found as may be, and there is another one.
+    /// As many endings were found as may be. There may be more.
     Many(usize),
     /// A process goes on for more turns than it may: the choices of the report lead to it.
     Cut(usize),

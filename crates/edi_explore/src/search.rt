@@ -296,9 +296,10 @@ fn confirmed(
 /// Finds every ending that any choices bring about, for the program of this code with this input and no disk.
 ///
 /// Each ending that is found has choices, which bring it about: `Kernel::run` ended so with them, and no execution of fewer moves than are
-/// told ends so. The verdict says whether these are all endings, or all of the executions of fewer moves than its number. A move is what a
-/// process does from when it is taken until the next one is taken; an attempt that fails is none. An execution that goes on for ever has no
-/// ending, and is cut by each bound on its turns. Where output is looked at, an ending with other output is another ending.
+/// told ends so, as far as the verdict speaks of them. The verdict says whether these are all endings, or all of the executions of fewer
+/// moves than its number. A move is what a process does from when it is taken until the next one is taken; an attempt that fails is none. An
+/// execution that goes on for ever has no ending, and is cut by each bound on its turns. Where output is looked at, an ending with other
+/// output is another ending.
 ///
 /// Where the verdict is that a stint was cut, the choices of the report bring that about: the run with them has more turns than a stint may have.
 /// As many states and one more were met where the verdict is that there may be no more; there are never more than these. As many endings were

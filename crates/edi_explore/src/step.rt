@@ -31,7 +31,7 @@ pub(crate) enum Followed {
 pub(crate) enum GivenUp {
     /// As many states are kept as may be, and there is one more.
     Full,
-    /// As many endings are found as may be, and there is one more.
+    /// As many endings are found as may be, and another one was met.
     Many,
     /// Memory ran out.
     NoMemory,

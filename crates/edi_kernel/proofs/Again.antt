@@ -28,18 +28,18 @@ use Rattle.edi_kernel.proofs.Sharing.{among_home, none_twice}
 
 -- ---- truth values
 
-both_ways : (a b : Bool) → (a ≡ true → b ≡ true) → (b ≡ true → a ≡ true) → a ≡ b
+pub both_ways : (a b : Bool) → (a ≡ true → b ≡ true) → (b ≡ true → a ≡ true) → a ≡ b
 both_ways true b f g = sym (f refl)
 both_ways false true f g = g refl
 both_ways false false f g = refl
 
 -- ---- lists with the same members
 
-none_left : (xs : List ℕ) → ((i : ℕ) → IsAmong i xs → ⊥) → length xs ≡ 0
+pub none_left : (xs : List ℕ) → ((i : ℕ) → IsAmong i xs → ⊥) → length xs ≡ 0
 none_left [] h = refl
 none_left (x ∷ xs) h = absurd (h x (inl refl))
 
-same_length : (xs ys : List ℕ) → NoneTwice xs → NoneTwice ys → ((i : ℕ) → IsAmong i xs → IsAmong i ys) → ((i : ℕ) → IsAmong i ys → IsAmong i xs) →
+pub same_length : (xs ys : List ℕ) → NoneTwice xs → NoneTwice ys → ((i : ℕ) → IsAmong i xs → IsAmong i ys) → ((i : ℕ) → IsAmong i ys → IsAmong i xs) →
     length xs ≡ length ys
 same_length [] ys n k there back = sym (none_left ys (λ i h. back i h))
 same_length (x ∷ xs) ys n k there back =
@@ -54,15 +54,15 @@ same_length (x ∷ xs) ys n k there back =
     rest i h (inr t) = t
 
 -- a name is among those of slots where one of the slots has it
-or_cases : (a b : Bool) → (a || b) ≡ true → (a ≡ true) ⊎ (b ≡ true)
+pub or_cases : (a b : Bool) → (a || b) ≡ true → (a ≡ true) ⊎ (b ≡ true)
 or_cases true b e = inl refl
 or_cases false b e = inr e
 
-or_right : (a b : Bool) → b ≡ true → (a || b) ≡ true
+pub or_right : (a b : Bool) → b ≡ true → (a || b) ≡ true
 or_right true b e = refl
 or_right false b e = e
 
-slot_of : (f : ℕ → Name) (xs : List ℕ) (p : Name) → has (map f xs) p ≡ true → (i : ℕ) × IsAmong i xs × (p ≡ f i)
+pub slot_of : (f : ℕ → Name) (xs : List ℕ) (p : Name) → has (map f xs) p ≡ true → (i : ℕ) × IsAmong i xs × (p ≡ f i)
 slot_of f [] p e = absurd (cc)
 slot_of f (x ∷ xs) p e = go (or_cases (same p (f x)) (has (map f xs) p) e) (slot_of f xs p)
   where
@@ -71,18 +71,18 @@ slot_of f (x ∷ xs) p e = go (or_cases (same p (f x)) (has (map f xs) p) e) (sl
     go (inl h) more = (x, inl refl, same-equal p (f x) h)
     go (inr h) more = let r : (i : ℕ) × IsAmong i xs × (p ≡ f i) = more h in (r.0, inr r.1, r.2)
 
-has_slot : (f : ℕ → Name) (xs : List ℕ) (i : ℕ) → IsAmong i xs → has (map f xs) (f i) ≡ true
+pub has_slot : (f : ℕ → Name) (xs : List ℕ) (i : ℕ) → IsAmong i xs → has (map f xs) (f i) ≡ true
 has_slot f [] i h = absurd h
 has_slot f (x ∷ xs) i (inl e) = ap (λ b. b || has (map f xs) (f i)) (ap (λ j. same (f i) (f j)) (sym e) ∙ same-refl (f i))
 has_slot f (x ∷ xs) i (inr h) = or_right (same (f i) (f x)) (has (map f xs) (f i)) (has_slot f xs i h)
 
-same_members : (f : ℕ → Name) (xs ys : List ℕ) → ((i : ℕ) → IsAmong i xs → IsAmong i ys) → ((i : ℕ) → IsAmong i ys → IsAmong i xs) → (p : Name) →
+pub same_members : (f : ℕ → Name) (xs ys : List ℕ) → ((i : ℕ) → IsAmong i xs → IsAmong i ys) → ((i : ℕ) → IsAmong i ys → IsAmong i xs) → (p : Name) →
     has (map f xs) p ≡ has (map f ys) p
 same_members f xs ys there back p = both_ways (has (map f xs) p) (has (map f ys) p)
     (λ e. let r : (i : ℕ) × IsAmong i xs × (p ≡ f i) = slot_of f xs p e in ap (has (map f ys)) r.2 ∙ has_slot f ys r.0 (there r.0 r.1))
     (λ e. let r : (i : ℕ) × IsAmong i ys × (p ≡ f i) = slot_of f ys p e in ap (has (map f xs)) r.2 ∙ has_slot f xs r.0 (back r.0 r.1))
 
-once_named : (f : ℕ → Name) (xs : List ℕ) → NoneTwice xs → ((i j : ℕ) → IsAmong i xs → IsAmong j xs → f i ≡ f j → i ≡ j) → Once (map f xs)
+pub once_named : (f : ℕ → Name) (xs : List ℕ) → NoneTwice xs → ((i j : ℕ) → IsAmong i xs → IsAmong j xs → f i ≡ f j → i ≡ j) → Once (map f xs)
 once_named f [] n apart = tt
 once_named f (x ∷ xs) n apart =
     (none (has (map f xs) (f x)) refl, once_named f xs n.1 (λ i j a b e. apart i j (inr a) (inr b) e))
@@ -104,23 +104,23 @@ found_has (x ∷ es) p a e = go (same p x.0) refl e (found_has es p a)
     go true s e more = refl
     go false s e more = more e
 
-ready_home : (o : Option ℕ) → is_ready_home o ≡ true → o ≡ Some 0
+pub ready_home : (o : Option ℕ) → is_ready_home o ≡ true → o ≡ Some 0
 ready_home None e = absurd (cc)
 ready_home (Some list) e = ap Some (eqb-true list 0 e)
 
-free_home : (o : Option ℕ) → is_free_home o ≡ true → o ≡ Some 1
+pub free_home : (o : Option ℕ) → is_free_home o ≡ true → o ≡ Some 1
 free_home None e = absurd (cc)
 free_home (Some list) e = ap Some (eqb-true list 1 e)
 
 -- who is not live is free
-dead_free : (t : Table) (i : ℕ) → i < 32 → is_live t i ≡ false → is_free_home (home_of t.lists i) ≡ true
+pub dead_free : (t : Table) (i : ℕ) → i < 32 → is_live t i ≡ false → is_free_home (home_of t.lists i) ≡ true
 dead_free t i l dead = go (is_free_home (home_of t.lists i)) refl
   where
     go : (b : Bool) → is_free_home (home_of t.lists i) ≡ b → b ≡ true
     go true e = refl
     go false e = let a : true ≡ false = sym (live_of_home t i l e) ∙ dead in absurd (cc)
 
-free_dead : (t : Table) (i : ℕ) → is_free_home (home_of t.lists i) ≡ true → is_live t i ≡ false
+pub free_dead : (t : Table) (i : ℕ) → is_free_home (home_of t.lists i) ≡ true → is_live t i ≡ false
 free_dead t i e = ap (λ b. nat_lt i 32 && not b) e ∙ none (nat_lt i 32)
   where
     none : (b : Bool) → (b && false) ≡ false

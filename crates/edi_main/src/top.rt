@@ -264,7 +264,7 @@ pub fn edison<F: Files, D: Drive, S: Source, T: Sink, P: Sink, W: Watcher>(
     ensures untouched { UnusedStay (command_of (map string_bytes words.now)) result
         (handed files.old drive.old input.old terminal.old printer.old kernel.old)
         (handed files.new drive.new input.new terminal.new printer.new kernel.new) }
-    // And where the drive is no valid image, what a command uses after it is not touched.
+    // And where the status is that the drive is no valid image, what a command uses after it is not touched.
     ensures unmounted { UnmountedStay (command_of (map string_bytes words.now)) result
         (handed files.old drive.old input.old terminal.old printer.old kernel.old)
         (handed files.new drive.new input.new terminal.new printer.new kernel.new) }

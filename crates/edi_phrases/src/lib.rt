@@ -6,6 +6,7 @@
 mod constants;
 pub mod expressions;
 pub mod headings;
+pub mod kind;
 mod macros;
 mod names;
 mod stop;
@@ -13,5 +14,5 @@ mod types;
 
 pub use constants::{eat_char, parse_const_list, parse_constant};
 pub use names::{at_name, eat_numeral, parse_group, parse_groups, parse_name, parse_names};
-pub use stop::{LEVELS, Parsed, Stop, at, eat, expect, open};
+pub use stop::{LEVELS, Parsed, Stop, at, eat, expect, kind_of, open};
 pub use types::{at_type_decl, parse_type_decl, parse_var_list};

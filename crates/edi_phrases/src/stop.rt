@@ -8,6 +8,7 @@ ghost use Rattle.edi_phrases.specs.Words.{at_line, is_word};
 ghost use Rattle.edi_phrases.specs.Stopped.{Lacks, Refuses};
 ghost use Rattle.edi_phrases.specs.declared.stop.Stop.TheVariants as stop;
 
+use crate::kind;
 use edi_lex::{Mark, Symbol, Text};
 use std::alloc::{AllocError, AllocFailed};
 
@@ -20,11 +21,11 @@ pub enum Stop<'a> {
     Fault(&'a [Mark]),
     /// The first of these marks opens a level too many.
     TooDeep(&'a [Mark]),
-    /// Memory is wanting.
+    /// Memory has run out.
     NoMemory,
 }
 
-/// What a parsing function gives: what it has read, and the marks behind it.
+/// What a parsing function gives: what it has read, and the marks after it.
 pub type Parsed<'a, T> = Result<(T, &'a [Mark]), Stop<'a>>;
 
 impl From<AllocError> for Stop<'_> {
@@ -48,7 +49,11 @@ impl<T: Drop> From<AllocFailed<T>> for Stop<'_> {
 fn kind_of_string(text: &Text) -> u8
     ensures exact { result ≡ kinds.kind_of (is.Chars text.now) }
 {
-    if text.len() == 1 { 3 } else { 4 }
+    if text.len() == 1 {
+        kind::CHAR
+    } else {
+        kind::TEXT
+    }
 }
 
 /// The kind of a symbol. Symbols of one kind differ in their values alone.
@@ -56,59 +61,59 @@ pub fn kind_of(symbol: &Symbol) -> u8
     ensures exact { result ≡ kinds.kind_of symbol.now }
 {
     match symbol {
-        Symbol::Name(_) => 1,
-        Symbol::Numeral(_) => 2,
+        Symbol::Name(_) => kind::NAME,
+        Symbol::Numeral(_) => kind::NUMERAL,
         Symbol::Chars(text) => kind_of_string(text),
-        Symbol::Also => 5,
-        Symbol::And => 6,
-        Symbol::Array => 7,
-        Symbol::Begin => 8,
-        Symbol::Cobegin => 9,
-        Symbol::Const => 10,
-        Symbol::Div => 11,
-        Symbol::Do => 12,
-        Symbol::Else => 13,
-        Symbol::End => 14,
-        Symbol::Enum => 15,
-        Symbol::If => 16,
-        Symbol::In => 17,
-        Symbol::Lib => 18,
-        Symbol::Mod => 19,
-        Symbol::Module => 20,
-        Symbol::Not => 21,
-        Symbol::Or => 22,
-        Symbol::Post => 23,
-        Symbol::Pre => 24,
-        Symbol::Proc => 25,
-        Symbol::Record => 26,
-        Symbol::Set => 27,
-        Symbol::Skip => 28,
-        Symbol::Val => 29,
-        Symbol::Var => 30,
-        Symbol::When => 31,
-        Symbol::While => 32,
-        Symbol::Equal => 33,
-        Symbol::NotEqual => 34,
-        Symbol::Less => 35,
-        Symbol::AtMost => 36,
-        Symbol::Greater => 37,
-        Symbol::AtLeast => 38,
-        Symbol::Plus => 39,
-        Symbol::Minus => 40,
-        Symbol::Star => 41,
-        Symbol::Colon => 42,
-        Symbol::Becomes => 43,
-        Symbol::Comma => 44,
-        Symbol::Semicolon => 45,
-        Symbol::Period => 46,
-        Symbol::Open => 47,
-        Symbol::Close => 48,
-        Symbol::OpenBracket => 49,
-        Symbol::CloseBracket => 50,
+        Symbol::Also => kind::ALSO,
+        Symbol::And => kind::AND,
+        Symbol::Array => kind::ARRAY,
+        Symbol::Begin => kind::BEGIN,
+        Symbol::Cobegin => kind::COBEGIN,
+        Symbol::Const => kind::CONST,
+        Symbol::Div => kind::DIV,
+        Symbol::Do => kind::DO,
+        Symbol::Else => kind::ELSE,
+        Symbol::End => kind::END,
+        Symbol::Enum => kind::ENUM,
+        Symbol::If => kind::IF,
+        Symbol::In => kind::IN,
+        Symbol::Lib => kind::LIB,
+        Symbol::Mod => kind::MOD,
+        Symbol::Module => kind::MODULE,
+        Symbol::Not => kind::NOT,
+        Symbol::Or => kind::OR,
+        Symbol::Post => kind::POST,
+        Symbol::Pre => kind::PRE,
+        Symbol::Proc => kind::PROC,
+        Symbol::Record => kind::RECORD,
+        Symbol::Set => kind::SET,
+        Symbol::Skip => kind::SKIP,
+        Symbol::Val => kind::VAL,
+        Symbol::Var => kind::VAR,
+        Symbol::When => kind::WHEN,
+        Symbol::While => kind::WHILE,
+        Symbol::Equal => kind::EQUAL,
+        Symbol::NotEqual => kind::NOT_EQUAL,
+        Symbol::Less => kind::LESS,
+        Symbol::AtMost => kind::AT_MOST,
+        Symbol::Greater => kind::GREATER,
+        Symbol::AtLeast => kind::AT_LEAST,
+        Symbol::Plus => kind::PLUS,
+        Symbol::Minus => kind::MINUS,
+        Symbol::Star => kind::STAR,
+        Symbol::Colon => kind::COLON,
+        Symbol::Becomes => kind::BECOMES,
+        Symbol::Comma => kind::COMMA,
+        Symbol::Semicolon => kind::SEMICOLON,
+        Symbol::Period => kind::PERIOD,
+        Symbol::Open => kind::OPEN,
+        Symbol::Close => kind::CLOSE,
+        Symbol::OpenBracket => kind::OPEN_BRACKET,
+        Symbol::CloseBracket => kind::CLOSE_BRACKET,
     }
 }
 
-/// The line of this symbol and the marks behind it, if it is in front.
+/// The line of this symbol and the marks after it, if it is in front.
 #[tactic(auto, using(crate::proofs::Symbols::same_word))]
 pub fn eat<'a>(marks: &'a [Mark], wanted: &Symbol) -> Option<(u16, &'a [Mark])>
     requires word { is_word wanted.now ≡ true }
@@ -132,7 +137,7 @@ pub fn at(marks: &[Mark], wanted: &Symbol) -> bool
     eat(marks, wanted).is_some()
 }
 
-/// The line of this symbol, which must stand here, and the marks behind it.
+/// The line of this symbol, which must stand here, and the marks after it.
 pub fn expect<'a>(marks: &'a [Mark], wanted: &Symbol) -> Parsed<'a, u16>
     requires word { is_word wanted.now ≡ true }
     ensures found { IfOk result (λ r. marks.now ≡ at_line wanted.now r.0 ∷ r.1.now) }
@@ -145,7 +150,7 @@ pub fn expect<'a>(marks: &'a [Mark], wanted: &Symbol) -> Parsed<'a, u16>
     }
 }
 
-/// The line of this symbol, which must stand here and opens a level where so many are open, and the marks behind it.
+/// The line of this symbol, which must stand here and opens a level where so many are open, and the marks after it.
 pub fn open<'a>(marks: &'a [Mark], wanted: &Symbol, level: u16) -> Parsed<'a, u16>
     requires word { is_word wanted.now ≡ true }
     ensures found { IfOk result (λ r. marks.now ≡ at_line wanted.now r.0 ∷ r.1.now) }

@@ -1,129 +1,25 @@
 -- A kernel with the same processes is the same machine again, by the same names of its processes.
-use Rattle.std.proofs.Common.{◌≡◌, ℕ, ◌<◌, ◌⊎◌, inl, inr, Bool, true, false, ◌&&◌, ◌||◌, not, nat_eq, nat_lt, if◌then◌else◌, List, [], ◌∷◌, length, map}
-use Rattle.std.proofs.Common.{Option, Some, None, refl, sym, ◌∙◌, ap, arith, subst, slice_index_or}
+use Rattle.std.proofs.Common.{◌≡◌, ℕ, ◌<◌, Bool, true, false, ◌&&◌, nat_eq, nat_lt, List, length, map}
+use Rattle.std.proofs.Common.{Some, None, refl, sym, ◌∙◌, ap, arith, subst, slice_index_or}
 use Rattle.std.specs.Option.{option_map}
-use Rattle.std.proofs.lemmas.Bool.{eqb-true}
-use Rattle.edi_calls.specs.Names.{Name, same, find, names}
+use Rattle.edi_calls.specs.Names.{Name, same, names}
 use Rattle.edi_calls.specs.Names as tables
 use Rattle.edi_calls.specs.Ready.{child, has}
 use Rattle.edi_calls.specs.State.{State}
-use Rattle.edi_calls.proofs.Tables.{same-equal, same-refl}
 use Rattle.edi_target.specs.Mach.{Machine}
 use Rattle.edi_ring.specs.Lists.{home_of}
-use Rattle.edi_ring.specs.Links.{IsAmong, NoneTwice}
-use Rattle.edi_ring.proofs.Chain.{minus, among-minus, minus_gone, minus_keeps, NoneTwice-minus, length-minus}
+use Rattle.edi_ring.specs.Links.{IsAmong}
 use Rattle.edi_ring.proofs.Homes.{has-from_among}
 use Rattle.edi_kernel.specs.declared.state.KernelState.{KernelState}
-use Rattle.edi_kernel.specs.declared.table.Table.{Table}
 use Rattle.edi_kernel.specs.declared.table.Process.{Process}
 use Rattle.edi_kernel.specs.Table.{process_at, ready_slots, free_slots, is_live, is_free_home}
 use Rattle.edi_kernel.specs.TableIsMachine.{Awaits, Born, Once, TableIsMachine, children_of, entry_of, is_child_of}
 use Rattle.edi_kernel.specs.Kernel.{IsKernel, Holds}
 use Rattle.edi_kernel.specs.Kept.{SameProcesses, is_ready, is_ready_home, restarted}
 use Rattle.edi_kernel.proofs.Counts.{where_same}
-use Rattle.edi_kernel.proofs.Lists.{home_among, live_of_home, ready_live, unmarked_at}
+use Rattle.edi_kernel.proofs.Lists.{home_among, ready_live, unmarked_at}
 use Rattle.edi_kernel.proofs.Sharing.{among_home, none_twice}
-
--- ---- truth values
-
-pub both_ways : (a b : Bool) → (a ≡ true → b ≡ true) → (b ≡ true → a ≡ true) → a ≡ b
-both_ways true b f g = sym (f refl)
-both_ways false true f g = g refl
-both_ways false false f g = refl
-
--- ---- lists with the same members
-
-none_left : (xs : List ℕ) → ((i : ℕ) → IsAmong i xs → ⊥) → length xs ≡ 0
-none_left [] h = refl
-none_left (x ∷ xs) h = absurd (h x (inl refl))
-
-same_length : (xs ys : List ℕ) → NoneTwice xs → NoneTwice ys → ((i : ℕ) → IsAmong i xs → IsAmong i ys) → ((i : ℕ) → IsAmong i ys → IsAmong i xs) →
-    length xs ≡ length ys
-same_length [] ys n k there back = sym (none_left ys (λ i h. back i h))
-same_length (x ∷ xs) ys n k there back =
-    let less : length xs ≡ length (minus x ys) =
-    same_length xs (minus x ys) n.1 (NoneTwice-minus x ys k)
-    (λ i h. minus_keeps x i ys (there i (inr h)) (λ e. n.0 (subst (λ j. IsAmong j xs) e h)))
-    (λ i h. rest i h (back i (among-minus x i ys h))) in
-    omega (arith, less, length-minus x ys (there x (inl refl)) k)
-  where
-    rest : (i : ℕ) → IsAmong i (minus x ys) → IsAmong i (x ∷ xs) → IsAmong i xs
-    rest i h (inl e) = absurd (minus_gone x ys (subst (λ j. IsAmong j (minus x ys)) e h))
-    rest i h (inr t) = t
-
--- a name is among those of slots where one of the slots has it
-or_cases : (a b : Bool) → (a || b) ≡ true → (a ≡ true) ⊎ (b ≡ true)
-or_cases true b e = inl refl
-or_cases false b e = inr e
-
-or_right : (a b : Bool) → b ≡ true → (a || b) ≡ true
-or_right true b e = refl
-or_right false b e = e
-
-pub slot_of : (f : ℕ → Name) (xs : List ℕ) (p : Name) → has (map f xs) p ≡ true → (i : ℕ) × IsAmong i xs × (p ≡ f i)
-slot_of f [] p e = absurd (cc)
-slot_of f (x ∷ xs) p e = go (or_cases (same p (f x)) (has (map f xs) p) e) (slot_of f xs p)
-  where
-    go : (same p (f x) ≡ true) ⊎ (has (map f xs) p ≡ true) → (has (map f xs) p ≡ true → (i : ℕ) × IsAmong i xs × (p ≡ f i)) →
-        (i : ℕ) × IsAmong i (x ∷ xs) × (p ≡ f i)
-    go (inl h) more = (x, inl refl, same-equal p (f x) h)
-    go (inr h) more = let r : (i : ℕ) × IsAmong i xs × (p ≡ f i) = more h in (r.0, inr r.1, r.2)
-
-pub has_slot : (f : ℕ → Name) (xs : List ℕ) (i : ℕ) → IsAmong i xs → has (map f xs) (f i) ≡ true
-has_slot f [] i h = absurd h
-has_slot f (x ∷ xs) i (inl e) = ap (λ b. b || has (map f xs) (f i)) (ap (λ j. same (f i) (f j)) (sym e) ∙ same-refl (f i))
-has_slot f (x ∷ xs) i (inr h) = or_right (same (f i) (f x)) (has (map f xs) (f i)) (has_slot f xs i h)
-
-same_members : (f : ℕ → Name) (xs ys : List ℕ) → ((i : ℕ) → IsAmong i xs → IsAmong i ys) → ((i : ℕ) → IsAmong i ys → IsAmong i xs) → (p : Name) →
-    has (map f xs) p ≡ has (map f ys) p
-same_members f xs ys there back p = both_ways (has (map f xs) p) (has (map f ys) p)
-    (λ e. let r : (i : ℕ) × IsAmong i xs × (p ≡ f i) = slot_of f xs p e in ap (has (map f ys)) r.2 ∙ has_slot f ys r.0 (there r.0 r.1))
-    (λ e. let r : (i : ℕ) × IsAmong i ys × (p ≡ f i) = slot_of f ys p e in ap (has (map f xs)) r.2 ∙ has_slot f xs r.0 (back r.0 r.1))
-
-pub once_named : (f : ℕ → Name) (xs : List ℕ) → NoneTwice xs → ((i j : ℕ) → IsAmong i xs → IsAmong j xs → f i ≡ f j → i ≡ j) → Once (map f xs)
-once_named f [] n apart = tt
-once_named f (x ∷ xs) n apart =
-    (none (has (map f xs) (f x)) refl, once_named f xs n.1 (λ i j a b e. apart i j (inr a) (inr b) e))
-  where
-    none : (b : Bool) → has (map f xs) (f x) ≡ b → b ≡ false
-    none false e = refl
-    none true e =
-        let r : (i : ℕ) × IsAmong i xs × (f x ≡ f i) = slot_of f xs (f x) e in
-        absurd (n.0 (subst (λ j. IsAmong j xs) (sym (apart x r.0 (inl refl) (inr r.1) r.2)) r.1))
-
--- ---- tables
-
-found_has : {A : Type 0} (es : tables.Table A) (p : Name) (a : A) → find es p ≡ Some a → has (names es) p ≡ true
-found_has [] p a e = absurd (cc)
-found_has (x ∷ es) p a e = go (same p x.0) refl e (found_has es p a)
-  where
-    go : (b : Bool) → same p x.0 ≡ b → (if b then Some x.1 else find es p) ≡ Some a → (find es p ≡ Some a → has (names es) p ≡ true) →
-        (b || has (names es) p) ≡ true
-    go true s e more = refl
-    go false s e more = more e
-
-pub ready_home : (o : Option ℕ) → is_ready_home o ≡ true → o ≡ Some 0
-ready_home None e = absurd (cc)
-ready_home (Some list) e = ap Some (eqb-true list 0 e)
-
-free_home : (o : Option ℕ) → is_free_home o ≡ true → o ≡ Some 1
-free_home None e = absurd (cc)
-free_home (Some list) e = ap Some (eqb-true list 1 e)
-
--- who is not live is free
-dead_free : (t : Table) (i : ℕ) → i < 32 → is_live t i ≡ false → is_free_home (home_of t.lists i) ≡ true
-dead_free t i l dead = go (is_free_home (home_of t.lists i)) refl
-  where
-    go : (b : Bool) → is_free_home (home_of t.lists i) ≡ b → b ≡ true
-    go true e = refl
-    go false e = let a : true ≡ false = sym (live_of_home t i l e) ∙ dead in absurd (cc)
-
-free_dead : (t : Table) (i : ℕ) → is_free_home (home_of t.lists i) ≡ true → is_live t i ≡ false
-free_dead t i e = ap (λ b. nat_lt i 32 && not b) e ∙ none (nat_lt i 32)
-  where
-    none : (b : Bool) → (b && false) ≡ false
-    none true = refl
-    none false = refl
+use Rattle.edi_kernel.proofs.Again.{same_length, same_members, once_named, ready_home, free_home, dead_free, free_dead}
 
 module _ (k other : KernelState) (m : Machine) (order : List Name) (turns : ℕ) (system : State) (kernel : IsKernel k) (kernel' : IsKernel other)
     (h : Holds k m None order) (s : SameProcesses k other) where

@@ -1,20 +1,15 @@
 -- The code of a unit that can be coded, as the laws of a search speak of it; and what a run of it reaches.
-use Rattle.std.proofs.Common.{◌∙◌, ◌≡◌, ℕ, zero, suc, ◌+◌, ◌<◌, ◌≤◌, ◌⊎◌, inl, inr, List, length, drop, Option, Some, None, refl, sym, ap, subst, arith}
-use Rattle.std.proofs.lemmas.Bool.{cases_lt}
+use Rattle.std.proofs.Common.{◌∙◌, ◌≡◌, ℕ, List, length, Some, None, sym, ap, subst, arith}
 use Rattle.edi_calls.specs.Choice.{listed}
 use Rattle.edi_calls.specs.Outcome as outcome
 use Rattle.edi_calls.specs.Outcome.{Outcome, outcome_of}
 use Rattle.edi_calls.specs.State.{State}
 use Rattle.edi_calls.proofs.Names.{some_is}
-use Rattle.edi_unit.specs.Types.{Shape}
-use Rattle.edi_unit.specs.Tree.{Block, ProgramUnit}
+use Rattle.edi_unit.specs.Tree.{ProgramUnit}
 use Rattle.edi_meaning.specs.Select.{Select}
-use Rattle.edi_target.specs.Decode.{decode}
 use Rattle.edi_target.specs.Reading.{AreWords}
 use Rattle.edi_target.specs.Fetch.{fetch}
 use Rattle.edi_target.specs.Mach.{Mach}
-use Rattle.edi_target.specs.Op.{Instruction, words_of}
-use Rattle.edi_target.proofs.Reading.{decode_reads}
 use Rattle.edi_target.proofs.Stands.{code_stands_below}
 use Rattle.edi_target.proofs.segments.Reaching.{allowed_at}
 use Rattle.edi_scheme.specs.Code.{entry, code_of}
@@ -33,27 +28,9 @@ use Rattle.edi_kernel.proofs.Endings.{ends_as}
 use Rattle.edi_kernel.proofs.Machines.{runs_are_the_machines}
 use Rattle.edi_explored.specs.Reached.{IsReached, IsShown}
 use Rattle.edi_explored.specs.machine.Kernels.{IsUnitCode, ReachesAs, ending_of}
+use Rattle.edi_follows.proofs.Coding.{entry_up, fetched_long}
 
 -- ---- the code
-
-pub entry_up : (types : List Shape) (blocks : List Block) (n m : ℕ) → n ≤ m → entry types blocks n ≤ entry types blocks m
-entry_up types blocks n zero le = let e : n ≡ zero = omega arith in subst (λ k. entry types blocks k ≤ 0) (sym e) (omega arith)
-entry_up types blocks n (suc m) le = go (cases_lt n (suc m)) (entry_up types blocks n m)
-  where
-    go : (n < suc m) ⊎ (suc m ≤ n) → (n ≤ m → entry types blocks n ≤ entry types blocks m) → entry types blocks n ≤ entry types blocks (suc m)
-    go (inl h) ih = omega (arith, ih (omega arith))
-    go (inr h) ih = let e : n ≡ suc m = omega arith in subst (λ k. entry types blocks n ≤ entry types blocks k) e (omega arith)
-
--- what is read at an address is as long as the words of the instruction there
-pub fetched_long : (words : List ℕ) → AreWords words → (at : ℕ) (found : Instruction × ℕ) → fetch words at ≡ Some found →
-    found.1 ≡ at + length (words_of found.0)
-fetched_long words w at found e = go (decode (drop at words)) refl e
-  where
-    go : (x : Option (Instruction × ℕ)) → decode (drop at words) ≡ x →
-        elim x as (λ _. Option (Instruction × ℕ)) [ None ↦ None | Some found ↦ Some (found.0, at + found.1) ] ≡ Some found →
-        found.1 ≡ at + length (words_of found.0)
-    go None d e = absurd (cc)
-    go (Some x) d e = subst (λ (y : Instruction × ℕ). y.1 ≡ at + length (words_of y.0)) (some_is e) (decode_reads words at x.0 x.1 w d).follows
 
 abbrev pub coded : (unit : ProgramUnit) → CanBeCoded unit → Coded
 coded unit c =

@@ -19,7 +19,7 @@ use Rattle.edi_kernel.specs.Table.{ready_slots}
 use Rattle.edi_kernel.specs.Kernel.{GoesTo}
 use Rattle.edi_kernel.specs.Kept.{SameProcesses, restarted}
 use Rattle.edi_kernel.specs.Runs.{IsAtBy}
-use Rattle.edi_kernel.proofs.Again.{stands_again}
+use Rattle.edi_kernel.proofs.Again.{slot_of, stands_again}
 use Rattle.edi_follows.specs.places.Coded.{Coded}
 use Rattle.edi_follows.specs.places.Lands.{StartClaim}
 use Rattle.edi_explored.specs.Covered.{Reordered, Report, Tells}
@@ -27,7 +27,7 @@ use Rattle.edi_explored.specs.machine.Machines.{Fails, ServesAs}
 use Rattle.edi_explored.specs.machine.PutBacks.{IsFollowed, FollowedPutBacks}
 use Rattle.edi_explored.specs.machine.Kernels.{IsCodeOf, IsFailed, StintOf, FollowedKernels}
 use Rattle.edi_explored.proofs.Members.{members_at}
-use Rattle.edi_explored.proofs.machine.Again.{slot_of, holds_by_name, members_by_name, once_by_name, ready_also}
+use Rattle.edi_explored.proofs.machine.Again.{holds_by_name, members_by_name, once_by_name, ready_also}
 use Rattle.edi_explored.proofs.machine.Served.{serves}
 use Rattle.edi_explored.proofs.machine.Kernels.{same_processes, are_apart, once_of, among_index, same_rest}
 use Rattle.edi_explored.proofs.machine.KernelStints.{IsPut, PutBack, HasIt, goes_known, goes_failed}

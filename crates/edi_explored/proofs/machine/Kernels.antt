@@ -21,7 +21,7 @@ use Rattle.edi_kernel.specs.Kept.{SameProcesses, is_ready, activity_of, process_
 use Rattle.edi_kernel.proofs.Lists.{ready_live}
 use Rattle.edi_kernel.proofs.Sharing.{among_home}
 use Rattle.edi_explored.specs.machine.Kernels.{AreApart, IsBack}
-use Rattle.edi_explored.proofs.machine.Again.{both_ways, ready_home}
+use Rattle.edi_kernel.proofs.Again.{both_ways, ready_home}
 
 -- ---- kernels with the same processes
 
