@@ -27,6 +27,9 @@ module _ (marks : List Mark) (line i : ℕ) (within : i < length marks) where
 
 -- ---- the first one that is declared nowhere
 
+pub no_names : (marks : List Mark) (line i names : ℕ) (all : Found) → names ≡ 0 → lost_from marks line i names ≡ all → None ≡ all
+no_names marks line i names all none h = sym (ap (λ n. lost_from marks line i n) none) ∙ h
+
 module _ (marks : List Mark) (line i names : ℕ) (some : 0 < names) where
   abbrev by_next : Found → Found
   by_next f = unless_it_may marks f (λ rest. lost_from marks line rest (names - 1))
