@@ -204,17 +204,17 @@ pub row_one_name : marked_name (mark (is.Name (codes "y")) ∷ mark is.Becomes �
 row_one_name = refl
 
 -- var y: int begin y := y: the text declares it, so the first can mean something, as in begin y := 1 end begin y := 2 end
-abbrev declared : List Mark
-declared = on 1 is.Var ∷ on 1 (is.Name (codes "y")) ∷ on 1 is.Colon ∷ on 1 (is.Name (codes "int")) ∷ on 1 is.Begin ∷ []
+abbrev var_y : List Mark
+var_y = on 1 is.Var ∷ on 1 (is.Name (codes "y")) ∷ on 1 is.Colon ∷ on 1 (is.Name (codes "int")) ∷ on 1 is.Begin ∷ []
 
-pub row_twice : marked_name (declared ++ (on 2 (is.Name (codes "y")) ∷ on 2 is.Becomes ∷ on 2 (is.Name (codes "y")) ∷ [])) 2 ≡ None
+pub row_twice : marked_name (var_y ++ (on 2 (is.Name (codes "y")) ∷ on 2 is.Becomes ∷ on 2 (is.Name (codes "y")) ∷ [])) 2 ≡ None
 row_twice = refl
 
 -- x := y and y := x: either can be it, and x is declared nowhere
-pub row_lost_first : marked_name (declared ++ (on 2 (is.Name (codes "x")) ∷ on 2 is.Becomes ∷ on 2 (is.Name (codes "y")) ∷ [])) 2 ≡ Some (5, codes "x")
+pub row_lost_first : marked_name (var_y ++ (on 2 (is.Name (codes "x")) ∷ on 2 is.Becomes ∷ on 2 (is.Name (codes "y")) ∷ [])) 2 ≡ Some (5, codes "x")
 row_lost_first = refl
 
-pub row_lost_second : marked_name (declared ++ (on 2 (is.Name (codes "y")) ∷ on 2 is.Becomes ∷ on 2 (is.Name (codes "x")) ∷ [])) 2 ≡ Some (7, codes "x")
+pub row_lost_second : marked_name (var_y ++ (on 2 (is.Name (codes "y")) ∷ on 2 is.Becomes ∷ on 2 (is.Name (codes "x")) ∷ [])) 2 ≡ Some (7, codes "x")
 row_lost_second = refl
 
 -- var x: integer; z: real: the names after `:` are no declarations, and the first of the two is marked
@@ -223,10 +223,10 @@ pub row_two_types : marked_name (mark is.Var ∷ mark (is.Name (codes "x")) ∷ 
 row_two_types = refl
 
 -- 16 names that are declared, and then one that is not
-pub row_late : marked_name (declared ++ (replicate 16 (on 2 (is.Name (codes "y"))) ++ on 2 (is.Name (codes "x")) ∷ [])) 2 ≡ None
+pub row_late : marked_name (var_y ++ (replicate 16 (on 2 (is.Name (codes "y"))) ++ on 2 (is.Name (codes "x")) ∷ [])) 2 ≡ None
 row_late = refl
 
-pub row_in_time : marked_name (declared ++ (replicate 15 (on 2 (is.Name (codes "y"))) ++ on 2 (is.Name (codes "x")) ∷ [])) 2 ≡ Some (20, codes "x")
+pub row_in_time : marked_name (var_y ++ (replicate 15 (on 2 (is.Name (codes "y"))) ++ on 2 (is.Name (codes "x")) ∷ [])) 2 ≡ Some (20, codes "x")
 row_in_time = refl
 
 -- var x: integer
@@ -245,5 +245,5 @@ pub row_before_heading : marked_name (mark is.Const ∷ mark (is.Name (codes "a"
 row_before_heading = refl
 
 -- y.int: the field can be it, whatever else its name means
-pub row_field : marked_name (declared ++ (on 2 (is.Name (codes "y")) ∷ on 2 is.Period ∷ on 2 (is.Name (codes "int")) ∷ [])) 2 ≡ Some (7, codes "int")
+pub row_field : marked_name (var_y ++ (on 2 (is.Name (codes "y")) ∷ on 2 is.Period ∷ on 2 (is.Name (codes "int")) ∷ [])) 2 ≡ Some (7, codes "int")
 row_field = refl
