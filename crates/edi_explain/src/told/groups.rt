@@ -16,8 +16,8 @@ static STATEMENT: [u8; 7] = [1, 9, 16, 28, 29, 31, 32];
 // The kinds with which an expression begins.
 static EXPRESSION: [u8; 9] = [1, 2, 3, 4, 21, 29, 39, 40, 47];
 
-// The kinds with which a declaration begins.
-static DECLARATION: [u8; 10] = [7, 10, 15, 20, 23, 24, 25, 26, 27, 30];
+/// The kinds with which a declaration begins.
+pub(crate) static DECLARATION: [u8; 10] = [7, 10, 15, 20, 23, 24, 25, 26, 27, 30];
 
 // The kinds of operators between operands.
 static OPERATOR: [u8; 7] = [41, 11, 19, 6, 39, 40, 22];

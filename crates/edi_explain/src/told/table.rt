@@ -24,7 +24,7 @@ const ANYWHERE: Row = Row {
 };
 
 /// The rows, of which the first one that fits counts.
-pub(crate) static ROWS: [Row; 50] = [
+pub(crate) static ROWS: [Row; 54] = [
     Row {
         may: &[2, 3],
         quoted: true,
@@ -75,6 +75,12 @@ pub(crate) static ROWS: [Row; 50] = [
     Row {
         last: &[13],
         note: "after 'else' comes a condition, without 'if': 'else x > 0 do' is a further case, and 'else true do' takes all other cases.",
+        ..ANYWHERE
+    },
+    Row {
+        found: &[12],
+        last: &[16, 31, 32],
+        note: "a condition stands before 'do', as in when x > 0 do ... end; 'when true do' waits for nothing.",
         ..ANYWHERE
     },
     Row {
@@ -199,9 +205,28 @@ pub(crate) static ROWS: [Row; 50] = [
         ..ANYWHERE
     },
     Row {
+        found: &[1],
+        last: &[1],
+        may: &[47, 43],
+        note: "a semicolon stands between two statements, and the arguments of a call stand in parentheses.",
+        ..ANYWHERE
+    },
+    Row {
         found: &[1, 9, 16, 28, 29, 31, 32],
         may: &[45, 14],
         note: "a semicolon stands between two statements.",
+        ..ANYWHERE
+    },
+    Row {
+        found: &[8],
+        may: &[14],
+        note: "an 'end' is missing before this 'begin', or it is a 'begin' too many: only a procedure and a module have one.",
+        ..ANYWHERE
+    },
+    Row {
+        found: &[14],
+        may: &[8],
+        note: "here come declarations or a 'begin': an 'end' too many stands here or before, or a 'begin' is missing.",
         ..ANYWHERE
     },
     Row {
