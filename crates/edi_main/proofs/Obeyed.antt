@@ -1,5 +1,5 @@
 -- From what the words are to the command that is obeyed.
-use Rattle.std.proofs.Common.{◌≡◌, ◌∙◌, ◌⊎◌, ◌&&◌, arith, not, inl, inr, ℕ, Bool, true, false, true≢false, List, [], Option, Some, None, option_map, refl, sym, subst}
+use Rattle.std.proofs.Common.{◌≡◌, ◌∙◌, ◌⊎◌, ◌&&◌, arith, not, inl, inr, ℕ, Bool, true, false, true≢false, List, [], Option, Some, None, option_map, refl, sym, subst, ap}
 use Rattle.edi_told.specs.Faults.{CountRose}
 use Rattle.edi_host.specs.Contents.{Contents}
 use Rattle.std.specs.Borrow.{Bor}
@@ -19,6 +19,7 @@ use Rattle.edi_statuses.proofs.Causes.{output_rose}
 use Rattle.edi_statuses.proofs.EachLeft.{each_same}
 use Rattle.edi_statuses.proofs.Silent.{idle, nothing_shown}
 use Rattle.edi_commands.specs.disk.OnDisk.{IsOfDisk, MeansOnDisk, RestStays}
+use Rattle.edi_commands.specs.run.Blaming.{Blaming}
 use Rattle.edi_commands.specs.run.RunMeans.{replaying}
 use Rattle.edi_commands.proofs.run.Meaning.{replayed}
 use Rattle.edi_statuses.specs.Lines.{text_of}
@@ -77,6 +78,15 @@ pub came_run : (c : Option Command) (s : Status) (due : Bool) (before after : Ou
     → CameBlaming s due c before after had has kernel
 came_run c s due before after had has kernel uses cause blamed is came =
     (blamed, (λ same. subst (λ u. OutputRose u blamed had has) (sym uses) (output_rose blamed s had has is cause same)), came)
+
+-- so of a command as the code has it
+pub run_so : (c d : commands.Command) (s : Status) (due : Bool) (before after : Outside) (had has : Counts) (kernel : Lent) → c ≡ d
+    → uses_devices (view d) ≡ true → HasCause s had has
+    → Blaming s had.terminal has.terminal had.printer has.printer (Came s due (Some (view d)) before after) kernel
+    → CameBlaming s due (Some (view c)) before after had has kernel
+run_so c d s due before after had has kernel is uses cause came =
+    came_run (Some (view c)) s due before after had has kernel (ap (λ x. uses_devices (view x)) is ∙ uses) cause came.0 came.1
+    (obeyed_so c d s due before after (blaming came.0 kernel) is came.2)
 
 -- another one blames none: of the output only the terminal can have failed
 pub came_else : (c : Option Command) (s : Status) (due : Bool) (before after : Outside) (had has : Counts) (kernel : Lent)

@@ -10,21 +10,19 @@ use Rattle.edi_statuses.proofs.EachLeft.{same_valid, untouched, untouched_alone,
 use Rattle.edi_statuses.proofs.Silent.{on_files}
 use Rattle.edi_statuses.proofs.Told.{told_so}
 use Rattle.edi_main.proofs.Obeyed.{counts_so, obeyed, obeyed_demo, obeyed_replay, obeyed_so, obeyed_timed_demo, on_disk, unmounted_last, unmounted_never}
-use Rattle.edi_main.proofs.Obeyed.{came_else, came_run, never_on_disk, never_on_files, terminal_rose, unmounted_so, untouched_so}
+use Rattle.edi_main.proofs.Obeyed.{came_else, came_run, never_on_disk, never_on_files, run_so, terminal_rose, unmounted_so, untouched_so}
 use Rattle.edi_main.proofs.top.perform.Goals as goal
 
 pub returns-in-Compile-clause-came : goal.returns-in-Compile-clause-came
 returns-in-Compile-clause-came g c =
-    came_else (Some (view c.args.command)) c.silent.result.status c.silent.result.due _ _ _ _ _
-    (ap (λ x. command_does uses_devices (Some (view x))) c.in-Compile.is)
+    came_else (Some (view c.args.command)) c.silent.result.status c.silent.result.due _ _ _ _ _ (ap (λ x. command_does uses_devices (Some (view x))) c.in-Compile.is)
     (never_on_files c.compile_file.result c.silent.result.status _ _ c.silent.ensures.status c.compile_file.ensures.kind)
     (obeyed c.args.command (command.Compile c.in-Compile.file c.in-Compile.out) c.compile_file.result c.silent.result.status c.silent.result.due _ _ _ c.in-Compile.is c.silent.ensures.status c.silent.ensures.due
     (on_files (words.compile c.in-Compile.file.now c.in-Compile.out.now) c.compile_file.result false _ _ _ refl c.compile_file.ensures.means))
 
 pub returns-in-NewDisk-clause-came : goal.returns-in-NewDisk-clause-came
 returns-in-NewDisk-clause-came g c =
-    came_else (Some (view c.args.command)) c.silent-in-NewDisk.result.status c.silent-in-NewDisk.result.due _ _ _ _ _
-    (ap (λ x. command_does uses_devices (Some (view x))) c.in-NewDisk.is)
+    came_else (Some (view c.args.command)) c.silent-in-NewDisk.result.status c.silent-in-NewDisk.result.due _ _ _ _ _ (ap (λ x. command_does uses_devices (Some (view x))) c.in-NewDisk.is)
     (never_on_disk c.new_by.result c.silent-in-NewDisk.result.status _ _ c.silent-in-NewDisk.ensures.status c.new_by.ensures.cause.kind)
     (obeyed c.args.command (command.NewDisk c.in-NewDisk.blocks c.in-NewDisk.old) c.new_by.result c.silent-in-NewDisk.result.status
     c.silent-in-NewDisk.result.due _ _ _ c.in-NewDisk.is c.silent-in-NewDisk.ensures.status c.silent-in-NewDisk.ensures.due
@@ -37,16 +35,14 @@ returns-in-NewDisk-clause-size g c =
 
 pub returns-in-Put-clause-came : goal.returns-in-Put-clause-came
 returns-in-Put-clause-came g c =
-    came_else (Some (view c.args.command)) c.silent-in-Put.result.status c.silent-in-Put.result.due _ _ _ _ _
-    (ap (λ x. command_does uses_devices (Some (view x))) c.in-Put.is)
+    came_else (Some (view c.args.command)) c.silent-in-Put.result.status c.silent-in-Put.result.due _ _ _ _ _ (ap (λ x. command_does uses_devices (Some (view x))) c.in-Put.is)
     (never_on_disk c.put.result c.silent-in-Put.result.status _ _ c.silent-in-Put.ensures.status c.put.ensures.cause.kind)
     (obeyed c.args.command (command.Put c.in-Put.file c.in-Put.title) c.put.result c.silent-in-Put.result.status c.silent-in-Put.result.due _ _ _ c.in-Put.is c.silent-in-Put.ensures.status c.silent-in-Put.ensures.due
     (on_disk (words.put c.in-Put.file.now c.in-Put.title.now) c.put.result _ _ _ _ c.put.ensures.means (λ stays. c.put.ensures.valid)))
 
 pub returns-in-Get-clause-came : goal.returns-in-Get-clause-came
 returns-in-Get-clause-came g c =
-    came_else (Some (view c.args.command)) c.silent-in-Get.result.status c.silent-in-Get.result.due _ _ _ _ _
-    (ap (λ x. command_does uses_devices (Some (view x))) c.in-Get.is)
+    came_else (Some (view c.args.command)) c.silent-in-Get.result.status c.silent-in-Get.result.due _ _ _ _ _ (ap (λ x. command_does uses_devices (Some (view x))) c.in-Get.is)
     (never_on_disk c.get.result c.silent-in-Get.result.status _ _ c.silent-in-Get.ensures.status c.get.ensures.cause.kind)
     (obeyed c.args.command (command.Get c.in-Get.title c.in-Get.file) c.get.result c.silent-in-Get.result.status c.silent-in-Get.result.due _ _ _ c.in-Get.is c.silent-in-Get.ensures.status c.silent-in-Get.ensures.due
     (on_disk (words.get c.in-Get.title.now c.in-Get.file.now) c.get.result _ _ _ _ c.get.ensures.means
@@ -54,8 +50,7 @@ returns-in-Get-clause-came g c =
 
 pub returns-in-List-clause-came : goal.returns-in-List-clause-came
 returns-in-List-clause-came g c =
-    came_else (Some (view c.args.command)) c.list.result.status c.list.result.due _ _ _ _ _
-    (ap (λ x. command_does uses_devices (Some (view x))) c.in-List.is)
+    came_else (Some (view c.args.command)) c.list.result.status c.list.result.due _ _ _ _ _ (ap (λ x. command_does uses_devices (Some (view x))) c.in-List.is)
     (terminal_rose c.list.result.status _ _ refl (c.list.ensures.cause 0 0 0))
     (obeyed_so c.args.command (command.List c.in-List.file) c.list.result.status c.list.result.due _ _ _ c.in-List.is
     (c.list.ensures.came (g.D.Drive.contents c.args.drive.now) (g.S.Source.left c.args.input.now) (g.P.Sink.taken c.args.printer.now)
@@ -67,9 +62,7 @@ returns-in-List-clause-cause g c =
 
 pub returns-in-Demo-clause-came : goal.returns-in-Demo-clause-came
 returns-in-Demo-clause-came g c =
-    came_run (Some (view c.args.command)) c.demonstrate.result.status c.demonstrate.result.due _ _ _ _ _
-    (ap (λ x. command_does uses_devices (Some (view x))) c.in-Demo.is) (c.demonstrate.ensures.cause (g.D.Drive.faults c.args.drive.now) (g.S.Source.faults c.args.input.now))
-    c.demonstrate.ensures.came.0 c.demonstrate.ensures.came.1
+    came_run (Some (view c.args.command)) c.demonstrate.result.status c.demonstrate.result.due _ _ _ _ _ (ap (λ x. command_does uses_devices (Some (view x))) c.in-Demo.is) (c.demonstrate.ensures.cause (g.D.Drive.faults c.args.drive.now) (g.S.Source.faults c.args.input.now)) c.demonstrate.ensures.came.0 c.demonstrate.ensures.came.1
     (obeyed_demo c.args.command c.in-Demo.n c.from.result c.in-Demo.options c.demonstrate.result.status c.demonstrate.result.due _ _ _ c.in-Demo.is
     c.from.ensures (c.demonstrate.ensures.came.2 (g.D.Drive.contents c.args.drive.now) (g.S.Source.left c.args.input.now)))
 
@@ -78,12 +71,8 @@ returns-in-Demo-clause-cause g c = c.demonstrate.ensures.cause (g.D.Drive.faults
 
 pub returns-in-Walk-clause-came : goal.returns-in-Walk-clause-came
 returns-in-Walk-clause-came g c =
-    let came = c.walk_file.ensures.came (kernel_of c.args.kernel.now.store c.args.kernel.now.used) in
-    came_run (Some (view c.args.command)) c.walk_file.result.status c.walk_file.result.due _ _ _ _ _
-    (ap (λ x. command_does uses_devices (Some (view x))) c.in-Walk.is) c.walk_file.ensures.cause
-    came.0 came.1
-    (obeyed_so c.args.command (command.Walk c.in-Walk.file c.in-Walk.choices c.in-Walk.turns) c.walk_file.result.status c.walk_file.result.due _ _ _
-    c.in-Walk.is came.2)
+    run_so c.args.command (command.Walk c.in-Walk.file c.in-Walk.choices c.in-Walk.turns) c.walk_file.result.status c.walk_file.result.due _ _ _ _ _
+    c.in-Walk.is refl c.walk_file.ensures.cause (c.walk_file.ensures.came (kernel_of c.args.kernel.now.store c.args.kernel.now.used))
 
 pub returns-in-Walk-clause-size : goal.returns-in-Walk-clause-size
 returns-in-Walk-clause-size g c =
@@ -113,9 +102,7 @@ returns-in-Run-clause-untouched g c =
 
 pub returns-in-Replay-clause-came : goal.returns-in-Replay-clause-came
 returns-in-Replay-clause-came g c =
-    came_run (Some (view c.args.command)) c.run_file-in-Replay.result.status c.run_file-in-Replay.result.due _ _ _ _ _
-    (ap (λ x. command_does uses_devices (Some (view x))) c.in-Replay.is) c.run_file-in-Replay.ensures.cause
-    c.run_file-in-Replay.ensures.came.0 c.run_file-in-Replay.ensures.came.1
+    came_run (Some (view c.args.command)) c.run_file-in-Replay.result.status c.run_file-in-Replay.result.due _ _ _ _ _ (ap (λ x. command_does uses_devices (Some (view x))) c.in-Replay.is) c.run_file-in-Replay.ensures.cause c.run_file-in-Replay.ensures.came.0 c.run_file-in-Replay.ensures.came.1
     (obeyed_replay c.args.command c.in-Replay.file c.in-Replay.choices c.in-Replay.turns c.replaying-options.result c.run_file-in-Replay.result.status
     c.run_file-in-Replay.result.due _ _ _ c.in-Replay.is c.replaying-options.ensures.exact c.run_file-in-Replay.ensures.came.2)
 
@@ -237,8 +224,7 @@ returns-in-Demo-clause-untouched g c =
 
 pub returns-in-Check-clause-came : goal.returns-in-Check-clause-came
 returns-in-Check-clause-came g c =
-    came_else (Some (view c.args.command)) c.check.result.status c.check.result.due _ _ _ _ _
-    (ap (λ x. command_does uses_devices (Some (view x))) c.in-Check.is)
+    came_else (Some (view c.args.command)) c.check.result.status c.check.result.due _ _ _ _ _ (ap (λ x. command_does uses_devices (Some (view x))) c.in-Check.is)
     (terminal_rose c.check.result.status _ _ refl (c.check.ensures.cause 0 0 0))
     (obeyed_so c.args.command (command.Check c.in-Check.file) c.check.result.status c.check.result.due _ _ _ c.in-Check.is
     (c.check.ensures.came (g.D.Drive.contents c.args.drive.now) (g.S.Source.left c.args.input.now) (g.P.Sink.taken c.args.printer.now)
@@ -255,8 +241,7 @@ returns-in-Check-clause-untouched g c =
 
 pub returns-in-Explain-clause-came : goal.returns-in-Explain-clause-came
 returns-in-Explain-clause-came g c =
-    came_else (Some (view c.args.command)) c.explain_file.result.status c.explain_file.result.due _ _ _ _ _
-    (ap (λ x. command_does uses_devices (Some (view x))) c.in-Explain.is)
+    came_else (Some (view c.args.command)) c.explain_file.result.status c.explain_file.result.due _ _ _ _ _ (ap (λ x. command_does uses_devices (Some (view x))) c.in-Explain.is)
     (terminal_rose c.explain_file.result.status _ _ refl (c.explain_file.ensures.cause 0 0 0))
     (obeyed_so c.args.command (command.Explain c.in-Explain.file) c.explain_file.result.status c.explain_file.result.due _ _ _ c.in-Explain.is
     (c.explain_file.ensures.came (g.D.Drive.contents c.args.drive.now) (g.S.Source.left c.args.input.now) (g.P.Sink.taken c.args.printer.now)
@@ -273,8 +258,7 @@ returns-in-Explain-clause-untouched g c =
 
 pub returns-in-Explore-clause-came : goal.returns-in-Explore-clause-came
 returns-in-Explore-clause-came g c =
-    came_else (Some (view c.args.command)) c.explore_file.result.status c.explore_file.result.due _ _ _ _ _
-    (ap (λ x. command_does uses_devices (Some (view x))) c.in-Explore.is)
+    came_else (Some (view c.args.command)) c.explore_file.result.status c.explore_file.result.due _ _ _ _ _ (ap (λ x. command_does uses_devices (Some (view x))) c.in-Explore.is)
     (terminal_rose c.explore_file.result.status _ _ refl (c.explore_file.ensures.cause 0 0))
     (obeyed_so c.args.command (command.Explore c.in-Explore.file c.in-Explore.options) c.explore_file.result.status c.explore_file.result.due _ _ _
     c.in-Explore.is (c.explore_file.ensures.came (g.D.Drive.contents c.args.drive.now) (g.P.Sink.taken c.args.printer.now)))
@@ -415,41 +399,30 @@ returns-in-TimeDemo-clause-unmounted g c =
 
 pub returns-in-Run-clause-came : goal.returns-in-Run-clause-came
 returns-in-Run-clause-came g c =
-    came_run (Some (view c.args.command)) c.run_file.result.status c.run_file.result.due _ _ _ _ _
-    (ap (λ x. command_does uses_devices (Some (view x))) c.in-Run.is) c.run_file.ensures.cause
-    c.run_file.ensures.came.0 c.run_file.ensures.came.1
-    (obeyed_so c.args.command (command.Run c.in-Run.file c.in-Run.options) c.run_file.result.status c.run_file.result.due _ _ _ c.in-Run.is c.run_file.ensures.came.2)
+    run_so c.args.command (command.Run c.in-Run.file c.in-Run.options) c.run_file.result.status c.run_file.result.due _ _ _ _ _
+    c.in-Run.is refl c.run_file.ensures.cause c.run_file.ensures.came
 
 pub returns-in-Exec-clause-came : goal.returns-in-Exec-clause-came
 returns-in-Exec-clause-came g c =
-    came_run (Some (view c.args.command)) c.run_file-in-Exec.result.status c.run_file-in-Exec.result.due _ _ _ _ _
-    (ap (λ x. command_does uses_devices (Some (view x))) c.in-Exec.is) c.run_file-in-Exec.ensures.cause
-    c.run_file-in-Exec.ensures.came.0 c.run_file-in-Exec.ensures.came.1
-    (obeyed_so c.args.command (command.Exec c.in-Exec.file c.in-Exec.options) c.run_file-in-Exec.result.status c.run_file-in-Exec.result.due _ _ _ c.in-Exec.is c.run_file-in-Exec.ensures.came.2)
+    run_so c.args.command (command.Exec c.in-Exec.file c.in-Exec.options) c.run_file-in-Exec.result.status c.run_file-in-Exec.result.due _ _ _ _ _
+    c.in-Exec.is refl c.run_file-in-Exec.ensures.cause c.run_file-in-Exec.ensures.came
 
 pub returns-in-Watch-clause-came : goal.returns-in-Watch-clause-came
 returns-in-Watch-clause-came g c =
-    came_run (Some (view c.args.command)) c.watch_file.result.status c.watch_file.result.due _ _ _ _ _
-    (ap (λ x. command_does uses_devices (Some (view x))) c.in-Watch.is) c.watch_file.ensures.cause
-    c.watch_file.ensures.came.0 c.watch_file.ensures.came.1
-    (obeyed_so c.args.command (command.Watch c.in-Watch.file c.in-Watch.stops c.in-Watch.out c.in-Watch.options) c.watch_file.result.status c.watch_file.result.due _ _ _ c.in-Watch.is c.watch_file.ensures.came.2)
+    run_so c.args.command (command.Watch c.in-Watch.file c.in-Watch.stops c.in-Watch.out c.in-Watch.options) c.watch_file.result.status c.watch_file.result.due _ _ _ _ _
+    c.in-Watch.is refl c.watch_file.ensures.cause c.watch_file.ensures.came
 
 pub returns-in-Time-clause-came : goal.returns-in-Time-clause-came
 returns-in-Time-clause-came g c =
-    came_run (Some (view c.args.command)) c.time_file.result.status c.time_file.result.due _ _ _ _ _
-    (ap (λ x. command_does uses_devices (Some (view x))) c.in-Time.is) c.time_file.ensures.cause
-    c.time_file.ensures.came.0 c.time_file.ensures.came.1
-    (obeyed_so c.args.command (command.Time c.in-Time.file c.in-Time.out c.in-Time.options) c.time_file.result.status c.time_file.result.due _ _ _ c.in-Time.is c.time_file.ensures.came.2)
+    run_so c.args.command (command.Time c.in-Time.file c.in-Time.out c.in-Time.options) c.time_file.result.status c.time_file.result.due _ _ _ _ _
+    c.in-Time.is refl c.time_file.ensures.cause c.time_file.ensures.came
 
 pub returns-in-TimeCode-clause-came : goal.returns-in-TimeCode-clause-came
 returns-in-TimeCode-clause-came g c =
-    came_run (Some (view c.args.command)) c.time_file-in-TimeCode.result.status c.time_file-in-TimeCode.result.due _ _ _ _ _
-    (ap (λ x. command_does uses_devices (Some (view x))) c.in-TimeCode.is) c.time_file-in-TimeCode.ensures.cause
-    c.time_file-in-TimeCode.ensures.came.0 c.time_file-in-TimeCode.ensures.came.1
-    (obeyed_so c.args.command (command.TimeCode c.in-TimeCode.file c.in-TimeCode.out c.in-TimeCode.options) c.time_file-in-TimeCode.result.status c.time_file-in-TimeCode.result.due _ _ _ c.in-TimeCode.is c.time_file-in-TimeCode.ensures.came.2)
+    run_so c.args.command (command.TimeCode c.in-TimeCode.file c.in-TimeCode.out c.in-TimeCode.options) c.time_file-in-TimeCode.result.status c.time_file-in-TimeCode.result.due _ _ _ _ _
+    c.in-TimeCode.is refl c.time_file-in-TimeCode.ensures.cause c.time_file-in-TimeCode.ensures.came
 
 pub returns-in-Boot-clause-came : goal.returns-in-Boot-clause-came
 returns-in-Boot-clause-came g c =
-    came_run (Some (view c.args.command)) c.boot.result.status c.boot.result.due _ _ _ _ _
-    (ap (λ x. command_does uses_devices (Some (view x))) c.in-Boot.is) c.boot.ensures.cause None tt
+    came_run (Some (view c.args.command)) c.boot.result.status c.boot.result.due _ _ _ _ _ (ap (λ x. command_does uses_devices (Some (view x))) c.in-Boot.is) c.boot.ensures.cause None tt
     (obeyed_so c.args.command (command.Boot c.in-Boot.options) c.boot.result.status c.boot.result.due _ _ _ c.in-Boot.is c.boot.ensures.came)
