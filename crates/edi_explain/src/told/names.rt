@@ -8,12 +8,21 @@ use crate::told::groups::{DECLARATION, is_among};
 use crate::told::numbers::kind_at;
 use crate::told::words::is_text_of;
 use edi_lex::{Mark, Symbol};
+use edi_phrases::kind;
 
 // The standard names.
 static STANDARD: [&str; 6] = ["int", "char", "bool", "false", "true", "halt"];
 
 // The kinds of symbols after which a name is declared.
-static DECLARERS: [u8; 7] = [7, 10, 15, 25, 26, 27, 30];
+static DECLARERS: [u8; 7] = [
+    kind::ARRAY,
+    kind::CONST,
+    kind::ENUM,
+    kind::PROC,
+    kind::RECORD,
+    kind::SET,
+    kind::VAR,
+];
 
 // As many symbols as are looked at for the heading of the program.
 const MOST_HEADING: usize = 256;
@@ -68,7 +77,9 @@ fn marks_from(marks: &[Mark], count: usize) -> &[Mark]
 fn is_declared(last: u8, next: u8) -> bool
     ensures exact { result ≡ spec.is_declared last next }
 {
-    is_among(last, &DECLARERS) || (next == 42 && last != 49) || (last == 45 && next == 33)
+    is_among(last, &DECLARERS)
+        || (next == kind::COLON && last != kind::OPEN_BRACKET)
+        || (last == kind::SEMICOLON && next == kind::EQUAL)
 }
 
 // Whether a symbol is this name.
@@ -87,8 +98,8 @@ fn opened_by(depth: usize, kind: u8) -> usize
     ensures exact { result ≡ spec.opened_by depth kind }
 {
     match kind {
-        47 => depth + 1,
-        48 => depth.saturating_sub(1),
+        kind::OPEN => depth + 1,
+        kind::CLOSE => depth.saturating_sub(1),
         _ => depth,
     }
 }
@@ -104,7 +115,7 @@ fn is_parameter(letters: &[u8], heading: &[Mark]) -> bool
         if depth == 0 {
             return false;
         }
-        if depth == 1 && last == 25 && is_name(letters, mark) {
+        if depth == 1 && last == kind::PROC && is_name(letters, mark) {
             return true;
         }
         last = kind_at(Some(mark));
@@ -120,7 +131,7 @@ fn heading_of(marks: &[Mark]) -> &[Mark]
 {
     let mut rest = marks;
     while let [mark, after @ ..] = rest {
-        if kind_at(Some(mark)) == 25 {
+        if kind_at(Some(mark)) == kind::PROC {
             return after_open(after);
         }
         rest = after;
@@ -135,7 +146,7 @@ fn after_open(marks: &[Mark]) -> &[Mark]
 {
     match marks {
         [_name, second, rest @ ..] => {
-            if kind_at(Some(second)) == 47 {
+            if kind_at(Some(second)) == kind::OPEN {
                 rest
             } else {
                 &[]
@@ -156,7 +167,7 @@ fn is_in_heading(letters: &[u8], marks: &[Mark]) -> bool
 fn can_be_after(last: u8, next: u8, before: &[Mark], letters: &[u8]) -> bool
     ensures exact { result ≡ spec.can_be_after last next before.now letters.now }
 {
-    last == 46
+    last == kind::PERIOD
         || (!is_declared(last, next)
             && !is_text_of(letters, &STANDARD)
             && !is_in_heading(letters, before))
@@ -235,14 +246,14 @@ fn next_name(marks: &[Mark], line: u16, from: usize) -> Option<(u32, &[u8])>
 fn declares_after(declares: bool, kind: u8) -> bool
     ensures exact { result ≡ spec.declares_after declares kind }
 {
-    kind != 8 && (declares || is_among(kind, &DECLARATION))
+    kind != kind::BEGIN && (declares || is_among(kind, &DECLARATION))
 }
 
 // Whether a name after a symbol of this kind may be declared.
 fn may_declare(declares: bool, last: u8) -> bool
     ensures exact { result ≡ spec.may_declare declares last }
 {
-    declares && !(last == 42 || last == 33)
+    declares && !(last == kind::COLON || last == kind::EQUAL)
 }
 
 // Whether a name may be declared somewhere in these marks, which begin a text.
@@ -335,7 +346,7 @@ pub(crate) fn declared_after(marks: &[Mark], index: usize, letters: &[u8]) -> Op
     let mut depth: usize = 0;
     let mut last: u8 = 0;
     for mark in marks_from(marks, index) {
-        if depth == 0 && last == 25 && is_name(letters, mark) {
+        if depth == 0 && last == kind::PROC && is_name(letters, mark) {
             return Some(mark.line);
         }
         last = kind_at(Some(mark));

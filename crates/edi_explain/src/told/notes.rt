@@ -11,6 +11,7 @@ use crate::told::names::is_introduced;
 use crate::told::table::{ROWS, Row};
 use crate::told::words::is_text_of;
 use edi_lex::{Mark, Symbol};
+use edi_phrases::kind;
 use std::alloc::AllocError;
 
 /// What is seen at a fault: the kind of what stands there, that of the symbol before it and that of the innermost symbol that is open,
@@ -152,7 +153,7 @@ fn is_type_mark(before: Option<&Mark>) -> bool
 fn type_before(before: Option<&Mark>, seen: &Seen) -> Option<&'static str>
     ensures exact { option_map (λ text. text.now) result ≡ spec.type_before (option_copied before.entry) (seen_of seen.now) }
 {
-    if seen.found == 1 && may(&seen.may, 43) && is_type_mark(before) {
+    if seen.found == kind::NAME && may(&seen.may, kind::BECOMES) && is_type_mark(before) {
         return Some(
             "variables are declared as var x: int, before 'begin', without a semicolon after the last.",
         );
@@ -173,12 +174,7 @@ fn row_note(before: Option<&Mark>, seen: &Seen) -> &'static str
 }
 
 // The note at what stands there and what stands before it; nothing where there is none.
-fn note_of(
-    marks: &[Mark],
-    here: Option<&Mark>,
-    before: Option<&Mark>,
-    seen: &Seen,
-) -> &'static str
+fn note_of(marks: &[Mark], here: Option<&Mark>, before: Option<&Mark>, seen: &Seen) -> &'static str
     ensures exact { result.now ≡ spec.note_of marks.now (option_copied here.entry) (option_copied before.entry) (seen_of seen.now) }
 {
     if let Some(note) = mark_note(marks, here) {
