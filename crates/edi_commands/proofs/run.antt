@@ -15,6 +15,7 @@ pub mod OfFiles
 pub mod Past
 pub mod PointsRead
 pub mod Shown
+pub mod TimedDemo
 pub mod TimedEnds
 pub mod TimedExits
 pub mod TimedKept

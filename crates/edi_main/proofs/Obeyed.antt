@@ -46,6 +46,13 @@ obeyed_demo c n m o s due before after kernel is same came =
     obeyed_so c (command.Demo n o) s due before after kernel is
     (subst (λ k. Came s due (Some (words.demo k (options_of o))) before after kernel) same came)
 
+pub obeyed_timed_demo : (c : commands.Command) (n m : ℕ) (out : Bor Text) (o : Options) (s : Status) (due : Bool) (before after : Outside) (kernel : Lent)
+    → c ≡ command.TimeDemo n out o → m ≡ n → Came s due (Some (words.time_demo m out.now (options_of o))) before after kernel
+    → Came s due (Some (view c)) before after kernel
+obeyed_timed_demo c n m out o s due before after kernel is same came =
+    obeyed_so c (command.TimeDemo n out o) s due before after kernel is
+    (subst (λ k. Came s due (Some (words.time_demo k out.now (options_of o))) before after kernel) same came)
+
 -- so of a replay, which is a run
 pub obeyed_replay : (c : commands.Command) (file choices : Bor Text) (turns : ℕ) (o : Options) (s : Status) (due : Bool) (before after : Outside)
     (kernel : Lent) → c ≡ command.Replay file choices turns → options_of o ≡ replaying choices.now turns

@@ -135,6 +135,7 @@ fn perform<F: Files, D: Drive, S: Source, T: Sink, P: Sink, W: Watcher>(
         Command::Demo { n, options } => demonstrate(
             alloc,
             u32::from(n),
+            None,
             options,
             files,
             terminal,
@@ -168,6 +169,16 @@ fn perform<F: Files, D: Drive, S: Source, T: Sink, P: Sink, W: Watcher>(
         ),
         Command::TimeCode { file, out, options } => time_file(
             alloc, Code, file, out, options, files, drive, input, terminal, printer, kernel,
+        ),
+        Command::TimeDemo { n, out, options } => demonstrate(
+            alloc,
+            u32::from(n),
+            Some(out),
+            options,
+            files,
+            terminal,
+            printer,
+            kernel,
         ),
     }
 }

@@ -22,7 +22,8 @@ timeline_names out = (out ++ codes ".txt") ∷ (out ++ codes ".svg") ∷ []
 
 -- what they hold of the timeline that is told so
 abbrev pub timeline_files : (out : List ℕ) → Told → List Kept
-timeline_files out told = (out ++ codes ".txt", text_of told.count told.stints) ∷ (out ++ codes ".svg", picture_of told.count told.stints) ∷ []
+timeline_files out told =
+    (out ++ codes ".txt", text_of told.count told.ending told.stints) ∷ (out ++ codes ".svg", picture_of told.count told.ending told.stints) ∷ []
 
 -- all that is kept, in this order
 abbrev pub timed_files : (record_file : Option (List ℕ)) → Choices → (drawn : ℕ) → (out : List ℕ) → Told → List Kept

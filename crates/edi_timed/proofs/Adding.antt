@@ -11,7 +11,7 @@ use Rattle.edi_kernel.specs.declared.ends.StintEnd.TheVariants as stint_end
 use Rattle.edi_kernel.specs.declared.state.KernelState.{KernelState}
 use Rattle.edi_kernel.specs.Table.{ready_slots}
 use Rattle.edi_kernel.specs.Kernel.{ended_by, is_over}
-use Rattle.edi_timeline.specs.Stints.{arrives, waits, tries}
+use Rattle.edi_timeline.specs.Stints.{arrives, waits, tries, ending_by}
 use Rattle.edi_timeline.specs.Timelines.{Told}
 use Rattle.edi_timeline.specs.declared.entry.Came.{Came}
 use Rattle.edi_timeline.specs.declared.entry.Said.{Said}
@@ -21,7 +21,7 @@ use Rattle.edi_timed.specs.declared.seats.Seated.{Seated}
 use Rattle.edi_timed.specs.declared.leaving.Begun.{Begun}
 use Rattle.edi_timed.specs.Ran.{is_spot, place}
 use Rattle.edi_timed.specs.Seats.{Fits, Fitting, seat_at, seats_after}
-use Rattle.edi_timed.specs.Leaving.{AddsBy, arrived_at, is_fault, left_at, spot_in}
+use Rattle.edi_timed.specs.Leaving.{AddsBy, arrived_at, ending_at, is_fault, left_at, spot_in}
 use Rattle.edi_timed.proofs.Seating.{fits_after, seat_fits}
 
 -- ---- endings
@@ -64,17 +64,22 @@ module _ (words : List ℕ) (k : KernelState) (stands : Bool) (b : Begun) where
 
 pub one_counted : (t : Told) (s : Seat) (c : Came) (used : ℕ) (said : Said) → (added t s c used said).count ≡ suc t.count
 one_counted t s c used said =
-    go (nat_le 100000 t.count) (counted t) (record { stints = t.stints ++ stint_after t.stints s (end_of c) used (said_in said) ∷ []; count = suc t.count }) refl refl
+    go (nat_le 100000 t.count) (counted t (ending_by (end_of c)))
+    (record {
+      stints = t.stints ++ stint_after t.stints s (end_of c) used (said_in said) ∷ [];
+      count = suc t.count;
+      ending = ending_by (end_of c);
+    }) refl refl
   where
     go : (b : Bool) (x y : Told) → x.count ≡ suc t.count → y.count ≡ suc t.count → (if b then x else y).count ≡ suc t.count
     go true x y e f = e
     go false x y e f = f
 
 module _ (words : List ℕ) (k : KernelState) (begun : Begun) (end : StintEnd) (said : Said) (seats after : List Seated) (t later : Told) where
-  pub counts_so : nat_le 100000 t.count ≡ true → later ≡ counted t → AddsBy (nat_le 100000 t.count) words k begun end said seats seats t later
+  pub counts_so : nat_le 100000 t.count ≡ true → later ≡ counted t (ending_at end) → AddsBy (nat_le 100000 t.count) words k begun end said seats seats t later
   counts_so full e = subst (λ b. AddsBy b words k begun end said seats seats t later) (sym full) e
 
-  pub full_fits : nat_le 100000 t.count ≡ true → later ≡ counted t → Fits seats later
+  pub full_fits : nat_le 100000 t.count ≡ true → later ≡ counted t (ending_at end) → Fits seats later
   full_fits full e l = absurd (omega (arith, l, leb-true 100000 t.count full, ap (λ (z : Told). z.count) e))
 
   module _ (seated : Seated) (came : Came) (used number : ℕ) (h : Fitting seats t) (room : nat_le 100000 t.count ≡ false)

@@ -141,11 +141,11 @@ module _ (code : CodeParts) (s : State) (bound : ℕ) (first : Drawn) (old k : K
       from_is = ap (start_in w.stints) (process_is code s bound first old k x y now begun said seats after told later f Now h.machine)
 
       -- the seats after it, where it has borne nobody
-      on_plainly : Left → is_fork (left_at code.words k Seat.stands begun end) ≡ false → (let holds = h.holds in holds.naming ≡ w.naming) → SlotsStay old.table k.table →
+      on_plainly : Left → ended_by end ≡ None → is_fork (left_at code.words k Seat.stands begun end) ≡ false → (let holds = h.holds in holds.naming ≡ w.naming) → SlotsStay old.table k.table →
           Adds end → Going code s bound first next y drawn after later
-      on_plainly left plain same stays adds =
+      on_plainly left gives_way plain same stays adds =
           let holds = h.holds in
-          goes_further code s bound first old k x y now begun said seats after told later f (full - used) turns h b next drawn end left adds
+          goes_further code s bound first old k x y now begun said seats after told later f (full - used) turns h b next drawn end left gives_way adds
           (subst (AreUnborn (w.stints ++ New ∷ []) k.table) (sym same)
           (unborn_on old.table k.table w.naming w.machine (table code s bound first old k x y now begun said seats after told later f) w.stints New slot (live code s bound first old k x y now begun said seats after told later f) (process_is code s bound first old k x y now begun said seats after told later f Now h.machine) stays w.unborn))
           (λ l.
@@ -172,7 +172,7 @@ module _ (code : CodeParts) (s : State) (bound : ℕ) (first : Drawn) (old k : K
         marks_are k h.machine w.name w.others h.joined f.kernel free holds
         (failed_marks code.words b.before h.machine w.name w.others h.joined b.last (sym b.failed_is ∙ e)))
         used)
-        (arrived_plain code.words k Seat.stands begun k.arrived) g.1 g.2 adds
+        refl (arrived_plain code.words k Seat.stands begun k.arrived) g.1 g.2 adds
 
     exited_on : (used : ℕ) → full - used ≡ bound - k.used → GoesBy code.words (stint_end.Exited used) full old w.naming k y w.machine w.name w.others →
         Adds (stint_end.Exited used) → Going code s bound first next y drawn after later
@@ -182,7 +182,7 @@ module _ (code : CodeParts) (s : State) (bound : ℕ) (first : Drawn) (old k : K
         on_plainly (stint_end.Exited used) used turns h b
         (λ l.
         sym (ap (end_in code.words (attempt_fails (fetch code.words) b.before w.name (find b.before.activities w.name)) (start_in w.stints w.name) w.begun h.machine) g.0.1))
-        refl g.1 g.2 adds
+        refl refl g.1 g.2 adds
 
     forked_on : (used : ℕ) → full - used ≡ bound - k.used → GoesBy code.words (stint_end.Forked used) full old w.naming k y w.machine w.name w.others →
         Adds (stint_end.Forked used) → Going code s bound first next y drawn after later
@@ -204,7 +204,7 @@ module _ (code : CodeParts) (s : State) (bound : ℕ) (first : Drawn) (old k : K
         (attempt_fails (fetch code.words) b.before w.name (find b.before.activities w.name)) b.failed_is (sits code s bound first old k x y now begun said seats after told later f l).stands (stood_is code s bound first old k x y now begun said seats after told later f) holds.naming slot
         (length (ready_slots old.table)) fork.number used holds.stands (grow.lives slot (live code s bound first old k x y now begun said seats after told later f)) (grow.names slot (live code s bound first old k x y now begun said seats after told later f) ∙ sym (name_is code s bound first old k x y now begun said seats after told later f))
         (subst (λ i. (process_at k.table i).standing ≡ standing.Waiting fork.number) one grow.waits) f.begins.others more) in
-        goes_further code s bound first old k x y now begun said seats after told later f (full - used) turns h b next drawn (stint_end.Forked used) left adds
+        goes_further code s bound first old k x y now begun said seats after told later f (full - used) turns h b next drawn (stint_end.Forked used) left refl adds
         (unborn_forked old.table k.table w.naming w.machine (table code s bound first old k x y now begun said seats after told later f) w.stints stint slot (live code s bound first old k x y now begun said seats after told later f) (process_is code s bound first old k x y now begun said seats after told later f (Now (stint_end.Forked used) used turns h b) h.machine) holds.naming fork.fork
         fork.number old.taken f.begins.taken grow w.unborn)
         (λ l.

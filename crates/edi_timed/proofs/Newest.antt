@@ -5,11 +5,12 @@ use Rattle.std.specs.Prelude.{slice_get}
 use Rattle.std.proofs.lemmas.List.{map-append}
 use Rattle.edi_calls.specs.Names.{Name, same}
 use Rattle.edi_calls.proofs.Tables.{same-refl}
-use Rattle.edi_timeline.specs.Stints.{Stint}
+use Rattle.edi_timeline.specs.Stints.{Stint, ending_by, ending_of}
 use Rattle.edi_timeline.specs.Text.{most_lines, kept}
 use Rattle.edi_timeline.specs.Timelines.{told_of}
 use Rattle.edi_timeline.specs.Adding.{nth_stint, used_by}
 use Rattle.edi_timeline.proofs.Counting.{taken_whole}
+use Rattle.edi_timeline.proofs.Telling.{last_tells}
 use Rattle.edi_timed.specs.Ran.{or_else, newest_of}
 
 -- ---- by their numbers
@@ -56,7 +57,7 @@ newest_other xs x p is = newest_more xs x p ∙ ap (λ b. if b then Some x else 
 
 -- what is told of a last stint is what is kept of it
 pub told_last : (xs : List Stint) (x y : Stint) → length xs < 100000 → kept x ≡ kept y → told_of (xs ++ x ∷ []) ≡ told_of (xs ++ y ∷ [])
-told_last xs x y l e = (λ i. record { stints = same i; count = count i })
+told_last xs x y l e = (λ i. record { stints = same i; count = count i; ending = how i })
   where
     whole : (z : Stint) → map kept (take most_lines (xs ++ z ∷ [])) ≡ map kept xs ++ kept z ∷ []
     whole z = ap (map kept) (taken_whole most_lines (xs ++ z ∷ []) (omega (arith, l, one_longer xs z))) ∙ map-append kept xs (z ∷ [])
@@ -66,3 +67,6 @@ told_last xs x y l e = (λ i. record { stints = same i; count = count i })
 
     count : length (xs ++ x ∷ []) ≡ length (xs ++ y ∷ [])
     count = one_longer xs x ∙ sym (one_longer xs y)
+
+    how : ending_of (xs ++ x ∷ []) ≡ ending_of (xs ++ y ∷ [])
+    how = last_tells xs x ∙ ap (λ (z : Stint). ending_by z.end) e ∙ sym (last_tells xs y)

@@ -1,6 +1,6 @@
 -- A round of a timed run: the stint that the timeline gets is the one that has ended on the machine.
 use Rattle.std.proofs.Common.{◌≡◌, ◌≤◌, ◌<◌, ℕ, suc, ◌-◌, Bool, true, false, nat_le, if◌then◌else◌, List, [], ◌∷◌, ◌++◌, length, take, drop}
-use Rattle.std.proofs.Common.{Some, None, inl, inr, refl, ap, sym, ◌∙◌, subst, arith, append-nil}
+use Rattle.std.proofs.Common.{Option, Some, None, inl, inr, refl, ap, sym, ◌∙◌, subst, arith, append-nil}
 use Rattle.std.specs.Prelude.{nat_lt, ◌&&◌, not}
 use Rattle.std.specs.Option.{option_map}
 use Rattle.std.proofs.lemmas.Bool.{cases_eq, leb-true, leb-false, ne_eqb}
@@ -12,6 +12,7 @@ use Rattle.edi_calls.specs.State.{State}
 use Rattle.edi_target.specs.Attempts.{attempt_fails}
 use Rattle.edi_target.specs.Check.{CodeParts}
 use Rattle.edi_target.specs.Fetch.{fetch}
+use Rattle.edi_target.specs.Mach as mach
 use Rattle.edi_target.specs.Mach.{Activity, Machine}
 use Rattle.edi_trace.specs.Drawn.{Drawn}
 use Rattle.edi_ring.specs.Lists.{home_of}
@@ -25,13 +26,13 @@ use Rattle.edi_kernel.specs.declared.table.Standing.{Standing}
 use Rattle.edi_kernel.specs.declared.table.Standing.TheVariants as standing
 use Rattle.edi_kernel.specs.Table.{is_free_home, is_live, process_at, ready_slots}
 use Rattle.edi_kernel.specs.TableIsMachine.{IsTaken, Naming, TableIsMachine, entry_of, standing_of}
-use Rattle.edi_kernel.specs.Kernel.{IsKernel, IsTakenIn, EndsAs, EndsRun, BreaksOff, Switches, GoesTo}
+use Rattle.edi_kernel.specs.Kernel.{IsKernel, IsTakenIn, EndsAs, EndsRun, BreaksOff, Switches, GoesTo, ended_by}
 use Rattle.edi_kernel.specs.Named.{ChoosesBy, EndsBy, SlotsStay}
 use Rattle.edi_kernel.specs.Moments.{moment_at}
 use Rattle.edi_kernel.specs.Runs.{Chooses, IsAtBy, RunsAs, TakesNext}
 use Rattle.edi_kernel.proofs.Lists.{live_of_home}
 use Rattle.edi_kernel.proofs.Slots.{listed, listed_below}
-use Rattle.edi_timeline.specs.Stints.{Stint, End, over}
+use Rattle.edi_timeline.specs.Stints.{Stint, Start, End, arrives, waits, tries, over, ending_by}
 use Rattle.edi_timeline.specs.Text.{kept}
 use Rattle.edi_timeline.specs.Told.{meant}
 use Rattle.edi_timeline.specs.Timelines.{Told, told_of}
@@ -41,9 +42,9 @@ use Rattle.edi_timeline.proofs.Telling.{told_adds, told_counts}
 use Rattle.edi_timed.specs.declared.seats.Seated.{Seated}
 use Rattle.edi_timed.specs.declared.leaving.Begun.{Begun}
 use Rattle.edi_timed.specs.Hearing.{HasShown}
-use Rattle.edi_timed.specs.Ran.{closed, end_in, opened, spot_as, spot_of, start_in, with_closed}
+use Rattle.edi_timed.specs.Ran.{Open, closed, end_in, is_marked, is_spot, left_as, opened, place, spot_as, spot_of, start_in, with_closed}
 use Rattle.edi_timed.specs.Seats.{Fits, seat_at}
-use Rattle.edi_timed.specs.Leaving.{AddsBy, AddsStint, Begins, left_at, spot_by, spot_in}
+use Rattle.edi_timed.specs.Leaving.{AddsBy, AddsStint, Begins, ending_at, left_at, spot_by, spot_in}
 use Rattle.edi_timed.specs.Timed.{HasStints, Timed}
 use Rattle.edi_timed.specs.Underway.{AreSeated, AreUnborn, Going, Sits}
 use Rattle.edi_timed.proofs.Along.{goes_on, ends_unready, ends_here, breaks_here}
@@ -65,6 +66,23 @@ meant_is outcome.standstill ending.Standstill h = refl
 meant_is outcome.standstill e h = absurd h
 meant_is (outcome.bad address) (ending.Bad at) h = ap outcome.bad h
 meant_is (outcome.bad address) e h = absurd h
+
+-- ---- a stint that gives way has not ended the run
+
+arrival_goes : (a b : Bool) (lines : List ℕ) → ending_by (if a then (if b then waits else tries) else arrives lines) ≡ None
+arrival_goes true true lines = refl
+arrival_goes true false lines = refl
+arrival_goes false b lines = refl
+
+end_goes : (words : List ℕ) (failed : Bool) (from : Start) (b : Open) (m : Machine) (o : Option Activity) → ending_by (end_in words failed from b m o) ≡ None
+end_goes words failed from b m None = refl
+end_goes words failed from b m (Some a) = by_standing a.standing
+  where
+    by_standing : (z : mach.Standing) → ending_by (left_as words failed from b m a z) ≡ None
+    by_standing mach.at_when =
+        arrival_goes (failed && (is_at from && is_spot b.stood a.base a.pc)) (is_marked m.marks) (place words m.memory a.first a.base a.pc)
+    by_standing (mach.waiting n) = refl
+    by_standing mach.ready = refl
 
 -- ---- where a process stood
 
@@ -179,8 +197,8 @@ module _ (code : CodeParts) (s : State) (bound : ℕ) (first : Drawn) (old k : K
       behind [] (c ∷ rest) = refl
       behind (c ∷ front) rest = behind front rest
 
-  module _ (e : End) (t : Machine) (end : StintEnd) (left : length xs < 100000 → left_at code.words k Own.stands begun end ≡ e) (system : t.system ≡ y)
-      (turns : t.turns ≡ bound - k.used) where
+  module _ (e : End) (t : Machine) (end : StintEnd) (left : length xs < 100000 → left_at code.words k Own.stands begun end ≡ e)
+      (how : ending_at end ≡ ending_by e) (system : t.system ≡ y) (turns : t.turns ≡ bound - k.used) where
     kept_is : length xs < 100000 → HasShown f.start said x y → (a : AddsStint code.words k begun end said seats after told later) →
         kept (stint_after xs Own.seat (end_of a.came) k.used (said_in said)) ≡ kept (Closed e t)
     kept_is l heard a =
@@ -200,7 +218,8 @@ module _ (code : CodeParts) (s : State) (bound : ℕ) (first : Drawn) (old k : K
     told_now adds = go (nat_le 100000 told.count) refl adds.0
       where
         go : (full : Bool) → nat_le 100000 told.count ≡ full → AddsBy full code.words k begun end said seats after told later → later ≡ told_of (All e t)
-        go true is a = a ∙ ap counted w.told_is ∙ told_counts xs (Closed e t) (omega (arith, leb-true 100000 told.count is, count_is))
+        go true is a =
+            a ∙ (λ i. counted (w.told_is i) (how i)) ∙ told_counts xs (Closed e t) (omega (arith, leb-true 100000 told.count is, count_is))
         go false is a =
             let l : length xs < 100000 = omega (arith, leb-false 100000 told.count is, count_is) in
             let seat_is : later ≡ added (told_of xs) Own.seat a.came k.used said = a.told ∙ ap (λ o. added o Own.seat a.came k.used said) w.told_is in
@@ -235,7 +254,8 @@ module _ (code : CodeParts) (s : State) (bound : ℕ) (first : Drawn) (old k : K
     told_over : (e : Ending) (used : ℕ) → (h : EndsRun code.words left e k y m p w.others) →
         AddsHeard (stint_end.Over used e) → later ≡ told_of (All (over h.end) h.machine)
     told_over e used h adds =
-        told_now (over h.end) h.machine (stint_end.Over used e) (λ l. ap over (meant_is h.end e h.same)) h.system (h.turns ∙ turns) adds
+        told_now (over h.end) h.machine (stint_end.Over used e) (λ l. ap over (meant_is h.end e h.same)) (ap Some (meant_is h.end e h.same))
+        h.system (h.turns ∙ turns) adds
 
     breaks : BreaksOff code.words left y m p w.others → Timed code s bound first ending.Fault k y now later
     breaks h =
@@ -296,7 +316,7 @@ module _ (code : CodeParts) (s : State) (bound : ℕ) (first : Drawn) (old k : K
         let r = ends_unready code first.source bound s first.drawn b.steps m b.before h.machine p w.others h.joined now.drawn w.begun xs w.underway b.reached
         b.last nobody_ready in
         let told_is : later ≡ told_of (All (over outcome.standstill) h.machine) =
-        told_now (over outcome.standstill) h.machine (stint_end.Over used ending.Standstill) (λ l. refl) h.system (h.turns ∙ turns) adds in
+        told_now (over outcome.standstill) h.machine (stint_end.Over used ending.Standstill) (λ l. refl) refl h.system (h.turns ∙ turns) adds in
         record {
           ran = record {
             machine = h.machine;
@@ -322,12 +342,12 @@ module _ (code : CodeParts) (s : State) (bound : ℕ) (first : Drawn) (old k : K
 
     -- and else the next goes on
     pub goes_further : (next : KernelState) (drawn : Drawn) (end : StintEnd) → (length xs < 100000 → left_at code.words k Own.stands begun end ≡ End_now) →
-        AddsHeard end →
+        ended_by end ≡ None → AddsHeard end →
         (let holds = h.holds in AreUnborn (xs ++ Closed End_now h.machine ∷ []) k.table holds.naming) →
         (length xs < 100000 → let holds = h.holds in AreSeated (xs ++ Closed End_now h.machine ∷ []) k.table holds.naming after) →
         (let holds = h.holds in ChoosesBy holds.naming next h.machine now drawn (w.others ++ h.joined)) → SlotsStay k.table next.table →
         next.used ≡ k.used → next.entering ≡ false → Going code s bound first next y drawn after later
-    goes_further next drawn end left_is adds unborn seated chooses stay used entering =
+    goes_further next drawn end left_is gives_way adds unborn seated chooses stay used entering =
         let holds = h.holds in
         let c : Chooses next h.machine now drawn (w.others ++ h.joined) = chooses.0 in
         let ys : List Stint = All End_now h.machine in
@@ -353,5 +373,9 @@ module _ (code : CodeParts) (s : State) (bound : ℕ) (first : Drawn) (old k : K
           used = used_more 0 xs (Closed End_now h.machine) ∙ omega (arith, h.turns, turns, used, f.small);
           unborn = λ i l. unborn i (stay i l);
           seated = λ l i live_i. seated (omega (arith, l, one_longer xs (Closed End_now h.machine))) i (stay i live_i);
-          told_is = told_now End_now h.machine end left_is h.system (h.turns ∙ turns) adds;
+          told_is =
+              told_now End_now h.machine end left_is
+              (ap (option_map meant) gives_way
+              ∙ sym (end_goes code.words fails (start_in xs p) w.begun h.machine (find h.machine.activities p)))
+              h.system (h.turns ∙ turns) adds;
         }

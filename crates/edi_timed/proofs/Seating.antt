@@ -7,7 +7,7 @@ use Rattle.std.proofs.lemmas.Bool.Decides.{nat_tests}
 use Rattle.edi_timeline.specs.declared.entry.Came.{Came}
 use Rattle.edi_timeline.specs.declared.entry.Came.TheVariants as came
 use Rattle.edi_timeline.specs.declared.entry.Said.{Said}
-use Rattle.edi_timeline.specs.Stints.{Stint}
+use Rattle.edi_timeline.specs.Stints.{Stint, ending_by}
 use Rattle.edi_timeline.specs.Timelines.{Told}
 use Rattle.edi_timeline.specs.Adding.{SeatFits, added, bears, counted, end_of, ends_run, has_failed, is_at, nth_stint, said_in, start_after, stint_after}
 use Rattle.edi_timeline.proofs.Telling.{goes_more}
@@ -113,10 +113,10 @@ module _ (seats : List Seated) (t : Told) (c : Came) (used : ℕ) (said : Said) 
   New = stint_after t.stints Own.seat (end_of c) used (said_in said)
 
   abbrev After : Told
-  After = record { stints = t.stints ++ New ∷ []; count = suc t.count }
+  After = record { stints = t.stints ++ New ∷ []; count = suc t.count; ending = ending_by (end_of c) }
 
   after_is : After ≡ added t Own.seat c used said
-  after_is = sym (ap (λ b. if b then counted t else After) room)
+  after_is = sym (ap (λ b. if b then counted t (ending_by (end_of c)) else After) room)
 
   stays_fit : (s : Seated) → FitsSeat t s → FitsSeat After s
   stays_fit s f = record {

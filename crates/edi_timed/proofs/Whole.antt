@@ -197,7 +197,7 @@ module _ (code : CodeParts) (bound : ℕ) (first : Drawn) (seats : List Seated) 
   abbrev pub EndedSo : Ending → KernelState → Drawn → Told → State → State → Type 0
   EndedSo e k now t s x = Timed code s bound first e k x now t
 
-  module _ (k : KernelState) (started : Started code k) (o : Option State) (none : told ≡ record { stints = []; count = 0 }) where
+  module _ (k : KernelState) (started : Started code k) (o : Option State) (none : told ≡ record { stints = []; count = 0; ending = None }) where
     pub timed_first : 0 < bound → seats ≡ replicate 32 first_seated → WhereTold o o (GoingOn k first seats told)
     timed_first some all = where_same o (GoingOn k first seats told) begin
       where
@@ -315,7 +315,7 @@ module _ (code : CodeParts) (bound : ℕ) (first : Drawn) (seats : List Seated) 
 
 -- at the start the seats fit a timeline that tells nothing
 abbrev Nothing : Told
-Nothing = record { stints = []; count = 0 }
+Nothing = record { stints = []; count = 0; ending = None }
 
 first_fit : FitsSeat Nothing first_seated
 first_fit = record { born = omega arith; forked = refl; before = omega arith; stood = refl; forks = omega arith }
@@ -328,5 +328,5 @@ begins_so = record {
   each = λ slot. subst (FitsSeat Nothing) (sym (same_everywhere 32 slot first_seated)) first_fit;
 }
 
-pub first_fits : (seats : List Seated) (told : Told) → seats ≡ replicate 32 first_seated → told ≡ record { stints = []; count = 0 } → Fits seats told
+pub first_fits : (seats : List Seated) (told : Told) → seats ≡ replicate 32 first_seated → told ≡ record { stints = []; count = 0; ending = None } → Fits seats told
 first_fits seats told all none = subst (Fits seats) (sym none) (subst (λ ss. Fits ss Nothing) (sym all) (λ few. begins_so))

@@ -1,5 +1,7 @@
 -- Helper. How a stint has ended, by what the kernel keeps after it.
 use Rattle.std.specs.Prelude.{◌≡◌, ◌<◌, ℕ, suc, ◌-◌, Bool, true, false, ◌&&◌, ◌==◌, nat_lt, if◌then◌else◌, List, [], length, drop, Option, Some, None}
+use Rattle.std.specs.Option.{option_map}
+use Rattle.edi_calls.specs.Outcome as outcome
 use Rattle.edi_kernel.specs.declared.ends.Ending.{Ending}
 use Rattle.edi_kernel.specs.declared.ends.Ending.TheVariants as ending
 use Rattle.edi_kernel.specs.declared.ends.StintEnd.{StintEnd}
@@ -9,6 +11,7 @@ use Rattle.edi_kernel.specs.declared.table.Process.{Process}
 use Rattle.edi_kernel.specs.declared.table.Standing.{Standing}
 use Rattle.edi_kernel.specs.declared.table.Standing.TheVariants as standing
 use Rattle.edi_kernel.specs.Table.{process_at, ready_slots}
+use Rattle.edi_kernel.specs.Kernel.{ended_by}
 use Rattle.edi_machine.specs.declared.activity.Activity.{Activity}
 use Rattle.edi_timeline.specs.Stints.{End, arrives, waits, tries, forks, ends, over}
 use Rattle.edi_timeline.specs.Told.{meant}
@@ -71,6 +74,10 @@ is_fault ended = false
 
 -- ---- what is told of it
 
+-- how the run has ended by it, if it has
+abbrev pub ending_at : StintEnd → Option outcome.Ending
+ending_at end = option_map meant (ended_by end)
+
 -- what a stint of this end adds, where there is room for it
 pub record AddsStint (words : List ℕ) (k : KernelState) (b : Begun) (end : StintEnd) (said : Said) (old new : List Seated) (before after : Told) : Type 0 where
   pub came : Came
@@ -80,5 +87,5 @@ pub record AddsStint (words : List ℕ) (k : KernelState) (b : Begun) (end : Sti
   pub seats : new ≡ seats_after came (suc before.count) b.slot (drop b.others (ready_slots k.table)) old
 
 abbrev pub AddsBy : (is_full : Bool) → List ℕ → KernelState → Begun → StintEnd → Said → (old new : List Seated) → (before after : Told) → Type 0
-AddsBy true words k b end said old new before after = after ≡ counted before
+AddsBy true words k b end said old new before after = after ≡ counted before (ending_at end)
 AddsBy false words k b end said old new before after = AddsStint words k b end said old new before after

@@ -26,7 +26,7 @@ pub(crate) fn timed_lent<C: Calls>(
     timeline: &mut Timeline,
 ) -> Ending
     requires working { C.failed calls.old None }
-    requires empty { timeline.old ≡ record { stints = []; count = 0 } }
+    requires empty { timeline.old ≡ record { stints = []; count = 0; ending = None } }
     ensures exact { choices.old.drawn + bound < 2 ^ 64 → WhereTold (C.state calls.old) (C.state calls.new) (λ s t.
         Timed code.now s bound choices.old result kernel.new t choices.new timeline.new) }
     ensures asked { choices.old.drawn + bound < 2 ^ 64 → WhereTold (C.state calls.old) (C.state calls.new) (λ s t.

@@ -83,7 +83,7 @@ fn add_stint(
     ensures count { timeline.new.count ≡ timeline.old.count + 1 }
 {
     if timeline.is_full() {
-        timeline.skip();
+        timeline.skip(ended_by(end));
         return;
     }
     let seated = seats.at(begun.slot);
@@ -190,7 +190,7 @@ pub fn timed<C: Calls>(
     timeline: &mut Timeline,
 ) -> Ending
     requires working { C.failed calls.old.calls.now None }
-    requires empty { timeline.old ≡ record { stints = []; count = 0 } }
+    requires empty { timeline.old ≡ record { stints = []; count = 0; ending = None } }
     ensures exact { choices.old.drawn + bound < 2 ^ 64 → WhereTold (C.state calls.old.calls.now) (C.state calls.new.calls.now) (λ s t.
         Timed code.now s bound choices.old result kernel.new t choices.new timeline.new) }
     // The system call that failed uses the object that has failed.

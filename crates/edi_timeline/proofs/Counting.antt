@@ -1,6 +1,7 @@
 -- The lines of rows, one after another, and that there are as many stints as rows.
 use Rattle.std.proofs.Common.{◌≡◌, ◌≤◌, ◌<◌, ◌+◌, ℕ, zero, suc, List, [], ◌∷◌, ◌++◌, length, refl, ap, sym, ◌∙◌, arith, append_assoc, append-nil}
-use Rattle.std.specs.Prelude.{codes, take, drop, slice_index_or}
+use Rattle.std.specs.Prelude.{codes, take, drop, slice_index_or, Option}
+use Rattle.edi_calls.specs.Outcome as outcome
 use Rattle.edi_kernel.specs.declared.ends.Ending.{Ending}
 use Rattle.edi_timeline.specs.declared.rows.Row.{Row}
 use Rattle.edi_timeline.specs.Text.{stint_text, lines_text, most_lines, cut_text, text_of}
@@ -40,15 +41,16 @@ taken_whole (suc n) [] l = refl
 taken_whole (suc n) (x ∷ xs) l = ap (λ ys. x ∷ ys) (taken_whole n xs (omega (arith, l)))
 
 -- the same, as the loop over rows counts
-pub line_on : (e : Ending) (rows : List Row) (used number k : ℕ) (d : Row) (out put now : List ℕ) → k < length rows →
-    put ≡ out ++ stint_text (number + 1) (stint_in e rows (suc used) (slice_index_or rows k d)) → now ≡ put ++ codes "\n" →
+pub line_on : (e : Ending) (rows : List Row) (used number k : ℕ) (d : Row) (out now : List ℕ) → k < length rows →
+    now ≡ out ++ (stint_text (number + 1) (stint_in e rows (suc used) (slice_index_or rows k d)) ++ codes "\n") →
     now ++ lines_text (suc (number + 1)) (stints_in e rows (slice_index_or rows k d).used (drop (k + 1) rows))
     ≡ out ++ lines_text (suc number) (stints_in e rows used (drop k rows))
-line_on e rows used number k d out put now l f g =
+line_on e rows used number k d out now l f =
+    let line : List ℕ = stint_text (number + 1) (stint_in e rows (suc used) (slice_index_or rows k d)) in
     let next : k + 1 ≡ suc k = omega arith in
     let one : number + 1 ≡ suc number = omega arith in
     ap (λ j. now ++ lines_text (suc (number + 1)) (stints_in e rows (slice_index_or rows k d).used (drop j rows))) next
-    ∙ line_more e rows used (number + 1) rows k d out put now l f g
+    ∙ line_more e rows used (number + 1) rows k d out (out ++ line) now l refl (f ∙ sym (append_assoc out line (codes "\n")))
     ∙ ap (λ n. out ++ lines_text n (stints_in e rows used (drop k rows))) one
 
 dropped : {A : Type 0} (n : ℕ) (xs : List A) → length xs ≤ n → drop n xs ≡ []
@@ -66,9 +68,9 @@ all_lines e rows used number k out l is =
     ∙ is
 
 -- the lines are those of the text, where there are no more of them than it may have
-pub whole_lines : (e : Ending) (rows : List Row) (count : ℕ) (lines out : List ℕ) → length rows ≤ most_lines → lines ≡ lines_text 1 (stints_in e rows 0 rows) →
-    out ≡ lines ++ cut_text count → out ≡ text_of count (stints_in e rows 0 rows)
-whole_lines e rows count lines out few is more =
+pub whole_lines : (e : Ending) (rows : List Row) (count : ℕ) (how : Option outcome.Ending) (lines out : List ℕ) → length rows ≤ most_lines →
+    lines ≡ lines_text 1 (stints_in e rows 0 rows) → out ≡ lines ++ cut_text count how → out ≡ text_of count how (stints_in e rows 0 rows)
+whole_lines e rows count how lines out few is more =
     more
-    ∙ ap (λ l. l ++ cut_text count)
+    ∙ ap (λ l. l ++ cut_text count how)
     (is ∙ ap (lines_text 1) (sym (taken_whole most_lines (stints_in e rows 0 rows) (omega (arith, few, as_many e rows 0 rows)))))

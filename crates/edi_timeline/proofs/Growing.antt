@@ -1,9 +1,10 @@
 -- A row more for a stint that is handed in: it stands for the stint that comes after those of the rows before.
 use Rattle.std.proofs.Common.{◌≡◌, ◌≤◌, ◌<◌, ℕ, zero, suc, ◌+◌, ◌-◌, ◌&&◌, not, Bool, true, false, if◌then◌else◌, List, [], ◌∷◌, ◌++◌, refl, ap, sym, ◌∙◌, subst}
-use Rattle.std.proofs.Common.{arith, length, Some, None, nat_le}
+use Rattle.std.proofs.Common.{arith, length, Option, Some, None, nat_le, option_map}
 use Rattle.std.specs.Prelude.{slice_get, take}
 use Rattle.std.proofs.lemmas.Bool.{and_parts}
 use Rattle.edi_calls.specs.Names.{Name}
+use Rattle.edi_calls.specs.Outcome as outcome
 use Rattle.edi_kernel.specs.declared.ends.Ending.{Ending}
 use Rattle.edi_timeline.specs.declared.rows.Row.{Row}
 use Rattle.edi_timeline.specs.declared.rows.Kind.{Kind}
@@ -12,11 +13,11 @@ use Rattle.edi_timeline.specs.declared.entry.Seat.{Seat}
 use Rattle.edi_timeline.specs.declared.entry.Said.{Said}
 use Rattle.edi_timeline.specs.declared.entry.Came.{Came}
 use Rattle.edi_timeline.specs.declared.entry.Came.TheVariants as came
-use Rattle.edi_timeline.specs.Stints.{Start, End, at, Stint}
-use Rattle.edi_timeline.specs.Told.{process_in, numbered, row_at, place_of, said_of, start_behind, start_in, end_as, stint_in, stints_in, AreRows}
+use Rattle.edi_timeline.specs.Stints.{Start, End, at, Stint, ending_by}
+use Rattle.edi_timeline.specs.Told.{process_in, numbered, row_at, place_of, said_of, start_behind, start_in, end_as, stint_in, stints_in, AreRows, ending_in, meant}
 use Rattle.edi_timeline.specs.Timelines.{Told, is_failed}
 use Rattle.edi_timeline.specs.Adding.{said_in, end_of, nth_stint, start_by, start_after, process_after, used_by, stint_after, added, counted, ends_run, is_going, SeatFits}
-use Rattle.edi_timeline.specs.Entered.{kind_of, row_for, ending_with}
+use Rattle.edi_timeline.specs.Entered.{kind_of, row_for, ended_with}
 use Rattle.edi_timeline.proofs.Counting.{as_many}
 use Rattle.edi_timeline.proofs.Processes.{process_first, process_more}
 use Rattle.edi_timeline.proofs.Rowed.{number_of, born_within, before_within, start_none, start_more, same_process, same_start, same_stints}
@@ -113,13 +114,21 @@ module _ (e : Ending) (rows : List Row) where
 -- ---- the stint of the new row
 
 end_is : (e : Ending) (rows : List Row) (s : Seat) (c : Came) (used : ℕ) (said : Said) →
-    end_as (ending_with c e) (row_for rows s c used said) (kind_of c) ≡ end_of c
+    end_as (ending_in (ended_with c)) (row_for rows s c used said) (kind_of c) ≡ end_of c
 end_is e rows s (came.Arrived p) used said = refl
 end_is e rows s came.Waited used said = refl
 end_is e rows s came.Tried used said = refl
 end_is e rows s (came.Forked n) used said = refl
 end_is e rows s came.Ended used said = refl
 end_is e rows s (came.Over f) used said = refl
+
+meant_is : (c : Came) → option_map meant (ended_with c) ≡ ending_by (end_of c)
+meant_is (came.Arrived p) = refl
+meant_is came.Waited = refl
+meant_is came.Tried = refl
+meant_is (came.Forked n) = refl
+meant_is came.Ended = refl
+meant_is (came.Over f) = refl
 
 module _ (e : Ending) (rows : List Row) (are : AreRows rows)
     (stood : (n : ℕ) → is_failed (numbered rows n).kind ≡ true → start_in rows (numbered rows n) ≡ at (place_of (numbered rows n)))
@@ -140,7 +149,7 @@ module _ (e : Ending) (rows : List Row) (are : AreRows rows)
   with_parts process from end =
       record { process = process; first = suc (used_by 0 Old); last = used; from = from; end = end; shown = said_in said }
 
-  new_stint : stint_in (ending_with c e) (rows ++ New ∷ []) (suc (used_by 0 Old)) New ≡ stint_after Old s (end_of c) used (said_in said)
+  new_stint : stint_in (ending_in (ended_with c)) (rows ++ New ∷ []) (suc (used_by 0 Old)) New ≡ stint_after Old s (end_of c) used (said_in said)
   new_stint =
       (λ i.
       with_parts
@@ -149,9 +158,9 @@ module _ (e : Ending) (rows : List Row) (are : AreRows rows)
       (end_is e rows s c used said i))
 
   new_stints : is_going Old ≡ true →
-      stints_in (ending_with c e) (rows ++ New ∷ []) 0 (rows ++ New ∷ []) ≡ Old ++ stint_after Old s (end_of c) used (said_in said) ∷ []
+      stints_in (ending_in (ended_with c)) (rows ++ New ∷ []) 0 (rows ++ New ∷ []) ≡ Old ++ stint_after Old s (end_of c) used (said_in said) ∷ []
   new_stints going =
-      let f : Ending = ending_with c e in
+      let f : Ending = ending_in (ended_with c) in
       let all : List Row = rows ++ New ∷ [] in
       let same : stints_in f all 0 rows ≡ Old =
       same_stints rows New are.born f 0 rows (born_within rows are.born) (before_within rows are.before) ∙ going_stints e f rows 0 rows going in
@@ -159,22 +168,31 @@ module _ (e : Ending) (rows : List Row) (are : AreRows rows)
       ∙ ap (λ xs. xs ++ stint_in f all (suc (used_by 0 xs)) New ∷ []) same
       ∙ ap (λ x. Old ++ x ∷ []) new_stint
 
-  abbrev told : List Stint → ℕ → Told
-  told xs n = record { stints = xs; count = n }
+  abbrev told : List Stint → ℕ → Option outcome.Ending → Told
+  told xs n how = record { stints = xs; count = n; ending = how }
 
   -- the timeline that has the row tells the stint
-  pub grows : (count next : ℕ) (now : List Row) (r : Row) (f : Ending) → is_going Old ≡ true → nat_le 100000 count ≡ false → r ≡ New → now ≡ rows ++ r ∷ [] →
-      f ≡ ending_with c e → next ≡ count + 1 → told (stints_in f now 0 now) next ≡ added (told Old count) s c used said
-  grows count next now r f going room r_is now_is f_is next_is =
+  pub grows : (count next : ℕ) (how : Option outcome.Ending) (now : List Row) (r : Row) (f : Option Ending) → is_going Old ≡ true →
+      nat_le 100000 count ≡ false → r ≡ New → now ≡ rows ++ r ∷ [] → f ≡ ended_with c → next ≡ count + 1 →
+      told (stints_in (ending_in f) now 0 now) next (option_map meant f) ≡ added (told Old count how) s c used said
+  grows count next how now r f going room r_is now_is f_is next_is =
       let all : now ≡ rows ++ New ∷ [] = now_is ∙ ap (λ x. rows ++ x ∷ []) r_is in
       let one : next ≡ suc count = omega (arith, next_is) in
-      (λ i. told (stints_in (f_is i) (all i) 0 (all i)) (one i))
-      ∙ ap (λ xs. told xs (suc count)) (new_stints going)
-      ∙ sym (ap (λ b. if b then told Old (suc count) else told (Old ++ stint_after Old s (end_of c) used (said_in said) ∷ []) (suc count)) room)
+      (λ i. told (stints_in (ending_in (f_is i)) (all i) 0 (all i)) (one i) (option_map meant (f_is i)))
+      ∙ (λ i. told (new_stints going i) (suc count) (meant_is c i))
+      ∙ sym (ap (λ b. if b then told Old (suc count) (ending_by (end_of c))
+      else told (Old ++ stint_after Old s (end_of c) used (said_in said) ∷ []) (suc count) (ending_by (end_of c))) room)
 
 -- the timeline that has no room for it only counts it
-pub added_full : (t : Told) (s : Seat) (c : Came) (used : ℕ) (said : Said) → nat_le 100000 t.count ≡ true → counted t ≡ added t s c used said
-added_full t s c used said full =
-    sym
-    (ap (λ b. if b then counted t
-    else record { stints = t.stints ++ stint_after t.stints s (end_of c) used (said_in said) ∷ []; count = suc t.count }) full)
+pub added_full : (t : Told) (s : Seat) (c : Came) (used : ℕ) (said : Said) (f : Option Ending) → f ≡ ended_with c → nat_le 100000 t.count ≡ true →
+    counted t (option_map meant f) ≡ added t s c used said
+added_full t s c used said f is full =
+    ap (λ o. counted t (option_map meant o)) is
+    ∙ ap (counted t) (meant_is c)
+    ∙ sym
+    (ap (λ b. if b then counted t (ending_by (end_of c))
+    else record {
+      stints = t.stints ++ stint_after t.stints s (end_of c) used (said_in said) ∷ [];
+      count = suc t.count;
+      ending = ending_by (end_of c);
+    }) full)

@@ -9,3 +9,4 @@ pub mod Rowed
 pub mod Growing
 pub mod Keeping
 pub mod Telling
+pub mod Written

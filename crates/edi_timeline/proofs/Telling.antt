@@ -5,10 +5,11 @@ use Rattle.std.specs.Prelude.{slice_get, take}
 use Rattle.std.proofs.lemmas.Bool.{and_parts, and_from, leb-true, false_from_ne_true}
 use Rattle.std.proofs.lemmas.List.{map-append, length-map}
 use Rattle.edi_calls.specs.Names.{Name}
+use Rattle.edi_calls.specs.Outcome.{Ending}
 use Rattle.edi_timeline.specs.declared.entry.Seat.{Seat}
 use Rattle.edi_timeline.specs.declared.entry.Said.{Said}
 use Rattle.edi_timeline.specs.declared.entry.Came.{Came}
-use Rattle.edi_timeline.specs.Stints.{Start, End, Stint}
+use Rattle.edi_timeline.specs.Stints.{Start, End, Stint, ending_by, ending_of}
 use Rattle.edi_timeline.specs.Text.{most_lines, kept}
 use Rattle.edi_timeline.specs.Timelines.{Told, told_of}
 use Rattle.edi_timeline.specs.Adding.{said_in, end_of, nth_stint, start_after, process_after, used_by, stint_after, added, counted, ends_run, is_going, bears, is_at, SeatFits}
@@ -66,15 +67,21 @@ within zero (x ∷ xs) ys l = refl
 within (suc n) [] ys l = absurd (omega (arith, l))
 within (suc n) (x ∷ xs) ys l = ap (λ zs. x ∷ zs) (within n xs ys (omega (arith, l)))
 
-abbrev told : List Stint → ℕ → Told
-told xs n = record { stints = xs; count = n }
+abbrev told : List Stint → ℕ → Option Ending → Told
+told xs n how = record { stints = xs; count = n; ending = how }
+
+-- the last stint tells how the run has ended
+pub last_tells : (xs : List Stint) (x : Stint) → ending_of (xs ++ x ∷ []) ≡ ending_by x.end
+last_tells [] x = refl
+last_tells (y ∷ []) x = refl
+last_tells (y ∷ z ∷ xs) x = last_tells (z ∷ xs) x
 
 one_longer : {A : Type 0} (xs : List A) (x : A) → length (xs ++ x ∷ []) ≡ suc (length xs)
 one_longer xs x = let l : length (xs ++ x ∷ []) ≡ length xs + 1 = length-append xs (x ∷ []) in omega (arith, l)
 
-pub told_counts : (xs : List Stint) (x : Stint) → 100000 ≤ length xs → counted (told_of xs) ≡ told_of (xs ++ x ∷ [])
+pub told_counts : (xs : List Stint) (x : Stint) → 100000 ≤ length xs → counted (told_of xs) (ending_by x.end) ≡ told_of (xs ++ x ∷ [])
 told_counts xs x l =
-    (λ i. told (map kept (sym (within most_lines xs (x ∷ []) l) i)) (sym (one_longer xs x) i))
+    (λ i. told (map kept (sym (within most_lines xs (x ∷ []) l) i)) (sym (one_longer xs x) i) (sym (last_tells xs x) i))
 
 kept_short : (x : Stint) → length x.shown ≤ 7 → kept x ≡ x
 kept_short x l = ap (λ s. record x { shown = s }) (taken_whole 7 x.shown l)
@@ -88,12 +95,13 @@ told_adds xs s c used said l few =
     taken_whole most_lines (xs ++ x ∷ []) (omega (arith, l, one_longer xs x)) in
     let short : length (said_in said) ≤ 7 = omega (arith, few, length-take said.many said.characters) in
     let room : nat_le most_lines (length xs) ≡ false = false_from_ne_true (nat_le most_lines (length xs)) (λ h. omega (arith, l, leb-true most_lines (length xs) h)) in
-    let old : List Stint → Told = λ ys. told (map kept ys ++ stint_after (map kept ys) s (end_of c) used (said_in said) ∷ []) (suc (length xs)) in
-    ap (λ b. if b then counted (told_of xs) else old (take most_lines xs)) room
+    let how : Option Ending = ending_by (end_of c) in
+    let old : List Stint → Told = λ ys. told (map kept ys ++ stint_after (map kept ys) s (end_of c) used (said_in said) ∷ []) (suc (length xs)) how in
+    ap (λ b. if b then counted (told_of xs) how else old (take most_lines xs)) room
     ∙ ap old all
-    ∙ ap (λ y. told (map kept xs ++ y ∷ []) (suc (length xs))) (same_stint xs s (end_of c) used (said_in said) ∙ sym (kept_short x short))
-    ∙ ap (λ ys. told ys (suc (length xs))) (sym (map-append kept xs (x ∷ [])))
-    ∙ (λ i. told (map kept (sym and_one i)) (sym (one_longer xs x) i))
+    ∙ ap (λ y. told (map kept xs ++ y ∷ []) (suc (length xs)) how) (same_stint xs s (end_of c) used (said_in said) ∙ sym (kept_short x short))
+    ∙ ap (λ ys. told ys (suc (length xs)) how) (sym (map-append kept xs (x ∷ [])))
+    ∙ (λ i. told (map kept (sym and_one i)) (sym (one_longer xs x) i) (sym (last_tells xs x) i))
 
 -- ---- a run that goes on
 

@@ -2,8 +2,9 @@
 use Rattle.std.specs.Prelude.{◌≡◌, ℕ, zero, suc, ◌≤◌, Bool, true, false, ◌&&◌, not, nat_le, if◌then◌else◌, List, [], ◌∷◌, ◌++◌, length, take, slice_get, ⊤}
 use Rattle.std.specs.Prelude.{Option, Some, None}
 use Rattle.edi_calls.specs.Names.{Name}
+use Rattle.edi_calls.specs.Outcome.{Ending}
 use Rattle.edi_calls.specs.Ready.{child}
-use Rattle.edi_timeline.specs.Stints.{Start, begin, join, at, End, arrives, waits, tries, forks, ends, over, Stint}
+use Rattle.edi_timeline.specs.Stints.{Start, begin, join, at, End, arrives, waits, tries, forks, ends, over, Stint, ending_by}
 use Rattle.edi_timeline.specs.Text.{most_lines}
 use Rattle.edi_timeline.specs.Told.{meant}
 use Rattle.edi_timeline.specs.Timelines.{Told}
@@ -70,14 +71,19 @@ stint_after xs s end used shown = record {
 
 -- ---- the timeline with it
 
-abbrev pub counted : Told → Told
-counted t = record t { count = suc t.count }
+-- one more that ends the run so, if it does, and is not told
+abbrev pub counted : Told → Option Ending → Told
+counted t ending = record t { count = suc t.count; ending = ending }
 
--- A STINT MORE: it is told where there is room for it, and else only counted.
+-- A STINT MORE: it is told where there is room for it. Else it is only counted, and tells how it ends the run.
 abbrev pub added : Told → Seat → Came → (used : ℕ) → Said → Told
 added t s c used said =
-    if nat_le most_lines t.count then counted t
-    else record { stints = t.stints ++ stint_after t.stints s (end_of c) used (said_in said) ∷ []; count = suc t.count }
+    if nat_le most_lines t.count then counted t (ending_by (end_of c))
+    else record {
+      stints = t.stints ++ stint_after t.stints s (end_of c) used (said_in said) ∷ [];
+      count = suc t.count;
+      ending = ending_by (end_of c);
+    }
 
 -- ---- what is asked of it
 

@@ -1,5 +1,5 @@
 -- Helper. The row that is kept of a stint.
-use Rattle.std.specs.Prelude.{ℕ, List, replicate}
+use Rattle.std.specs.Prelude.{ℕ, List, Option, Some, None, replicate}
 use Rattle.edi_kernel.specs.declared.ends.Ending.{Ending}
 use Rattle.edi_timeline.specs.Told.{numbered}
 use Rattle.edi_timeline.specs.declared.rows.Row.{Row}
@@ -53,7 +53,7 @@ row_with s k p used said = record {
 abbrev pub row_for : List Row → Seat → Came → (used : ℕ) → Said → Row
 row_for rows s c used said = row_with s (kind_of c) (kept_place c (numbered rows s.before)) used said
 
--- how the run has ended, where this stint has ended it
-abbrev pub ending_with : Came → Ending → Ending
-ending_with (came.Over e) ending = e
-ending_with c ending = ending
+-- how the run has ended, if this stint has ended it
+abbrev pub ended_with : Came → Option Ending
+ended_with (came.Over e) = Some e
+ended_with c = None

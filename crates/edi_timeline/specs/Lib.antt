@@ -2,6 +2,7 @@ pub mod Stints
 pub mod Text
 pub mod Picture
 pub mod Told
+pub mod Plain
 pub mod Sheet
 pub mod Timelines
 pub mod Adding

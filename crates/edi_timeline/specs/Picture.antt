@@ -1,12 +1,13 @@
 -- Definition. THE PICTURE of a timeline: a lane for each process, and a box for each of the first 1,000 stints. It is SVG without script, font
 -- or link; only fixed texts, digits and escaped characters stand in it.
-use Rattle.std.specs.Prelude.{ℕ, suc, ◌+◌, ◌-◌, ◌*◌, ◌==◌, nat_le, if◌then◌else◌, List, [], ◌∷◌, ◌++◌, length, take, codes, slice_index}
+use Rattle.std.specs.Prelude.{ℕ, suc, ◌+◌, ◌-◌, ◌*◌, ◌==◌, nat_le, if◌then◌else◌, List, [], ◌∷◌, ◌++◌, length, take, codes, slice_index, Option}
 use Rattle.std.specs.Fmt.{decimal}
 use Rattle.edi_calls.specs.Names.{Name, same}
 use Rattle.edi_calls.specs.Outcome as outcome
+use Rattle.edi_calls.specs.Outcome.{Ending}
 use Rattle.edi_calls.specs.Ready.{has, parent_of}
-use Rattle.edi_timeline.specs.Stints.{Start, at, End, arrives, waits, tries, forks, ends, over, Stint}
-use Rattle.edi_timeline.specs.Text.{process_text, ending_text, stint_text, characters_text}
+use Rattle.edi_timeline.specs.Stints.{Start, begin, at, End, arrives, waits, tries, forks, ends, over, Stint}
+use Rattle.edi_timeline.specs.Text.{process_text, how_text, stint_text, characters_text}
 
 -- ---- characters
 
@@ -67,17 +68,37 @@ line_kind tries = waiting_line
 line_kind (forks n) = codes "stroke=\"#666\" stroke-width=\"2\" stroke-dasharray=\"1 4\""
 line_kind end = codes "stroke=\"#56a8d8\" stroke-width=\"4\""
 
--- a line to a box, from the one so many columns before
-abbrev pub line_back : End → (columns : ℕ) → List ℕ
-line_back end columns = codes "<path d=\"M-" ++ (decimal (38 * columns - 32) ++ (codes " 13H0\" " ++ (line_kind end ++ codes "/>")))
+-- a line from the box so many columns before
+abbrev pub line_over : End → (columns : ℕ) → List ℕ
+line_over end columns = codes "<path d=\"M-" ++ (decimal (38 * columns - 32) ++ (codes " 13H0\" " ++ (line_kind end ++ codes "/>")))
 
--- The stints before, the newest first: to the first of them that is of this process. One that begins is ready from the fork of its parent on.
+-- there is none from one that ended with its process, or with the run
+abbrev pub line_back : End → (columns : ℕ) → List ℕ
+line_back ends columns = []
+line_back (over ending) columns = []
+line_back end columns = line_over end columns
+
+-- The stints before, the newest first: from the first of them that is of this process. One that begins is ready from the fork of its parent on.
 abbrev pub line_to : Name → (columns : ℕ) → List Stint → List ℕ
 line_to p columns [] = []
 line_to p columns (y ∷ ys) =
     if same y.process p then line_back y.end columns
-    else if same y.process (parent_of p) then line_back ends columns
+    else if same y.process (parent_of p) then line_back (arrives []) columns
     else line_to p (suc columns) ys
+
+-- from the last stint of this process, so many columns before
+abbrev pub line_of : Name → (columns : ℕ) → List Stint → List ℕ
+line_of p columns [] = []
+line_of p columns (y ∷ ys) = if same y.process p then line_back y.end columns else line_of p (suc columns) ys
+
+-- behind the last column each process goes on that has not ended
+abbrev pub line_on : (columns lane : ℕ) → Name → (before : List Stint) → List ℕ
+line_on columns lane p before = moved (column_x columns) (lane_y lane) ++ (line_of p 1 before ++ codes "</g>\n")
+
+-- those of these lanes, from this one on
+abbrev pub lines_on : (columns lane : ℕ) → List Name → (before : List Stint) → List ℕ
+lines_on columns lane [] before = []
+lines_on columns lane (p ∷ lanes) before = line_on columns lane p before ++ lines_on columns (suc lane) lanes before
 
 -- ---- a box
 
@@ -89,12 +110,11 @@ abbrev pub rectangle : End → List ℕ
 rectangle waits = waiting_box
 rectangle tries = waiting_box
 rectangle ends = codes "<rect width=\"32\" height=\"26\" rx=\"13\" fill=\"#fff\" stroke=\"#000\"/>"
-rectangle (over outcome.done) = codes "<rect width=\"32\" height=\"26\" rx=\"13\" fill=\"#fff\" stroke=\"#000\"/>"
+rectangle (over outcome.done) = codes "<rect width=\"32\" height=\"26\" rx=\"13\" fill=\"#000\"/>"
 rectangle (over ending) = codes "<rect width=\"32\" height=\"26\" fill=\"#000\"/>"
 rectangle end = codes "<rect width=\"32\" height=\"26\" fill=\"#9fd0f0\" stroke=\"#000\"/>"
 
 abbrev pub ink : End → List ℕ
-ink (over outcome.done) = codes "#000"
 ink (over ending) = codes "#fff"
 ink end = codes "#000"
 
@@ -138,9 +158,9 @@ box number lane line x =
     ++ (shown_above x.shown
     ++ codes "</g>\n"))))))
 
--- the boxes of these stints, behind those before, the newest of which stands first
+-- the boxes of these stints, behind those before, the newest of which stands first; and how each process goes on behind the last of them
 abbrev pub boxes : List Name → (number : ℕ) → (before xs : List Stint) → List ℕ
-boxes lanes number before [] = []
+boxes lanes number before [] = lines_on (number - 1) 0 lanes before
 boxes lanes number before (x ∷ xs) =
     box number (lane_of lanes x.process) (line_to x.process 1 before) x ++ boxes lanes (suc number) (x ∷ before) xs
 
@@ -154,49 +174,46 @@ lane_names lane (p ∷ lanes) = lane_name lane p ++ lane_names (suc lane) lanes
 
 -- ---- the whole
 
--- what a box or a line means, so far to the right
+-- what a box or a line means, so far to the right and down
 abbrev pub key_entry : (x y : ℕ) → (drawing meaning : List ℕ) → List ℕ
 key_entry x y drawing meaning = moved x y ++ (drawing ++ (codes "<text x=\"40\" y=\"17\">" ++ (meaning ++ codes "</text></g>\n")))
+
+-- a box of a stint that comes to a `when`, with this in and above it
+abbrev pub key_box : Start → (shown : List ℕ) → List ℕ
+key_box from shown =
+    codes "<g text-anchor=\"middle\">" ++ (rectangle (arrives []) ++ (inside (arrives []) from ++ (shown_above shown ++ codes "</g>")))
 
 abbrev pub key_line : End → List ℕ
 key_line end = codes "<path d=\"M0 13H32\" " ++ (line_kind end ++ codes "/>")
 
 abbrev pub key : List ℕ
 key =
-    key_entry 0 0 (rectangle (arrives [])) (codes "goes on from the when of this line")
-    ++ (key_entry 300 0 (rectangle waits) (codes "tries, and waits")
-    ++ (key_entry 470 0 (rectangle ends) (codes "ends")
-    ++ (key_entry 570 0 (rectangle (over outcome.turns)) (codes "the run ends here")
-    ++ (key_entry 0 36 (key_line ends) (codes "ready")
-    ++ (key_entry 300 36 (key_line waits) (codes "waits at its when")
-    ++ key_entry 470 36 (key_line (forks 0)) (codes "waits for its branches"))))))
+    key_entry 0 0 (key_box (at (12 ∷ [])) []) (codes "from the when of line 12")
+    ++ (key_entry 265 0 (key_box begin []) (codes "begins, or its branches ended")
+    ++ (key_entry 530 0 (key_box (at (12 ∷ [])) (codes "x")) (codes "what was shown in it")
+    ++ (key_entry 0 36 (rectangle (arrives [])) (codes "comes to a when or cobegin")
+    ++ (key_entry 265 36 (rectangle waits) (codes "tries its when, and waits")
+    ++ (key_entry 530 36 (rectangle ends) (codes "ends")
+    ++ (key_entry 0 72 (rectangle (over outcome.done)) (codes "the run ends as done")
+    ++ (key_entry 265 72 (rectangle (over outcome.turns)) (codes "the run ends in another way")
+    ++ (key_entry 0 108 (key_line (arrives [])) (codes "ready")
+    ++ (key_entry 265 108 (key_line waits) (codes "waits: its last try failed")
+    ++ key_entry 530 108 (key_line (forks 0)) (codes "waits for its branches"))))))))))
 
 abbrev pub most_boxes : ℕ
 most_boxes = 1000
 
--- how the run has ended, if the last of these stints has ended it
-abbrev pub ending_end : End → List ℕ
-ending_end (over ending) = codes ": " ++ ending_text ending
-ending_end end = []
-
-abbrev pub ending_of : List Stint → List ℕ
-ending_of [] = []
-ending_of (x ∷ []) = ending_end x.end
-ending_of (x ∷ y ∷ xs) = ending_of (y ∷ xs)
-
--- `N stints` and how the run has ended; or `first 1000 of N stints`
-abbrev pub heading : (count : ℕ) → List Stint → List ℕ
-heading count few =
-    if nat_le count most_boxes
-    then decimal count ++ (codes " stints" ++ ending_of few)
-    else codes "first 1000 of " ++ (decimal count ++ codes " stints")
+-- `N stints`, or `first 1000 of N stints`, and how the run has ended
+abbrev pub heading : (count : ℕ) → Option Ending → List ℕ
+heading count ending =
+    (if nat_le count most_boxes then decimal count ++ codes " stints" else codes "first 1000 of " ++ (decimal count ++ codes " stints")) ++ how_text ending
 
 -- at least as wide as the key
 abbrev pub width : (boxes : ℕ) → ℕ
 width boxes = if nat_le boxes 17 then 770 else column_x boxes + 16
 
 abbrev pub height : (lanes : ℕ) → ℕ
-height lanes = lane_y lanes + 88
+height lanes = lane_y lanes + 156
 
 abbrev pub opened : (width height : ℕ) → List ℕ
 opened width height =
@@ -210,8 +227,11 @@ opened width height =
     ++ (decimal height
     ++ codes "\" font-family=\"monospace\" font-size=\"12\">\n<rect width=\"100%\" height=\"100%\" fill=\"#fff\"/>\n")))))))
 
-abbrev pub headed : (count : ℕ) → List Stint → List ℕ
-headed count few = codes "<text x=\"8\" y=\"20\" font-size=\"15\">" ++ (heading count few ++ codes "</text>\n")
+-- the heading, and what the numbers of the top row count
+abbrev pub headed : (count : ℕ) → Option Ending → List ℕ
+headed count ending =
+    codes "<text x=\"8\" y=\"20\" font-size=\"15\">"
+    ++ (heading count ending ++ codes "</text>\n<text x=\"8\" y=\"42\" font-size=\"10\">stint</text>\n")
 
 -- the boxes, and the key below them
 abbrev pub body : (lanes : List Name) → List Stint → List ℕ
@@ -220,14 +240,14 @@ body lanes few =
     ++ (codes "<g text-anchor=\"middle\">\n"
     ++ (boxes lanes 1 [] few
     ++ (codes "</g>\n"
-    ++ (moved 8 (lane_y (length lanes) + 6)
+    ++ (moved 8 (lane_y (length lanes) + 10)
     ++ (key
     ++ codes "</g>\n</svg>\n")))))
 
--- these stints, of so many
-abbrev pub drawn : (count : ℕ) → (lanes : List Name) → List Stint → List ℕ
-drawn count lanes few = opened (width (length few)) (height (length lanes)) ++ (headed count few ++ body lanes few)
+-- these stints, of so many, of a run that has ended so, if it has
+abbrev pub drawn : (count : ℕ) → Option Ending → (lanes : List Name) → List Stint → List ℕ
+drawn count ending lanes few = opened (width (length few)) (height (length lanes)) ++ (headed count ending ++ body lanes few)
 
 -- THE PICTURE, of the first 1,000 of so many stints
-abbrev pub picture_of : (count : ℕ) → List Stint → List ℕ
-picture_of count xs = let few : List Stint = take most_boxes xs in drawn count (lanes_of few) few
+abbrev pub picture_of : (count : ℕ) → Option Ending → List Stint → List ℕ
+picture_of count ending xs = let few : List Stint = take most_boxes xs in drawn count ending (lanes_of few) few

@@ -12,9 +12,9 @@ use Rattle.edi_unit.specs.Values.{zero_value}
 use Rattle.edi_unit.specs.Tree.{Act, apply_of, convert, by_value, no_argument, argument_then, skip, assign, call, halt, when_act, cobegin, ProgramUnit}
 use Rattle.edi_meaning.specs.Select.{Selected, unfinished, finished, select_from_start}
 use Rattle.edi_meaning.specs.Rows.{empty_system, variable, value_of, number, true_value, false_value, two, one_clause, block_of, program_of, head}
-use Rattle.edi_timeline.specs.Stints.{begin, join, at, arrives, waits, tries, forks, ends, over, Start, End, Stint, stints_of}
-use Rattle.edi_timeline.specs.Text.{process_text, stint_text, lines_text, cut_text}
-use Rattle.edi_timeline.specs.Picture.{lanes_of, line_to, box, heading}
+use Rattle.edi_timeline.specs.Stints.{begin, join, at, arrives, waits, tries, forks, ends, over, Start, End, Stint, ending_of, stints_of}
+use Rattle.edi_timeline.specs.Text.{process_text, characters_text, stint_text, lines_text, cut_text}
+use Rattle.edi_timeline.specs.Picture.{lanes_of, line_to, lines_on, box, heading}
 
 -- ---- executions of at most forty turns, and eighty steps
 
@@ -231,7 +231,7 @@ unfolding digits
 row_names = refl
 
 pub row_fails : stint_text 12 (row 30 31 [] (at (7 ∷ 6 ∷ [])) (over (outcome.failed cause.Range 9)) (codes "a \"<\\"))
-    ≡ codes "12 turns 30 31 process main from 7 6 line 9 range shown \"a \\34<\\92\""
+    ≡ codes "12 turns 30 31 process main from 7 6 line 9 range shown \"a \\034<\\092\""
 unfolding digits
 row_fails = refl
 
@@ -242,9 +242,15 @@ unfolding digits
 row_six = (refl, refl)
 
 -- a text that is cut
-pub row_cut : (cut_text 100000 ≡ []) × (cut_text 100001 ≡ codes "first 100000 of 100001 stints\n")
+pub row_cut : (cut_text 100000 (Some outcome.done) ≡ []) × (cut_text 100001 (Some outcome.turns) ≡ codes "first 100000 of 100001 stints: turn limit\n")
+    × (cut_text 100001 None ≡ codes "first 100000 of 100001 stints\n")
 unfolding digits
-row_cut = (refl, refl)
+row_cut = (refl, refl, refl)
+
+-- a character by its number: three digits, so that a `2` behind a tab does not make it a `\\`
+pub row_characters : (characters_text (9 ∷ 50 ∷ []) ≡ codes "\\0092") × (characters_text (92 ∷ []) ≡ codes "\\092") × (characters_text (127 ∷ 10 ∷ []) ≡ codes "\\127\\n")
+unfolding digits
+row_characters = (refl, refl, refl)
 
 -- ---- the picture
 
@@ -262,13 +268,23 @@ pub row_lines :
 unfolding digits
 row_lines = (refl, refl, refl)
 
+-- Behind the last of three columns: the program waits for its branches, branch 1 has ended, and branch 2 waits at its `when`.
+pub row_lines_on :
+    lines_on 3 0 ([] ∷ branch 1 ∷ branch 2 ∷ [])
+    (row 5 5 (branch 2) (at (4 ∷ [])) waits [] ∷ row 3 3 (branch 1) begin ends [] ∷ row 1 2 [] begin (forks 2) [] ∷ []) ≡
+    codes "<g transform=\"translate(214 62)\"><path d=\"M-82 13H0\" stroke=\"#666\" stroke-width=\"2\" stroke-dasharray=\"1 4\"/></g>\n"
+    ++ codes "<g transform=\"translate(214 108)\"></g>\n<g transform=\"translate(214 154)\"><path d=\"M-6 13H0\" stroke=\"#000\" stroke-width=\"2\" stroke-dasharray=\"4 3\"/></g>\n"
+unfolding digits
+row_lines_on = refl
+
 -- the first box of a program that shows `<` at once
 pub row_box : box 1 0 [] (row 1 1 [] begin (over outcome.done) (60 ∷ [])) ≡
     codes "<text x=\"116\" y=\"42\" font-size=\"10\">1</text><g transform=\"translate(100 62)\"><title>1 turns 1 1 process main from begin done shown \"&lt;\"</title>"
-    ++ codes "<rect width=\"32\" height=\"26\" rx=\"13\" fill=\"#fff\" stroke=\"#000\"/><text x=\"16\" y=\"17\" fill=\"#000\">&#183;</text><text x=\"16\" y=\"-4\" font-weight=\"bold\">&lt;</text></g>\n"
+    ++ codes "<rect width=\"32\" height=\"26\" rx=\"13\" fill=\"#000\"/><text x=\"16\" y=\"17\" fill=\"#fff\">&#183;</text><text x=\"16\" y=\"-4\" font-weight=\"bold\">&lt;</text></g>\n"
 unfolding digits
 row_box = refl
 
-pub row_headings : (heading 5 two_wait ≡ codes "5 stints: standstill") × (heading 1001 two_wait ≡ codes "first 1000 of 1001 stints")
+pub row_headings : (heading 5 (ending_of two_wait) ≡ codes "5 stints: standstill")
+    × (heading 1001 (Some outcome.turns) ≡ codes "first 1000 of 1001 stints: turn limit")
 unfolding digits
 row_headings = (refl, refl)

@@ -71,6 +71,11 @@ pub data End : Type 0 where
   ends : End
   over : Ending → End
 
+-- how a stint that has ended so ends the run, if it does
+abbrev pub ending_by : End → Option Ending
+ending_by (over ending) = Some ending
+ending_by end = None
+
 -- Its turns are those from the first to the last; one that ends the run before it has taken a turn has its last turn before its first.
 pub record Stint : Type 0 where
   pub process : Name
@@ -80,6 +85,12 @@ pub record Stint : Type 0 where
   pub end : End
   -- the bytes that were shown in it
   pub shown : List ℕ
+
+-- how the run has ended, if the last of these stints has ended it
+abbrev pub ending_of : List Stint → Option Ending
+ending_of [] = None
+ending_of (x ∷ []) = ending_by x.end
+ending_of (x ∷ y ∷ xs) = ending_of (y ∷ xs)
 
 -- ---- along an execution
 

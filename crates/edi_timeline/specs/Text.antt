@@ -1,5 +1,7 @@
--- Definition. THE TEXT of a timeline: a line for each of the first 100,000 stints, and one that says so where there are more.
+-- Definition. THE TEXT of a timeline: a line for each of the first 100,000 stints. Where there are more, one more line says how many, and how the run
+-- has ended.
 use Rattle.std.specs.Prelude.{ℕ, suc, Bool, ◌&&◌, ◌==◌, not, nat_le, nat_lt, if◌then◌else◌, List, [], ◌∷◌, ◌++◌, length, take, codes}
+use Rattle.std.specs.Prelude.{Option, Some, None}
 use Rattle.std.specs.Fmt.{decimal}
 use Rattle.edi_calls.specs.declared.kinds.Cause.TheVariants as cause
 use Rattle.edi_calls.specs.Names.{Name}
@@ -42,6 +44,11 @@ ending_text outcome.turns = codes "turn limit"
 ending_text outcome.standstill = codes "standstill"
 ending_text (outcome.bad address) = with_number (codes "bad code state") address
 
+-- `: ENDING`, if it is told
+abbrev pub how_text : Option Ending → List ℕ
+how_text None = []
+how_text (Some ending) = codes ": " ++ ending_text ending
+
 abbrev pub end_text : End → List ℕ
 end_text (arrives lines) = codes "arrives" ++ place_text lines
 end_text waits = codes "waits"
@@ -60,9 +67,13 @@ turns_text first last =
 abbrev pub is_plain : ℕ → Bool
 is_plain c = nat_le 32 c && nat_le c 126 && not (c == 34) && not (c == 92)
 
--- any other is `\` with its number, and a line feed `\n`
+-- what makes a number one of three digits, which no digit that was shown prolongs
+abbrev pub zeros_before : ℕ → List ℕ
+zeros_before c = if nat_lt c 10 then codes "00" else if nat_lt c 100 then codes "0" else []
+
+-- any other is `\` with its number in three digits, and a line feed `\n`
 abbrev pub character_text : ℕ → List ℕ
-character_text c = if is_plain c then c ∷ [] else if c == 10 then codes "\\n" else codes "\\" ++ decimal c
+character_text c = if is_plain c then c ∷ [] else if c == 10 then codes "\\n" else codes "\\" ++ (zeros_before c ++ decimal c)
 
 abbrev pub characters_text : List ℕ → List ℕ
 characters_text [] = []
@@ -97,13 +108,15 @@ lines_text number (x ∷ xs) = stint_text number x ++ (codes "\n" ++ lines_text 
 abbrev pub most_lines : ℕ
 most_lines = 100000
 
--- a text that is cut says of how many stints it has the first
-abbrev pub cut_text : (count : ℕ) → List ℕ
-cut_text count = if nat_le count most_lines then [] else codes "first 100000 of " ++ (decimal count ++ codes " stints\n")
+-- a text that is cut says of how many stints it has the first, and how the run has ended
+abbrev pub cut_text : (count : ℕ) → Option Ending → List ℕ
+cut_text count ending =
+    if nat_le count most_lines then []
+    else codes "first 100000 of " ++ (decimal count ++ (codes " stints" ++ (how_text ending ++ codes "\n")))
 
--- THE TEXT, of the first 100,000 of so many stints
-abbrev pub text_of : (count : ℕ) → List Stint → List ℕ
-text_of count xs = lines_text 1 (take most_lines xs) ++ cut_text count
+-- THE TEXT, of the first 100,000 of so many stints, of a run that has ended so, if it has
+abbrev pub text_of : (count : ℕ) → Option Ending → List Stint → List ℕ
+text_of count ending xs = lines_text 1 (take most_lines xs) ++ cut_text count ending
 
 -- ---- what a timeline keeps of a stint
 

@@ -1,5 +1,6 @@
 //! A stint more.
 
+ghost use Rattle.std.specs.Option.{option_map};
 ghost use Rattle.std.specs.Prelude.{◌≡◌, ◌<◌, ◌≤◌, ◌-◌, ◌^◌, true, nat_le};
 ghost use Rattle.edi_timeline.specs.Told as told;
 ghost use Rattle.edi_timeline.specs.Entered as spec;
@@ -50,13 +51,13 @@ fn kept_place(came: Came, before: &Row) -> Place
     }
 }
 
-// How the run has ended, where this stint has ended it.
-fn ending_with(came: Came, ending: Ending) -> Ending
-    ensures exact { result ≡ spec.ending_with came ending }
+// How the run has ended, if this stint has ended it.
+fn ended_with(came: Came) -> Option<Ending>
+    ensures exact { result ≡ spec.ended_with came }
 {
     match came {
-        Came::Over(ending) => ending,
-        Came::Arrived(_) | Came::Waited | Came::Tried | Came::Forked(_) | Came::Ended => ending,
+        Came::Over(ending) => Some(ending),
+        Came::Arrived(_) | Came::Waited | Came::Tried | Came::Forked(_) | Came::Ended => None,
     }
 }
 
@@ -93,7 +94,7 @@ pub(crate) fn put(kept: &mut Kept, seat: Seat, came: Came, used: u32, said: Said
     ensures kept { IsTimeline kept.new }
 {
     let row = row_for(&kept.rows, seat, came, used, said);
-    kept.ending = ending_with(came, kept.ending);
+    kept.ending = ended_with(came);
     kept.rows.push_reserved(row);
     kept.count += 1;
 }
@@ -105,15 +106,16 @@ pub(crate) fn is_full(kept: &Kept) -> bool
     kept.count >= 100_000
 }
 
-// Counts a stint for which there is no room.
-pub(crate) fn count_one(kept: &mut Kept)
+// Counts a stint for which there is no room, which has ended the run so, if it has.
+pub(crate) fn count_one(kept: &mut Kept, ended: Option<Ending>)
     requires kept { IsTimeline kept.old }
     requires full { 100000 ≤ kept.old.count }
     requires small { kept.old.count < 2 ^ 64 - 1 }
-    ensures exact { told_in kept.new ≡ counted (told_in kept.old) }
+    ensures exact { told_in kept.new ≡ counted (told_in kept.old) (option_map told.meant ended) }
     ensures kept { IsTimeline kept.new }
 {
     kept.count += 1;
+    kept.ending = ended;
 }
 
 // Adds a stint, or counts it.
@@ -128,7 +130,7 @@ pub(crate) fn put_or_count(kept: &mut Kept, seat: Seat, came: Came, used: u32, s
     ensures kept { IsTimeline kept.new }
 {
     if is_full(kept) {
-        return count_one(kept);
+        return count_one(kept, ended_with(came));
     }
     put(kept, seat, came, used, said)
 }

@@ -2,7 +2,7 @@
 
 ghost use Rattle.std.specs.Prelude.{◌≡◌, suc, ◌+◌, ◌-◌, ◌++◌, ◌≤◌, ◌<◌, ◌^◌, OnOk, codes, decimal, length, map, take};
 ghost use Rattle.edi_timeline.specs.Text.{characters_text};
-ghost use Rattle.edi_timeline.specs.Sheet.{IsSheet, box_in, frame_in, line_in};
+ghost use Rattle.edi_timeline.specs.Sheet.{IsSheet, box_in, frame_in, line_for, own_line};
 ghost use Rattle.edi_timeline.specs.Told.{AreRows, IsRow};
 ghost use Rattle.edi_timeline.specs.Told as told;
 ghost use Rattle.edi_timeline.specs.Picture as spec;
@@ -92,11 +92,11 @@ fn put_line_kind(out: &mut Vec<u8>, kind: Kind) -> Result<(), AllocError>
     Ok(())
 }
 
-// Puts a line to a box, from the one so many columns before.
-fn put_line_back(out: &mut Vec<u8>, kind: Kind, columns: u64) -> Result<(), AllocError>
+// Puts a line from the box so many columns before, the stint of which has ended so.
+fn put_line_over(out: &mut Vec<u8>, kind: Kind, columns: u64) -> Result<(), AllocError>
     requires from { 1 ≤ columns }
     requires to { columns ≤ 1000 }
-    ensures exact { OnOk result (out.new.items ≡ out.old.items ++ spec.line_back (told.end_as Ending.Done told.no_row kind) columns) }
+    ensures exact { OnOk result (out.new.items ≡ out.old.items ++ spec.line_over (told.end_as Ending.Done told.no_row kind) columns) }
 {
     out.extend_from_slice(b"<path d=\"M-")?;
     put_number(out, 38 * columns - 32)?;
@@ -106,20 +106,54 @@ fn put_line_back(out: &mut Vec<u8>, kind: Kind, columns: u64) -> Result<(), Allo
     Ok(())
 }
 
-// Puts the line to the box of this index.
-fn put_line_to(out: &mut Vec<u8>, sheet: &Sheet, index: usize) -> Result<(), AllocError>
+// Puts that line where the process goes on after it.
+fn put_line_back(out: &mut Vec<u8>, kind: Kind, columns: u64) -> Result<(), AllocError>
+    requires from { 1 ≤ columns }
+    requires to { columns ≤ 1000 }
+    ensures exact { OnOk result (out.new.items ≡ out.old.items ++ spec.line_back (told.end_as Ending.Done told.no_row kind) columns) }
+{
+    match kind {
+        Kind::Arrives => put_line_over(out, Kind::Arrives, columns),
+        Kind::Waits => put_line_over(out, Kind::Waits, columns),
+        Kind::Tries => put_line_over(out, Kind::Tries, columns),
+        Kind::Forks => put_line_over(out, Kind::Forks, columns),
+        Kind::Ends | Kind::Over => Ok(()),
+    }
+}
+
+// Puts the line of the process of such a row to the column of this index.
+fn put_line_to(out: &mut Vec<u8>, sheet: &Sheet, row: &Row, index: usize) -> Result<(), AllocError>
     requires rows { AreRows sheet.now.rows.now }
     requires within { index ≤ 1000 }
-    ensures exact { OnOk result (out.new.items ≡ out.old.items ++ line_in sheet.now index) }
+    ensures exact { OnOk result (out.new.items ≡ out.old.items ++ line_for sheet.now row.now index) }
 {
-    let row = row_at(sheet.few, index);
     for back in 0..index {
         let before = row_at(sheet.few, index - 1 - back);
-        if is_same(sheet.rows, &before, &row) {
+        if is_same(sheet.rows, &before, row) {
             return put_line_back(out, before.kind, back as u64 + 1);
         }
-        if is_of_parent(sheet.rows, &before, &row) {
-            return put_line_back(out, Kind::Ends, back as u64 + 1);
+        if is_of_parent(sheet.rows, &before, row) {
+            return put_line_back(out, Kind::Arrives, back as u64 + 1);
+        }
+    }
+    Ok(())
+}
+
+// Puts the line from the last stint of the process of such a row in the first columns to behind these.
+pub(crate) fn put_own_line(
+    out: &mut Vec<u8>,
+    sheet: &Sheet,
+    row: &Row,
+    columns: usize,
+) -> Result<(), AllocError>
+    requires rows { AreRows sheet.now.rows.now }
+    requires within { columns ≤ 1000 }
+    ensures exact { OnOk result (out.new.items ≡ out.old.items ++ own_line sheet.now row.now columns) }
+{
+    for back in 0..columns {
+        let before = row_at(sheet.few, columns - 1 - back);
+        if is_same(sheet.rows, &before, row) {
+            return put_line_back(out, before.kind, back as u64 + 1);
         }
     }
     Ok(())
@@ -133,8 +167,11 @@ fn put_rectangle(out: &mut Vec<u8>, row: &Row, ending: Ending) -> Result<(), All
         (Kind::Waits | Kind::Tries, _) => out.extend_from_slice(
             b"<rect width=\"32\" height=\"26\" fill=\"#fff\" stroke=\"#000\" stroke-width=\"2\" stroke-dasharray=\"4 2\"/>",
         )?,
-        (Kind::Ends, _) | (Kind::Over, Ending::Done) => out.extend_from_slice(
+        (Kind::Ends, _) => out.extend_from_slice(
             b"<rect width=\"32\" height=\"26\" rx=\"13\" fill=\"#fff\" stroke=\"#000\"/>",
+        )?,
+        (Kind::Over, Ending::Done) => out.extend_from_slice(
+            b"<rect width=\"32\" height=\"26\" rx=\"13\" fill=\"#000\"/>",
         )?,
         (Kind::Over, _) => out.extend_from_slice(
             b"<rect width=\"32\" height=\"26\" fill=\"#000\"/>",
@@ -147,13 +184,12 @@ fn put_rectangle(out: &mut Vec<u8>, row: &Row, ending: Ending) -> Result<(), All
 }
 
 // Puts the colour of what stands in the box.
-fn put_ink(out: &mut Vec<u8>, row: &Row, ending: Ending) -> Result<(), AllocError>
-    ensures exact { OnOk result (out.new.items ≡ out.old.items ++ spec.ink (told.end_as ending row.now row.now.kind)) }
+fn put_ink(out: &mut Vec<u8>, row: &Row) -> Result<(), AllocError>
+    ensures exact { OnOk result (out.new.items ≡ out.old.items ++ spec.ink (told.end_as Ending.Done row.now row.now.kind)) }
 {
-    match (row.kind, ending) {
-        (Kind::Over, Ending::Done) => out.extend_from_slice(b"#000")?,
-        (Kind::Over, _) => out.extend_from_slice(b"#fff")?,
-        _ => out.extend_from_slice(b"#000")?,
+    match row.kind {
+        Kind::Over => out.extend_from_slice(b"#fff")?,
+        Kind::Arrives | Kind::Waits | Kind::Tries | Kind::Forks | Kind::Ends => out.extend_from_slice(b"#000")?,
     }
     Ok(())
 }
@@ -196,13 +232,13 @@ fn put_box_text(out: &mut Vec<u8>, rows: &[Row], row: &Row) -> Result<(), AllocE
 }
 
 // Puts what stands in a box.
-fn put_inside(out: &mut Vec<u8>, rows: &[Row], row: &Row, ending: Ending) -> Result<(), AllocError>
+fn put_inside(out: &mut Vec<u8>, rows: &[Row], row: &Row) -> Result<(), AllocError>
     requires rows { AreRows rows.now }
     ensures exact { OnOk result (out.new.items ≡ out.old.items
-        ++ spec.inside (told.end_as ending row.now row.now.kind) (told.start_in rows.now row.now)) }
+        ++ spec.inside (told.end_as Ending.Done row.now row.now.kind) (told.start_in rows.now row.now)) }
 {
     out.extend_from_slice(b"<text x=\"16\" y=\"17\" fill=\"")?;
-    put_ink(out, row, ending)?;
+    put_ink(out, row)?;
     out.extend_from_slice(b"\">")?;
     put_box_text(out, rows, row)?;
     out.extend_from_slice(b"</text>")?;
@@ -295,7 +331,7 @@ fn put_frame(
     put_number_over(out, index)?;
     put_moved(out, column_x(index), lane_y(lane))?;
     put_title(alloc, out, sheet, index, row)?;
-    put_line_to(out, sheet, index)?;
+    put_line_to(out, sheet, row, index)?;
     Ok(())
 }
 
@@ -313,7 +349,7 @@ pub(crate) fn put_box(
     let row = row_at(sheet.few, index);
     put_frame(alloc, out, sheet, index, &row)?;
     put_rectangle(out, &row, sheet.ending)?;
-    put_inside(out, sheet.rows, &row, sheet.ending)?;
+    put_inside(out, sheet.rows, &row)?;
     put_shown_above(alloc, out, row.characters())?;
     out.extend_from_slice(b"</g>\n")?;
     Ok(())

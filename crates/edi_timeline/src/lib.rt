@@ -8,6 +8,7 @@ mod entry;
 mod lanes;
 pub mod laws;
 mod picture;
+mod plain;
 mod rows;
 mod text;
 mod timeline;

@@ -1,16 +1,17 @@
 //! The picture.
 
-ghost use Rattle.std.specs.Prelude.{◌≡◌, suc, ◌+◌, ◌++◌, ◌≤◌, ◌<◌, ◌^◌, [], OnOk, IfOk, codes, decimal, length, take, map};
-ghost use Rattle.edi_timeline.specs.Sheet.{IsSheet, lanes_in};
+ghost use Rattle.std.specs.Option.{option_map};
+ghost use Rattle.std.specs.Prelude.{◌≡◌, suc, ◌+◌, ◌++◌, ◌≤◌, ◌<◌, ◌^◌, [], OnOk, IfOk, codes, decimal, if◌then◌else◌, length, nat_le, take, map};
+ghost use Rattle.edi_timeline.specs.Sheet.{IsSheet, lanes_in, line_on_in, lines_on_in};
 ghost use Rattle.edi_timeline.specs.Told.{AreRows, stints_in};
 ghost use Rattle.edi_timeline.specs.Told as told;
 ghost use Rattle.edi_timeline.specs.Picture as spec;
 
-use crate::boxes::{Sheet, column_x, lane_y, put_box, put_moved};
+use crate::boxes::{Sheet, column_x, lane_y, put_box, put_moved, put_own_line};
 use crate::lanes::lanes_of;
-use crate::rows::{Kind, Row, row_at};
+use crate::rows::{Row, ending_in};
 use crate::text::{put_name, whole_path};
-use crate::words::{put_ending, put_number};
+use crate::words::{put_how, put_number};
 use edi_kernel::Ending;
 use std::alloc::{AllocError, Global};
 
@@ -19,13 +20,17 @@ const MOST_BOXES: usize = 1_000;
 
 /// What the boxes and lines mean.
 const KEY: &[u8] =
-    b"<g transform=\"translate(0 0)\"><rect width=\"32\" height=\"26\" fill=\"#9fd0f0\" stroke=\"#000\"/><text x=\"40\" y=\"17\">goes on from the when of this line</text></g>\n\
-<g transform=\"translate(300 0)\"><rect width=\"32\" height=\"26\" fill=\"#fff\" stroke=\"#000\" stroke-width=\"2\" stroke-dasharray=\"4 2\"/><text x=\"40\" y=\"17\">tries, and waits</text></g>\n\
-<g transform=\"translate(470 0)\"><rect width=\"32\" height=\"26\" rx=\"13\" fill=\"#fff\" stroke=\"#000\"/><text x=\"40\" y=\"17\">ends</text></g>\n\
-<g transform=\"translate(570 0)\"><rect width=\"32\" height=\"26\" fill=\"#000\"/><text x=\"40\" y=\"17\">the run ends here</text></g>\n\
-<g transform=\"translate(0 36)\"><path d=\"M0 13H32\" stroke=\"#56a8d8\" stroke-width=\"4\"/><text x=\"40\" y=\"17\">ready</text></g>\n\
-<g transform=\"translate(300 36)\"><path d=\"M0 13H32\" stroke=\"#000\" stroke-width=\"2\" stroke-dasharray=\"4 3\"/><text x=\"40\" y=\"17\">waits at its when</text></g>\n\
-<g transform=\"translate(470 36)\"><path d=\"M0 13H32\" stroke=\"#666\" stroke-width=\"2\" stroke-dasharray=\"1 4\"/><text x=\"40\" y=\"17\">waits for its branches</text></g>\n";
+    b"<g transform=\"translate(0 0)\"><g text-anchor=\"middle\"><rect width=\"32\" height=\"26\" fill=\"#9fd0f0\" stroke=\"#000\"/><text x=\"16\" y=\"17\" fill=\"#000\">12</text></g><text x=\"40\" y=\"17\">from the when of line 12</text></g>\n\
+<g transform=\"translate(265 0)\"><g text-anchor=\"middle\"><rect width=\"32\" height=\"26\" fill=\"#9fd0f0\" stroke=\"#000\"/><text x=\"16\" y=\"17\" fill=\"#000\">&#183;</text></g><text x=\"40\" y=\"17\">begins, or its branches ended</text></g>\n\
+<g transform=\"translate(530 0)\"><g text-anchor=\"middle\"><rect width=\"32\" height=\"26\" fill=\"#9fd0f0\" stroke=\"#000\"/><text x=\"16\" y=\"17\" fill=\"#000\">12</text><text x=\"16\" y=\"-4\" font-weight=\"bold\">x</text></g><text x=\"40\" y=\"17\">what was shown in it</text></g>\n\
+<g transform=\"translate(0 36)\"><rect width=\"32\" height=\"26\" fill=\"#9fd0f0\" stroke=\"#000\"/><text x=\"40\" y=\"17\">comes to a when or cobegin</text></g>\n\
+<g transform=\"translate(265 36)\"><rect width=\"32\" height=\"26\" fill=\"#fff\" stroke=\"#000\" stroke-width=\"2\" stroke-dasharray=\"4 2\"/><text x=\"40\" y=\"17\">tries its when, and waits</text></g>\n\
+<g transform=\"translate(530 36)\"><rect width=\"32\" height=\"26\" rx=\"13\" fill=\"#fff\" stroke=\"#000\"/><text x=\"40\" y=\"17\">ends</text></g>\n\
+<g transform=\"translate(0 72)\"><rect width=\"32\" height=\"26\" rx=\"13\" fill=\"#000\"/><text x=\"40\" y=\"17\">the run ends as done</text></g>\n\
+<g transform=\"translate(265 72)\"><rect width=\"32\" height=\"26\" fill=\"#000\"/><text x=\"40\" y=\"17\">the run ends in another way</text></g>\n\
+<g transform=\"translate(0 108)\"><path d=\"M0 13H32\" stroke=\"#56a8d8\" stroke-width=\"4\"/><text x=\"40\" y=\"17\">ready</text></g>\n\
+<g transform=\"translate(265 108)\"><path d=\"M0 13H32\" stroke=\"#000\" stroke-width=\"2\" stroke-dasharray=\"4 3\"/><text x=\"40\" y=\"17\">waits: its last try failed</text></g>\n\
+<g transform=\"translate(530 108)\"><path d=\"M0 13H32\" stroke=\"#666\" stroke-width=\"2\" stroke-dasharray=\"1 4\"/><text x=\"40\" y=\"17\">waits for its branches</text></g>\n";
 
 // Puts the key.
 fn put_key(out: &mut Vec<u8>) -> Result<(), AllocError>
@@ -53,39 +58,14 @@ fn put_opened(out: &mut Vec<u8>, width: u64, height: u64) -> Result<(), AllocErr
     Ok(())
 }
 
-// Puts how the run has ended, if a stint that has ended so has ended it.
-fn put_end_of_run(out: &mut Vec<u8>, kind: Kind, ending: Ending) -> Result<(), AllocError>
-    ensures exact { OnOk result (out.new.items ≡ out.old.items ++ spec.ending_end (told.end_as ending told.no_row kind)) }
-{
-    match kind {
-        Kind::Over => {
-            out.extend_from_slice(b": ")?;
-            put_ending(out, ending)
-        }
-        Kind::Arrives | Kind::Waits | Kind::Tries | Kind::Forks | Kind::Ends => Ok(()),
-    }
-}
-
-// Puts how the run has ended, if the last of these has ended it.
-fn put_how(out: &mut Vec<u8>, few: &[Row], ending: Ending) -> Result<(), AllocError>
-    ensures exact { OnOk result (out.new.items ≡ out.old.items ++ spec.ending_of (stints_in ending few.now 0 few.now)) }
-{
-    if few.is_empty() {
-        return Ok(());
-    }
-    let last = row_at(few, few.len() - 1);
-    put_end_of_run(out, last.kind, ending)?;
-    Ok(())
-}
-
-// Puts how many stints there are, and how the run has ended; or that these are the first of so many.
-fn put_heading(out: &mut Vec<u8>, count: u64, few: &[Row], ending: Ending) -> Result<(), AllocError>
-    ensures exact { OnOk result (out.new.items ≡ out.old.items ++ spec.heading count (stints_in ending few.now 0 few.now)) }
+// Puts how many stints there are, or that these are the first of so many.
+fn put_count(out: &mut Vec<u8>, count: u64) -> Result<(), AllocError>
+    ensures exact { OnOk result (out.new.items ≡ out.old.items
+        ++ (if nat_le count 1000 then decimal count ++ codes " stints" else codes "first 1000 of " ++ (decimal count ++ codes " stints"))) }
 {
     if count <= 1_000 {
         put_number(out, count)?;
         out.extend_from_slice(b" stints")?;
-        put_how(out, few, ending)?;
         return Ok(());
     }
     out.extend_from_slice(b"first 1000 of ")?;
@@ -94,13 +74,14 @@ fn put_heading(out: &mut Vec<u8>, count: u64, few: &[Row], ending: Ending) -> Re
     Ok(())
 }
 
-// Puts the heading.
-fn put_headed(out: &mut Vec<u8>, count: u64, few: &[Row], ending: Ending) -> Result<(), AllocError>
-    ensures exact { OnOk result (out.new.items ≡ out.old.items ++ spec.headed count (stints_in ending few.now 0 few.now)) }
+// Puts the heading, and what the numbers of the top row count.
+fn put_headed(out: &mut Vec<u8>, count: u64, ended: Option<Ending>) -> Result<(), AllocError>
+    ensures exact { OnOk result (out.new.items ≡ out.old.items ++ spec.headed count (option_map told.meant ended)) }
 {
     out.extend_from_slice(b"<text x=\"8\" y=\"20\" font-size=\"15\">")?;
-    put_heading(out, count, few, ending)?;
-    out.extend_from_slice(b"</text>\n")?;
+    put_count(out, count)?;
+    put_how(out, ended)?;
+    out.extend_from_slice(b"</text>\n<text x=\"8\" y=\"42\" font-size=\"10\">stint</text>\n")?;
     Ok(())
 }
 
@@ -140,7 +121,30 @@ fn put_lanes(
     Ok(())
 }
 
-// Puts the boxes.
+// Puts how the process of a lane goes on behind the last column.
+fn put_line_on(out: &mut Vec<u8>, sheet: &Sheet, lane: usize, row: &Row) -> Result<(), AllocError>
+    requires sheet { IsSheet sheet.now }
+    requires small { lane ≤ 1000 }
+    ensures exact { OnOk result (out.new.items ≡ out.old.items ++ line_on_in sheet.now lane row.now) }
+{
+    put_moved(out, column_x(sheet.few.len()), lane_y(lane))?;
+    put_own_line(out, sheet, row, sheet.few.len())?;
+    out.extend_from_slice(b"</g>\n")?;
+    Ok(())
+}
+
+// Puts how each process goes on behind the last column.
+fn put_lines_on(out: &mut Vec<u8>, sheet: &Sheet) -> Result<(), AllocError>
+    requires sheet { IsSheet sheet.now }
+    ensures exact { OnOk result (out.new.items ≡ out.old.items ++ lines_on_in sheet.now) }
+{
+    for (lane, row) in sheet.lanes.iter().enumerate() {
+        put_line_on(out, sheet, lane, row)?;
+    }
+    Ok(())
+}
+
+// Puts the boxes, and how each process goes on behind the last of them.
 fn put_boxes(alloc: Global, out: &mut Vec<u8>, sheet: &Sheet) -> Result<(), AllocError>
     requires sheet { IsSheet sheet.now }
     ensures exact { OnOk result (out.new.items ≡ out.old.items
@@ -149,7 +153,7 @@ fn put_boxes(alloc: Global, out: &mut Vec<u8>, sheet: &Sheet) -> Result<(), Allo
     for index in 0..sheet.few.len() {
         put_box(alloc, out, sheet, index)?;
     }
-    Ok(())
+    put_lines_on(out, sheet)
 }
 
 // Puts the lanes with their boxes, and the key.
@@ -162,7 +166,7 @@ fn put_body(alloc: Global, out: &mut Vec<u8>, sheet: &Sheet) -> Result<(), Alloc
     out.extend_from_slice(b"<g text-anchor=\"middle\">\n")?;
     put_boxes(alloc, out, sheet)?;
     out.extend_from_slice(b"</g>\n")?;
-    put_moved(out, 8, lane_y(sheet.lanes.len()) + 6)?;
+    put_moved(out, 8, lane_y(sheet.lanes.len()) + 10)?;
     put_key(out)?;
     out.extend_from_slice(b"</g>\n</svg>\n")?;
     Ok(())
@@ -196,10 +200,11 @@ pub(crate) fn picture_of(
     alloc: Global,
     rows: &[Row],
     count: u64,
-    ending: Ending,
+    ended: Option<Ending>,
 ) -> Result<Vec<u8>, AllocError>
     requires rows { AreRows rows.now }
-    ensures exact { IfOk result (λ picture. picture.items ≡ spec.picture_of count (stints_in ending rows.now 0 rows.now)) }
+    ensures exact { IfOk result (λ picture. picture.items
+        ≡ spec.picture_of count (option_map told.meant ended) (stints_in (told.ending_in ended) rows.now 0 rows.now)) }
 {
     let few = first_rows(rows);
     let lanes = lanes_of(alloc, rows, few)?;
@@ -207,11 +212,11 @@ pub(crate) fn picture_of(
         rows,
         few,
         lanes: &lanes,
-        ending,
+        ending: ending_in(ended),
     };
     let mut out = Vec::new(alloc);
-    put_opened(&mut out, width(few.len()), lane_y(lanes.len()) + 88)?;
-    put_headed(&mut out, count, few, ending)?;
+    put_opened(&mut out, width(few.len()), lane_y(lanes.len()) + 156)?;
+    put_headed(&mut out, count, ended)?;
     put_body(alloc, &mut out, &sheet)?;
     Ok(out)
 }

@@ -1,12 +1,14 @@
 //! The line of a stint, and the text.
 
+ghost use Rattle.std.specs.Option.{option_map};
 ghost use Rattle.std.specs.Prelude.{◌≡◌, suc, ◌+◌, ◌++◌, ◌∷◌, ◌<◌, ◌≤◌, ◌^◌, [], All, OnOk, IfOk, codes, decimal, length};
 ghost use Rattle.edi_timeline.specs.Told.{IsRow, numbered};
 ghost use Rattle.edi_timeline.specs.Told as told;
 ghost use Rattle.edi_timeline.specs.Text as spec;
 
-use crate::rows::{Kind, Row, numbered};
-use crate::words::{put_branch, put_ending, put_number, put_place, put_shown, put_turns};
+use crate::plain::{is_plain, put_plain};
+use crate::rows::{Kind, Row, ending_in, numbered};
+use crate::words::{put_branch, put_ending, put_how, put_number, put_place, put_shown, put_turns};
 use edi_kernel::Ending;
 use std::alloc::{AllocError, Global};
 
@@ -174,6 +176,29 @@ pub(crate) fn put_stint(
     put_tail(out, rows, used, row, ending)
 }
 
+// Puts the line of a stint behind so many turns, with its line feed.
+fn put_line(
+    alloc: Global,
+    out: &mut Vec<u8>,
+    rows: &[Row],
+    number: u32,
+    used: u32,
+    row: &Row,
+    ending: Ending,
+) -> Result<(), AllocError>
+    requires rows { All IsRow rows.now }
+    requires row { IsRow row.now }
+    ensures exact { OnOk result (out.new.items
+        ≡ out.old.items ++ (spec.stint_text number (told.stint_in ending rows.now (suc used) row.now) ++ codes "\n")) }
+{
+    if is_plain(rows, row) {
+        return put_plain(out, rows, number, used, row);
+    }
+    put_stint(alloc, out, rows, number, used, row, ending)?;
+    out.extend_from_slice(b"\n")?;
+    Ok(())
+}
+
 // The lines of rows, of a run that has ended so, if it has ended.
 fn lines_of(alloc: Global, rows: &[Row], ending: Ending) -> Result<Vec<u8>, AllocError>
     requires rows { All IsRow rows.now }
@@ -185,23 +210,24 @@ fn lines_of(alloc: Global, rows: &[Row], ending: Ending) -> Result<Vec<u8>, Allo
     let mut used: u32 = 0;
     for row in rows {
         number += 1;
-        put_stint(alloc, &mut out, rows, number, used, row, ending)?;
-        out.extend_from_slice(b"\n")?;
+        put_line(alloc, &mut out, rows, number, used, row, ending)?;
         used = row.used;
     }
     Ok(out)
 }
 
-// Puts that these are the first of so many stints, where there are more.
-fn put_cut(out: &mut Vec<u8>, count: u64) -> Result<(), AllocError>
-    ensures exact { OnOk result (out.new.items ≡ out.old.items ++ spec.cut_text count) }
+// Puts that these are the first of so many stints, where there are more, and how the run has ended, if it has.
+fn put_cut(out: &mut Vec<u8>, count: u64, ended: Option<Ending>) -> Result<(), AllocError>
+    ensures exact { OnOk result (out.new.items ≡ out.old.items ++ spec.cut_text count (option_map told.meant ended)) }
 {
     if count <= 100_000 {
         return Ok(());
     }
     out.extend_from_slice(b"first 100000 of ")?;
     put_number(out, count)?;
-    out.extend_from_slice(b" stints\n")?;
+    out.extend_from_slice(b" stints")?;
+    put_how(out, ended)?;
+    out.extend_from_slice(b"\n")?;
     Ok(())
 }
 
@@ -210,13 +236,14 @@ pub(crate) fn text_of(
     alloc: Global,
     rows: &[Row],
     count: u64,
-    ending: Ending,
+    ended: Option<Ending>,
 ) -> Result<Vec<u8>, AllocError>
     requires rows { All IsRow rows.now }
     requires few { length rows.now ≤ 100000 }
-    ensures exact { IfOk result (λ text. text.items ≡ spec.text_of count (told.stints_in ending rows.now 0 rows.now)) }
+    ensures exact { IfOk result (λ text. text.items
+        ≡ spec.text_of count (option_map told.meant ended) (told.stints_in (told.ending_in ended) rows.now 0 rows.now)) }
 {
-    let mut out = lines_of(alloc, rows, ending)?;
-    put_cut(&mut out, count)?;
+    let mut out = lines_of(alloc, rows, ending_in(ended))?;
+    put_cut(&mut out, count, ended)?;
     Ok(out)
 }

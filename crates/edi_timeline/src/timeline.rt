@@ -1,9 +1,11 @@
 //! A timeline.
 
-ghost use Rattle.std.specs.Prelude.{◌≡◌, ◌≤◌, ◌<◌, ◌-◌, ◌^◌, [], IfOk, true, nat_le};
+ghost use Rattle.std.specs.Option.{option_map};
+ghost use Rattle.std.specs.Prelude.{◌≡◌, ◌≤◌, ◌<◌, ◌-◌, ◌^◌, [], IfOk, None, true, nat_le};
 ghost use Rattle.edi_timeline.specs.Adding.{CameFits, SeatFits, added, counted, is_going};
 ghost use Rattle.edi_timeline.specs.Text as text;
 ghost use Rattle.edi_timeline.specs.Picture as picture;
+ghost use Rattle.edi_timeline.specs.Told.{meant};
 ghost use Rattle.edi_timeline.specs.Timelines.{told_in, IsTimeline};
 
 use crate::adding::{count_one, is_full, put_or_count};
@@ -25,13 +27,13 @@ pub(crate) struct Kept {
     /// The number of its stints.
     pub(crate) count: u64,
     /// How it has ended, if it has.
-    pub(crate) ending: Ending,
+    pub(crate) ending: Option<Ending>,
 }
 
 // The text of what is kept.
 fn text_in(alloc: Global, kept: &Kept) -> Result<Vec<u8>, AllocError>
     requires kept { IsTimeline kept.now }
-    ensures exact { IfOk result (λ bytes. bytes.items ≡ text.text_of (told_in kept.now).count (told_in kept.now).stints) }
+    ensures exact { IfOk result (λ bytes. bytes.items ≡ text.text_of (told_in kept.now).count (told_in kept.now).ending (told_in kept.now).stints) }
 {
     text_of(alloc, &kept.rows, kept.count, kept.ending)
 }
@@ -39,14 +41,14 @@ fn text_in(alloc: Global, kept: &Kept) -> Result<Vec<u8>, AllocError>
 // The picture of what is kept.
 fn picture_in(alloc: Global, kept: &Kept) -> Result<Vec<u8>, AllocError>
     requires kept { IsTimeline kept.now }
-    ensures exact { IfOk result (λ bytes. bytes.items ≡ picture.picture_of (told_in kept.now).count (told_in kept.now).stints) }
+    ensures exact { IfOk result (λ bytes. bytes.items ≡ picture.picture_of (told_in kept.now).count (told_in kept.now).ending (told_in kept.now).stints) }
 {
     picture_of(alloc, &kept.rows, kept.count, kept.ending)
 }
 
 /// A timeline: the first 100,000 stints of a run, and how many there were. All its memory, 4 MB, is taken at the start.
 ///
-/// Contracts see the stints, each with the first seven characters that were shown in it, and their number.
+/// Contracts see the stints, each with the first seven characters that were shown in it, their number, and how the run has ended, if it has.
 #[derive(Drop)]
 pub struct Timeline {
     kept: Kept,
@@ -65,13 +67,13 @@ impl Model for Timeline {
 impl Timeline {
     /// The timeline of a run that has not begun. The only error is want of memory.
     pub fn new(alloc: Global) -> Result<Timeline, AllocError>
-        ensures empty { IfOk result (λ timeline. timeline ≡ record { stints = []; count = 0 }) }
+        ensures empty { IfOk result (λ timeline. timeline ≡ record { stints = []; count = 0; ending = None }) }
     {
         Ok(Timeline {
             kept: Kept {
                 rows: Vec::with_capacity(alloc, MOST_ROWS)?,
                 count: 0,
-                ending: Ending::Done,
+                ending: None,
             },
         })
     }
@@ -90,13 +92,13 @@ impl Timeline {
         is_full(&self.kept)
     }
 
-    /// Counts a stint more, of a run of which no further stints are kept.
-    pub fn skip(&mut self)
+    /// Counts a stint more, of a run of which no further stints are kept. The stint has ended the run so, if it has.
+    pub fn skip(&mut self, ended: Option<Ending>)
         requires full { 100000 ≤ self.old.count }
         requires small { self.old.count < 2 ^ 64 - 1 }
-        ensures exact { self.new ≡ counted self.old }
+        ensures exact { self.new ≡ counted self.old (option_map meant ended) }
     {
-        count_one(&mut self.kept);
+        count_one(&mut self.kept, ended);
     }
 
     /// Adds a stint that ended when so many turns were used in all. Where 100,000 are kept already, it is only counted. It takes no memory.
@@ -113,16 +115,17 @@ impl Timeline {
         put_or_count(&mut self.kept, seat, came, used, said);
     }
 
-    /// Its text: a line for each of the stints, and how many there were where it has the first 100,000 of them. The only error is want of memory.
+    /// Its text: a line for each of the stints. Where it has the first 100,000 of them, one more line says how many there were, and how the run has ended.
+    /// The only error is want of memory.
     pub fn text(&self, alloc: Global) -> Result<Vec<u8>, AllocError>
-        ensures exact { IfOk result (λ bytes. bytes.items ≡ text.text_of self.now.count self.now.stints) }
+        ensures exact { IfOk result (λ bytes. bytes.items ≡ text.text_of self.now.count self.now.ending self.now.stints) }
     {
         text_in(alloc, &self.kept)
     }
 
     /// Its picture, of the first 1,000 stints, as SVG. The only error is want of memory.
     pub fn picture(&self, alloc: Global) -> Result<Vec<u8>, AllocError>
-        ensures exact { IfOk result (λ bytes. bytes.items ≡ picture.picture_of self.now.count self.now.stints) }
+        ensures exact { IfOk result (λ bytes. bytes.items ≡ picture.picture_of self.now.count self.now.ending self.now.stints) }
     {
         picture_in(alloc, &self.kept)
     }

@@ -1,5 +1,6 @@
 //! The words of a line, put after bytes.
 
+ghost use Rattle.std.specs.Option.{option_map};
 ghost use Rattle.std.specs.Prelude.{◌≡◌, ◌+◌, ◌++◌, ◌∷◌, ◌<◌, ◌≤◌, ◌^◌, [], OnOk, codes, decimal, length};
 ghost use Rattle.edi_calls.specs.Outcome as outcome;
 ghost use Rattle.edi_timeline.specs.Told.{meant};
@@ -91,11 +92,38 @@ pub fn put_ending(out: &mut Vec<u8>, ending: Ending) -> Result<(), AllocError>
     Ok(())
 }
 
-// Puts `\N`.
+// What makes a number one of three digits.
+fn zeros_before(c: u8) -> &'static [u8]
+    ensures exact { result.now ≡ spec.zeros_before c }
+{
+    if c < 10 {
+        return b"00";
+    }
+    if c < 100 {
+        return b"0";
+    }
+    b""
+}
+
+// Puts `: ENDING`, if there is one.
+pub(crate) fn put_how(out: &mut Vec<u8>, ended: Option<Ending>) -> Result<(), AllocError>
+    ensures exact { OnOk result (out.new.items ≡ out.old.items ++ spec.how_text (option_map meant ended)) }
+{
+    match ended {
+        Some(ending) => {
+            out.extend_from_slice(b": ")?;
+            put_ending(out, ending)
+        }
+        None => Ok(()),
+    }
+}
+
+// Puts `\N`, in three digits.
 fn put_code(out: &mut Vec<u8>, c: u8) -> Result<(), AllocError>
-    ensures exact { OnOk result (out.new.items ≡ out.old.items ++ (codes "\\" ++ decimal c)) }
+    ensures exact { OnOk result (out.new.items ≡ out.old.items ++ (codes "\\" ++ (spec.zeros_before c ++ decimal c))) }
 {
     out.extend_from_slice(b"\\")?;
+    out.extend_from_slice(zeros_before(c))?;
     put_number(out, u64::from(c))
 }
 

@@ -57,11 +57,11 @@ record_there : (name : Option (List ℕ)) → IsSome name → not (is_none name)
 record_there None there = absurd (cc)
 record_there (Some name) there = refl
 
-or_second : (a b : Bool) → b ≡ true → (a || b) ≡ true
+pub or_second : (a b : Bool) → b ≡ true → (a || b) ≡ true
 or_second true b h = refl
 or_second false b h = h
 
-or_first : (a b : Bool) → a ≡ true → (a || b) ≡ true
+pub or_first : (a b : Bool) → a ≡ true → (a || b) ≡ true
 or_first true b h = refl
 or_first false b h = absurd (true≢false (sym h))
 
@@ -72,7 +72,7 @@ IsOfDemo status.DriveFault = ⊥
 IsOfDemo status.InputFault = ⊥
 IsOfDemo _ = ⊤
 
-no_image : (o : Outside) (input : List ℕ) (broken : MountFault) → Mounts (with_own [] input o) (stops (status.BadImage broken)) → ⊥
+pub no_image : (o : Outside) (input : List ℕ) (broken : MountFault) → Mounts (with_own [] input o) (stops (status.BadImage broken)) → ⊥
 no_image o input broken h = let never = h.2 in absurd (cc)
 
 -- ---- the meaning of a status
@@ -81,11 +81,11 @@ module _ (n : ℕ) (o : Options) (before after : Outside) (blocks : SameBlocks b
   abbrev MeansHere : Status → (shown : List ℕ) → Type 0
   MeansHere s shown = MeansOf s (words.demo n o) before after shown kernel
 
-  on_its_own : (P : Outside → Outside → Type 0) (disk : List (List ℕ)) (left : List ℕ) → P (with_own [] [] before) (with_own disk left after)
+  pub on_its_own : (P : Outside → Outside → Type 0) (disk : List (List ℕ)) (left : List ℕ) → P (with_own [] [] before) (with_own disk left after)
       → OnItsOwn P before after
   on_its_own P disk left h = record { disk = disk; left = left; is = h; blocks = blocks; input = input }
 
-  own_nothing : (disk : List (List ℕ)) (left shown : List ℕ) → IsNothing (with_own [] [] before) (with_own disk left after) shown kernel
+  pub own_nothing : (disk : List (List ℕ)) (left shown : List ℕ) → IsNothing (with_own [] [] before) (with_own disk left after) shown kernel
       → IsNothing before after shown kernel
   own_nothing disk left shown h = record {
     shown_ = h.shown_;
@@ -180,7 +180,7 @@ module _ (n : ℕ) (o : Options) (before after : Outside) (blocks : SameBlocks b
     refused (status.BadCode broken) refusal h = inl (h, nothing)
     refused s refusal h = absurd refusal
 
-    not_begun : HasNotBegun before after [] kernel
+    pub not_begun : HasNotBegun before after [] kernel
     not_begun = record { shown_ = refl; blocks = blocks; input = input; printed = nothing.same.printed; kernel_same = nothing.kernel_same }
 
     -- the choices were not read

@@ -31,9 +31,9 @@ use Rattle.edi_statuses.specs.Timelines.{HasTimed, IsTimeline, KeepsAll, TimedIn
 use Rattle.edi_statuses.proofs.EachLeft.{each_same}
 use Rattle.edi_statuses.proofs.Told.{same_told, still, shows_nothing, told_so}
 use Rattle.edi_commands.specs.steps.NotMounted.{mount_status}
-use Rattle.edi_commands.specs.run.CodeRan.{ending_status}
+use Rattle.edi_commands.specs.run.CodeRan.{RanCode, ending_status}
 use Rattle.edi_commands.specs.run.OnMounted.{DriveAsked, OnMounted}
-use Rattle.edi_commands.specs.run.OnTimed.{OnTimed, ProgramTimed, RanTimed, timed_status}
+use Rattle.edi_commands.specs.run.OnTimed.{OnTimed, ProgramTimed, RanTimed, RanWith, timed_status}
 use Rattle.edi_commands.proofs.run.Asked.{asked_so}
 use Rattle.edi_commands.proofs.run.Endings.{broke_run, has_ran, status_is}
 use Rattle.edi_commands.proofs.run.Left.{devices_told, ending_of, told_by, IsNoFault}
@@ -46,6 +46,17 @@ use Rattle.edi_commands.proofs.text.ManyNames.{all_kept, keeps_first, loses_next
 pub has_code : (program : Runnable) (parts : CodeParts) → IsOf (timable program) parts → HasCode program parts
 has_code (text bytes) parts (unit, is, can, same) = subst (IsCodeFor bytes) (sym same) (texts_do_as_meant bytes unit is)
 has_code (code own) parts is = is
+
+-- a run whose code may be made of its program is one of the code that is made of it
+pub ran_plainly : (parts : CodeParts) (bound : ℕ) (choices : Choices) (name : Option (List ℕ)) (s : Status) (due : Bool) (before after : Outside)
+    (kernel : Lent) → RanCode parts bound choices name s due before after kernel → RanWith None parts bound choices name s due before after kernel
+ran_plainly parts bound choices name s due before after kernel r = record {
+  shown = r.shown;
+  ran = λ program is. r.ran program (has_code program parts is);
+  shows = r.shows;
+  due_is = r.due_is;
+  each = r.each;
+}
 
 -- ---- nothing was kept
 

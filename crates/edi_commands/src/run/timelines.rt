@@ -65,7 +65,7 @@ fn keep_record<F: Files>(
 /// Keeps a timeline as lines.
 fn keep_lines<F: Files>(alloc: Global, files: &mut F, out: &str, timeline: &Timeline) -> KeepEnd
     ensures leaves { WhereTold (F.contents files.old) (F.contents files.new)
-        (KeepLeaves result (out.now ++ codes ".txt") (text_of timeline.now.count timeline.now.stints)) }
+        (KeepLeaves result (out.now ++ codes ".txt") (text_of timeline.now.count timeline.now.ending timeline.now.stints)) }
     ensures later { F.faults files.old ≤ F.faults files.new }
     ensures cause { result ≡ KeepEnd.Failed → CountRose (F.faults files.old) (F.faults files.new) }
 {
@@ -81,7 +81,7 @@ fn keep_lines<F: Files>(alloc: Global, files: &mut F, out: &str, timeline: &Time
 /// Keeps a timeline as a picture.
 fn keep_picture<F: Files>(alloc: Global, files: &mut F, out: &str, timeline: &Timeline) -> KeepEnd
     ensures leaves { WhereTold (F.contents files.old) (F.contents files.new)
-        (KeepLeaves result (out.now ++ codes ".svg") (picture_of timeline.now.count timeline.now.stints)) }
+        (KeepLeaves result (out.now ++ codes ".svg") (picture_of timeline.now.count timeline.now.ending timeline.now.stints)) }
     ensures later { F.faults files.old ≤ F.faults files.new }
     ensures cause { result ≡ KeepEnd.Failed → CountRose (F.faults files.old) (F.faults files.new) }
 {

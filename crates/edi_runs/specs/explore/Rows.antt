@@ -53,9 +53,9 @@ pub row_waits : ending_line false [] 0 1 (record (reached outcome.standstill [] 
 unfolding digits
 row_waits = refl
 
--- where output is asked for: a line feed is told as `\n`, a quotation mark by its number; and what is shown comes before who waits
+-- where output is asked for: a line feed is told as `\n`, a quotation mark by its number of three digits; and what is shown comes before who waits
 pub row_shown : ending_line true [] 0 1 (record (reached outcome.done (0 ∷ 0 ∷ []) 13) { shown = codes "a\"1\n" })
-    ≡ codes "done after 13 turns: choices 0 0\n  shown \"a\\341\\n\"\n"
+    ≡ codes "done after 13 turns: choices 0 0\n  shown \"a\\0341\\n\"\n"
 unfolding digits
 row_shown = refl
 

@@ -1,6 +1,6 @@
 //! A run with its timeline, on a system.
 
-ghost use Rattle.std.specs.Prelude.{◌≡◌, ◌≤◌, ◌<◌, ◌+◌, ◌^◌, ◌↔◌, [], IsSome, Some};
+ghost use Rattle.std.specs.Prelude.{◌≡◌, ◌≤◌, ◌<◌, ◌+◌, ◌^◌, ◌↔◌, [], IsSome, None, Some};
 ghost use Rattle.edi_told.specs.Told.{WhereTold};
 ghost use Rattle.edi_calls.specs.declared.ends.Outside.{Outside};
 ghost use Rattle.edi_calls.specs.State.{fresh};
@@ -29,7 +29,7 @@ pub(crate) fn time_execution<D: Drive, S: Source, T: Sink, P: Sink>(
     timeline: &mut Timeline,
 ) -> Ending
     requires ready { IsReady D.contents D.count system.old }
-    requires empty { timeline.old ≡ record { stints = []; count = 0 } }
+    requires empty { timeline.old ≡ record { stints = []; count = 0; ending = None } }
     // As for `execute`; and the timeline tells the stints of the run.
     ensures exact { choices.old.drawn + bound < 2 ^ 64 → WhereTold (state_of D.contents S.left T.taken P.taken system.old)
         (state_of D.contents S.left T.taken P.taken system.new)

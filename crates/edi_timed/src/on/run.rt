@@ -1,6 +1,6 @@
 //! A run with its timeline, on four objects.
 
-ghost use Rattle.std.specs.Prelude.{◌≡◌, ◌≤◌, ◌<◌, ◌+◌, ◌^◌, ◌↔◌, [], IfErr, IfOk, IsSome, Some};
+ghost use Rattle.std.specs.Prelude.{◌≡◌, ◌≤◌, ◌<◌, ◌+◌, ◌^◌, ◌↔◌, [], IfErr, IfOk, IsSome, None, Some};
 ghost use Rattle.edi_told.specs.Faults.{CountRose};
 ghost use Rattle.edi_told.specs.Told.{WhereTold};
 ghost use Rattle.edi_calls.specs.declared.ends.Outside.{Outside};
@@ -37,7 +37,7 @@ pub fn time_on<D: Drive, S: Source, T: Sink, P: Sink>(
     choices: &mut Choices,
     timeline: &mut Timeline,
 ) -> Result<Ran, MountFault>
-    requires empty { timeline.old ≡ record { stints = []; count = 0 } }
+    requires empty { timeline.old ≡ record { stints = []; count = 0; ending = None } }
     // As for `run_on`.
     ensures leaves { IfOk result (λ ran. RunLeaves D.contents S.left T.taken P.taken code.now bound choices.old ran kernel.new.store kernel.new.used choices.new
         (objects drive.old input.old terminal.old printer.old) (objects drive.new input.new terminal.new printer.new)) }

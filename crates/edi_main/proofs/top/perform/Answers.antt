@@ -9,8 +9,8 @@ use Rattle.edi_statuses.specs.Outside.{kernel_of}
 use Rattle.edi_statuses.proofs.EachLeft.{same_valid, untouched, untouched_alone, untouched_but_input, untouched_but_kernel, untouched_drive}
 use Rattle.edi_statuses.proofs.Silent.{on_files}
 use Rattle.edi_statuses.proofs.Told.{told_so}
-use Rattle.edi_main.proofs.Obeyed.{counts_so, obeyed, obeyed_demo, obeyed_replay, obeyed_so, on_disk, unmounted_last, unmounted_never, unmounted_so}
-use Rattle.edi_main.proofs.Obeyed.{came_else, came_run, never_on_disk, never_on_files, run_so, terminal_rose, untouched_so}
+use Rattle.edi_main.proofs.Obeyed.{counts_so, obeyed, obeyed_demo, obeyed_replay, obeyed_so, obeyed_timed_demo, on_disk, unmounted_last, unmounted_never}
+use Rattle.edi_main.proofs.Obeyed.{came_else, came_run, never_on_disk, never_on_files, run_so, terminal_rose, unmounted_so, untouched_so}
 use Rattle.edi_main.proofs.top.perform.Goals as goal
 
 pub returns-in-Compile-clause-came : goal.returns-in-Compile-clause-came
@@ -366,6 +366,36 @@ pub returns-in-TimeCode-clause-unmounted : goal.returns-in-TimeCode-clause-unmou
 returns-in-TimeCode-clause-unmounted g c =
     unmounted_so c.args.command (command.TimeCode c.in-TimeCode.file c.in-TimeCode.out c.in-TimeCode.options) c.time_file-in-TimeCode.result.status c.time_file-in-TimeCode.result.status _ _ c.in-TimeCode.is refl
     (unmounted_last (words.time_code c.in-TimeCode.file.now c.in-TimeCode.out.now (options_of c.in-TimeCode.options)) c.time_file-in-TimeCode.result.status _ _ refl c.time_file-in-TimeCode.ensures.unmounted)
+
+pub returns-in-TimeDemo-clause-came : goal.returns-in-TimeDemo-clause-came
+returns-in-TimeDemo-clause-came g c =
+    let came = c.demonstrate-in-TimeDemo.ensures.came in
+    came_run (Some (view c.args.command)) c.demonstrate-in-TimeDemo.result.status c.demonstrate-in-TimeDemo.result.due _ _ _ _ _
+    (ap (λ x. command_does uses_devices (Some (view x))) c.in-TimeDemo.is)
+    (c.demonstrate-in-TimeDemo.ensures.cause (g.D.Drive.faults c.args.drive.now) (g.S.Source.faults c.args.input.now)) came.0 came.1
+    (obeyed_timed_demo c.args.command c.in-TimeDemo.n c.from-in-TimeDemo.result c.in-TimeDemo.out c.in-TimeDemo.options
+    c.demonstrate-in-TimeDemo.result.status c.demonstrate-in-TimeDemo.result.due _ _ _ c.in-TimeDemo.is c.from-in-TimeDemo.ensures
+    (came.2 (g.D.Drive.contents c.args.drive.now) (g.S.Source.left c.args.input.now)))
+
+pub returns-in-TimeDemo-clause-cause : goal.returns-in-TimeDemo-clause-cause
+returns-in-TimeDemo-clause-cause g c =
+    c.demonstrate-in-TimeDemo.ensures.cause (g.D.Drive.faults c.args.drive.now) (g.S.Source.faults c.args.input.now)
+
+pub returns-in-TimeDemo-clause-untouched : goal.returns-in-TimeDemo-clause-untouched
+returns-in-TimeDemo-clause-untouched g c =
+    let s = c.demonstrate-in-TimeDemo.result.status in
+    let named : Command = command.TimeDemo c.in-TimeDemo.n c.in-TimeDemo.out c.in-TimeDemo.options in
+    untouched_so c.args.command named s s _ _ c.in-TimeDemo.is refl
+    (untouched_alone _ _ (view named) s refl refl (λ e. e) c.demonstrate-in-TimeDemo.ensures.no_files refl refl
+    (λ early.
+    let none = c.demonstrate-in-TimeDemo.ensures.early early in
+    record { drive = refl; input = refl; terminal = none.0; printer = none.1; kernel = none.2 }))
+
+pub returns-in-TimeDemo-clause-unmounted : goal.returns-in-TimeDemo-clause-unmounted
+returns-in-TimeDemo-clause-unmounted g c =
+    let s = c.demonstrate-in-TimeDemo.result.status in
+    let named : Command = command.TimeDemo c.in-TimeDemo.n c.in-TimeDemo.out c.in-TimeDemo.options in
+    unmounted_so c.args.command named s s _ _ c.in-TimeDemo.is refl (unmounted_never (view named) s _ _ refl refl)
 
 pub returns-in-Run-clause-came : goal.returns-in-Run-clause-came
 returns-in-Run-clause-came g c =

@@ -1,7 +1,9 @@
 -- A stint that is added, or only counted.
-use Rattle.std.proofs.Common.{◌≡◌, suc, arith, sym, ap, ◌∙◌}
+use Rattle.std.proofs.Common.{◌≡◌, suc, arith, sym, ap, ◌∙◌, option_map}
 use Rattle.std.proofs.lemmas.Bool.{leb-true, leb-false}
+use Rattle.edi_timeline.specs.Adding.{counted}
 use Rattle.edi_timeline.specs.Timelines.{Told}
+use Rattle.edi_timeline.specs.Told.{meant}
 use Rattle.edi_timed.specs.Seats.{Fitting}
 use Rattle.edi_timed.proofs.Adding.{adds_so, counts_so, full_fits, more_fits, one_counted, seat_ok}
 use Rattle.edi_timed.proofs.running.add_stint.Goals as goal
@@ -12,12 +14,14 @@ skip-requires-clause-full c = leb-true 100000 c.args.timeline.now.count (sym c.i
 pub returns-then-is_full-clause-exact : goal.returns-then-is_full-clause-exact
 returns-then-is_full-clause-exact c =
     counts_so c.args.code.now.words c.args.kernel.now c.args.begun c.args.end c.args.said c.args.seats.now.items c.args.seats.now.items c.args.timeline.now
-    c.skip.new.self (sym c.is_full.ensures ∙ c.if-is_full.true) c.skip.ensures.exact
+    c.skip.new.self (sym c.is_full.ensures ∙ c.if-is_full.true)
+    (c.skip.ensures.exact ∙ ap (λ o. counted c.args.timeline.now (option_map meant o)) c.ended_by.ensures.exact)
 
 pub returns-then-is_full-clause-fits : goal.returns-then-is_full-clause-fits
 returns-then-is_full-clause-fits c = λ going.
     full_fits c.args.code.now.words c.args.kernel.now c.args.begun c.args.end c.args.said c.args.seats.now.items c.args.seats.now.items c.args.timeline.now
-    c.skip.new.self (sym c.is_full.ensures ∙ c.if-is_full.true) c.skip.ensures.exact
+    c.skip.new.self (sym c.is_full.ensures ∙ c.if-is_full.true)
+    (c.skip.ensures.exact ∙ ap (λ o. counted c.args.timeline.now (option_map meant o)) c.ended_by.ensures.exact)
 
 pub returns-then-is_full-clause-count : goal.returns-then-is_full-clause-count
 returns-then-is_full-clause-count c =

@@ -10,4 +10,5 @@ count_one-requires-clause-full c = leb-true 100000 c.args.kept.now.count (sym c.
 pub returns-then-is_full-clause-exact : goal.returns-then-is_full-clause-exact
 returns-then-is_full-clause-exact c =
     c.count_one.ensures.exact
-    ∙ added_full (told_in c.args.kept.now) c.args.seat c.args.came c.args.used c.args.said (sym c.is_full.ensures.exact ∙ c.if-is_full.true)
+    ∙ added_full (told_in c.args.kept.now) c.args.seat c.args.came c.args.used c.args.said c.ended_with.result c.ended_with.ensures.exact
+    (sym c.is_full.ensures.exact ∙ c.if-is_full.true)

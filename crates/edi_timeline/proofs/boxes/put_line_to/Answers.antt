@@ -1,43 +1,34 @@
-use Rattle.std.proofs.Common.{◌≡◌, ◌++◌, ◌∙◌, ℕ, List, ap, subst}
+use Rattle.std.proofs.Common.{◌≡◌, ◌++◌, ℕ, List, subst}
 use Rattle.std.specs.Prelude.{OnOk}
-use Rattle.edi_calls.specs.Names.{same}
-use Rattle.edi_calls.specs.Ready.{parent_of}
-use Rattle.edi_timeline.specs.Told.{process_in, row_at}
-use Rattle.edi_timeline.specs.Sheet.{line_in}
+use Rattle.edi_timeline.specs.Told.{process_in}
+use Rattle.edi_timeline.specs.Sheet.{line_for}
 use Rattle.edi_timeline.proofs.Boxed.{found_here, parent_here, further_back}
 use Rattle.edi_timeline.proofs.boxes.put_line_to.Goals as goal
 
 pub returns-then-is_same : goal.returns-then-is_same
 returns-then-is_same c = record {
   exact =
-      subst (λ (o : List ℕ). OnOk c.put_line_back.result (c.put_line_back.new.out.items ≡ o ++ line_in c.args.sheet.now c.args.index))
+      subst (λ (o : List ℕ). OnOk c.put_line_back.result (c.put_line_back.new.out.items ≡ o ++ line_for c.args.sheet.now c.args.row.now c.args.index))
       c.loop-back.invariant.same
       (subst (λ (l : List ℕ). OnOk c.put_line_back.result (c.put_line_back.new.out.items ≡ c.loop-back.out.items ++ l))
       (found_here c.args.sheet.now.ending c.args.sheet.now.rows.now c.args.sheet.now.few.now
-      (process_in c.args.sheet.now.rows.now (row_at c.args.sheet.now.few.now c.args.index)) c.args.index c.loop-back.back c.loop-back-test.true
+      (process_in c.args.sheet.now.rows.now c.args.row.now) c.args.index c.loop-back.back c.loop-back-test.true
       c.row_at-before.result c.row_at-before.ensures.exact c.is_same.result
-      (c.is_same.ensures.exact
-      ∙ ap (λ r. same (process_in c.args.sheet.now.rows.now c.row_at-before.result) (process_in c.args.sheet.now.rows.now r)) c.row_at-row.ensures.exact)
-      c.if-is_same.true c.loop-back.invariant.line) c.put_line_back.ensures.exact);
+      c.is_same.ensures.exact c.if-is_same.true c.loop-back.invariant.line) c.put_line_back.ensures.exact);
 }
 
 pub returns-then-is_of_parent : goal.returns-then-is_of_parent
 returns-then-is_of_parent c = record {
   exact =
       subst (λ (o : List ℕ). OnOk c.put_line_back-then-is_of_parent.result
-      (c.put_line_back-then-is_of_parent.new.out.items ≡ o ++ line_in c.args.sheet.now c.args.index)) c.loop-back.invariant.same
+      (c.put_line_back-then-is_of_parent.new.out.items ≡ o ++ line_for c.args.sheet.now c.args.row.now c.args.index)) c.loop-back.invariant.same
       (subst (λ (l : List ℕ). OnOk c.put_line_back-then-is_of_parent.result
       (c.put_line_back-then-is_of_parent.new.out.items ≡ c.loop-back.out.items ++ l))
       (parent_here c.args.sheet.now.ending c.args.sheet.now.rows.now c.args.sheet.now.few.now
-      (process_in c.args.sheet.now.rows.now (row_at c.args.sheet.now.few.now c.args.index)) c.args.index c.loop-back.back c.loop-back-test.true
+      (process_in c.args.sheet.now.rows.now c.args.row.now) c.args.index c.loop-back.back c.loop-back-test.true
       c.row_at-before.result c.row_at-before.ensures.exact c.is_same.result c.is_of_parent.result
-      (c.is_same.ensures.exact
-      ∙ ap (λ r. same (process_in c.args.sheet.now.rows.now c.row_at-before.result) (process_in c.args.sheet.now.rows.now r)) c.row_at-row.ensures.exact)
-      c.if-is_same.false
-      (c.is_of_parent.ensures.exact
-      ∙ ap (λ r. same (process_in c.args.sheet.now.rows.now c.row_at-before.result) (parent_of (process_in c.args.sheet.now.rows.now r)))
-      c.row_at-row.ensures.exact)
-      c.if-is_of_parent.true c.loop-back.invariant.line) c.put_line_back-then-is_of_parent.ensures.exact);
+      c.is_same.ensures.exact c.if-is_same.false
+      c.is_of_parent.ensures.exact c.if-is_of_parent.true c.loop-back.invariant.line) c.put_line_back-then-is_of_parent.ensures.exact);
 }
 
 pub loop-back-preserved : goal.loop-back-preserved
@@ -45,13 +36,8 @@ loop-back-preserved c = record {
   same = c.loop-back.invariant.same;
   line =
       further_back c.args.sheet.now.ending c.args.sheet.now.rows.now c.args.sheet.now.few.now
-      (process_in c.args.sheet.now.rows.now (row_at c.args.sheet.now.few.now c.args.index)) c.args.index c.loop-back.back c.loop-back-test.true
+      (process_in c.args.sheet.now.rows.now c.args.row.now) c.args.index c.loop-back.back c.loop-back-test.true
       c.row_at-before.result c.row_at-before.ensures.exact c.is_same.result c.is_of_parent.result
-      (c.is_same.ensures.exact
-      ∙ ap (λ r. same (process_in c.args.sheet.now.rows.now c.row_at-before.result) (process_in c.args.sheet.now.rows.now r)) c.row_at-row.ensures.exact)
-      c.if-is_same.false
-      (c.is_of_parent.ensures.exact
-      ∙ ap (λ r. same (process_in c.args.sheet.now.rows.now c.row_at-before.result) (parent_of (process_in c.args.sheet.now.rows.now r)))
-      c.row_at-row.ensures.exact)
-      c.if-is_of_parent.false c.loop-back.invariant.line;
+      c.is_same.ensures.exact c.if-is_same.false
+      c.is_of_parent.ensures.exact c.if-is_of_parent.false c.loop-back.invariant.line;
 }

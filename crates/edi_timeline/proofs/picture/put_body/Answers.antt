@@ -13,12 +13,12 @@ returns c = record {
       five c.args.out.now.items c.put_lanes.new.out.items c.extend_from_slice.new.self.items c.put_boxes.new.out.items c.extend_from_slice-2.new.self.items
       c.extend_from_slice-3.new.self.items (lane_names 0 (lanes_in c.args.sheet.now)) (codes "<g text-anchor=\"middle\">\n")
       (boxes (lanes_in c.args.sheet.now) 1 [] (stints_in c.args.sheet.now.ending c.args.sheet.now.rows.now 0 c.args.sheet.now.few.now)) (codes "</g>\n")
-      (moved 8 (lane_y (length (lanes_in c.args.sheet.now)) + 6) ++ (key ++ codes "</g>\n</svg>\n")) c.in_ok-put_lanes.ensures.exact
+      (moved 8 (lane_y (length (lanes_in c.args.sheet.now)) + 10) ++ (key ++ codes "</g>\n</svg>\n")) c.in_ok-put_lanes.ensures.exact
       c.in_ok-extend_from_slice.ensures.items c.in_ok-put_boxes.ensures.exact c.in_ok-extend_from_slice-2.ensures.items
       (three c.extend_from_slice-2.new.self.items c.put_moved.new.out.items c.put_key.new.out.items c.extend_from_slice-3.new.self.items
-      (moved 8 (lane_y (length (lanes_in c.args.sheet.now)) + 6)) key (codes "</g>\n</svg>\n")
+      (moved 8 (lane_y (length (lanes_in c.args.sheet.now)) + 10)) key (codes "</g>\n</svg>\n")
       (c.in_ok-put_moved.ensures.exact
-      ∙ ap (λ y. c.extend_from_slice-2.new.self.items ++ moved 8 (y + 6))
+      ∙ ap (λ y. c.extend_from_slice-2.new.self.items ++ moved 8 (y + 10))
       (c.lane_y.ensures.exact ∙ ap lane_y (sym (length-map c.args.sheet.now.lanes.now (process_in c.args.sheet.now.rows.now)))))
       c.in_ok-put_key.ensures.exact c.in_ok-extend_from_slice-3.ensures.items);
 }

@@ -1,4 +1,5 @@
-use Rattle.std.proofs.Common.{◌∙◌, arith}
+use Rattle.std.proofs.Common.{◌≡◌, ◌∙◌, ℕ, List, arith, subst}
+use Rattle.std.specs.Prelude.{OnOk}
 use Rattle.edi_timeline.specs.Sheet.{lanes_in}
 use Rattle.edi_timeline.proofs.Boxed.{box_on, boxes_done}
 use Rattle.edi_timeline.proofs.picture.put_boxes.Goals as goal
@@ -14,6 +15,8 @@ loop-index-preserved c = record {
 pub returns : goal.returns
 returns c = record {
   exact =
-      boxes_done c.args.sheet.now.ending c.args.sheet.now.rows.now c.args.sheet.now.few.now (lanes_in c.args.sheet.now) c.loop-index.index
-      c.loop-index.out.items _ (omega (arith, c.loop-index-test.false)) c.loop-index.invariant.text;
+      subst (λ (l : List ℕ). OnOk c.put_lines_on.result (c.put_lines_on.new.out.items ≡ l))
+      (boxes_done c.args.sheet.now.ending c.args.sheet.now.rows.now c.args.sheet.now.few.now (lanes_in c.args.sheet.now) c.loop-index.index
+      c.loop-index.out.items _ (omega (arith, c.loop-index-test.false, c.loop-index.invariant.within)) c.loop-index.invariant.text)
+      c.put_lines_on.ensures.exact;
 }

@@ -5,8 +5,8 @@ use Rattle.edi_timeline.proofs.text.lines_of.Goals as goal
 pub loop-row-preserved : goal.loop-row-preserved
 loop-row-preserved c = record {
   text =
-      line_on c.args.ending c.args.rows.now c.loop-row.used c.loop-row.number c.loop-row.row-index _ c.loop-row.out.items c.put_stint.new.out.items
-      c.extend_from_slice.new.self.items c.loop-row-test.true c.in_ok-put_stint.ensures.exact c.in_ok-extend_from_slice.ensures.items
+      line_on c.args.ending c.args.rows.now c.loop-row.used c.loop-row.number c.loop-row.row-index _ c.loop-row.out.items c.put_line.new.out.items
+      c.loop-row-test.true c.in_ok-put_line.ensures.exact
       ∙ c.loop-row.invariant.text;
   number = omega (arith, c.loop-row.invariant.number);
 }

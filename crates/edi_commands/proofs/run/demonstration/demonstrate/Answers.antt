@@ -1,5 +1,5 @@
 -- The exits of `demo`.
-use Rattle.std.proofs.Common.{rules, ◌≡◌, ◌∙◌, None, Some, true, false, subst}
+use Rattle.std.proofs.Common.{rules, ◌≡◌, ◌∙◌, None, Some, true, false, option_map, subst}
 use Rattle.edi_calls.specs.declared.ends.Outside.TheVariants as object
 use Rattle.edi_words.specs.View.{options_of}
 use Rattle.edi_statuses.specs.Outside.{blaming, kernel_of, lent}
@@ -9,13 +9,14 @@ use Rattle.edi_commands.specs.run.Demonstrated.{is_ok}
 use Rattle.edi_commands.proofs.run.Asked.{never_early, shown_behind}
 use Rattle.edi_commands.proofs.run.Alone.{lined, of_demo, ran_alone, uncoded, unread}
 use Rattle.edi_commands.proofs.run.Coded.{line_is, ok_is}
+use Rattle.edi_commands.proofs.run.TimedDemo.{no_file_named}
 use Rattle.edi_commands.proofs.run.demonstration.demonstrate.Goals as goal
 
 pub returns-in-Err-clause-came : goal.returns-in-Err-clause-came
 returns-in-Err-clause-came g c = (
   None,
   tt,
-  unread c.args.n (options_of c.args.options) (g.F.Files.contents c.args.files.now) (g.F.Files.contents c.read_from.new.files)
+  unread c.args.n (option_map (λ name. name.now) c.args.timeline) (options_of c.args.options) (g.F.Files.contents c.args.files.now) (g.F.Files.contents c.read_from.new.files)
       c.in-Err.ensures.only.unchanged (g.T.Sink.taken c.args.terminal.now) (g.P.Sink.taken c.args.printer.now)
       (kernel_of c.args.kernel.now.store c.args.kernel.now.used) c.in-Err.status c.stopped.result.status c.stopped.result.due c.stopped.ensures.status_is
       c.stopped.ensures.due c.in-Err.ensures.reads,
@@ -25,7 +26,7 @@ pub returns-in-Err-demo_code-clause-came : goal.returns-in-Err-demo_code-clause-
 returns-in-Err-demo_code-clause-came g c = (
   None,
   tt,
-  uncoded c.args.n (options_of c.args.options) (g.F.Files.contents c.args.files.now) (g.F.Files.contents c.read_from.new.files)
+  uncoded c.args.n (option_map (λ name. name.now) c.args.timeline) (options_of c.args.options) (g.F.Files.contents c.args.files.now) (g.F.Files.contents c.read_from.new.files)
       c.in-Ok.ensures.only.unchanged (g.T.Sink.taken c.args.terminal.now) (g.P.Sink.taken c.args.printer.now)
       (kernel_of c.args.kernel.now.store c.args.kernel.now.used) c.stopped-in-Err-demo_code.result.status c.stopped-in-Err-demo_code.result.due
       (c.stopped-in-Err-demo_code.ensures.status_is ∙ c.in-Err-demo_code.ensures.made) c.stopped-in-Err-demo_code.ensures.due,
@@ -38,7 +39,7 @@ returns-then-not-is_ok-clause-came g c =
     let not_ok : is_ok c.run_alone-ended.result.status ≡ false = search rules in (
       r.0,
       r.1,
-      ran_alone c.args.n (options_of c.args.options) (g.F.Files.contents c.args.files.now) (g.F.Files.contents c.read_from.new.files)
+      ran_alone c.args.n (option_map (λ name. name.now) c.args.timeline) (options_of c.args.options) (g.F.Files.contents c.args.files.now) (g.F.Files.contents c.read_from.new.files)
           (g.F.Files.contents c.run_alone-ended.new.files) c.in-Ok.choices.source c.in-Ok.ensures.reads.1 c.in-Ok.ensures.only.unchanged c.run_alone-ended.ensures.tells
           c.in-Ok-demo_code.made.code m.0 (g.T.Sink.taken c.args.terminal.now) (g.T.Sink.taken c.run_alone-ended.new.terminal)
           (g.P.Sink.taken c.args.printer.now) (g.P.Sink.taken c.run_alone-ended.new.printer)
@@ -54,7 +55,7 @@ returns-clause-came g c =
     let turns : c.turns_used.result ≡ c.run_alone-ended.new.kernel.used = search rules in (
       Some object.Terminal,
       (λ is. rose_before _ _ _ c.run_alone-ended.ensures.later_terminal (c.show_size.ensures.cause is)),
-      lined c.args.n (options_of c.args.options) (g.F.Files.contents c.args.files.now) (g.F.Files.contents c.read_from.new.files)
+      lined c.args.n (option_map (λ name. name.now) c.args.timeline) (options_of c.args.options) (g.F.Files.contents c.args.files.now) (g.F.Files.contents c.read_from.new.files)
           (g.F.Files.contents c.run_alone-ended.new.files) c.in-Ok.choices.source c.in-Ok.ensures.reads.1 c.in-Ok.ensures.only.unchanged c.run_alone-ended.ensures.tells
           c.in-Ok-demo_code.made.code m.0 (g.T.Sink.taken c.args.terminal.now) (g.T.Sink.taken c.run_alone-ended.new.terminal)
           (g.P.Sink.taken c.args.printer.now) (g.P.Sink.taken c.run_alone-ended.new.printer)
@@ -74,3 +75,19 @@ pub returns-clause-early : goal.returns-clause-early
 returns-clause-early g c = λ early.
     let line = c.show_size.ensures.shows in
     absurd (never_early c.show_size.result.status (shown_behind c.show_size.result.status line.0 _ line.1) early)
+
+pub returns-in-Err-clause-no_files : goal.returns-in-Err-clause-no_files
+returns-in-Err-clause-no_files g c = λ none. c.in-Err.ensures.untouched (no_file_named c.args.n c.args.timeline c.args.options none).1.1
+
+pub returns-in-Err-demo_code-clause-no_files : goal.returns-in-Err-demo_code-clause-no_files
+returns-in-Err-demo_code-clause-no_files g c = λ none. c.in-Ok.ensures.untouched (no_file_named c.args.n c.args.timeline c.args.options none).1.1
+
+pub returns-then-not-is_ok-clause-no_files : goal.returns-then-not-is_ok-clause-no_files
+returns-then-not-is_ok-clause-no_files g c = λ none.
+    let unnamed = no_file_named c.args.n c.args.timeline c.args.options none in
+    c.run_alone-ended.ensures.untouched unnamed.0 unnamed.1.0 ∙ c.in-Ok.ensures.untouched unnamed.1.1
+
+pub returns-clause-no_files : goal.returns-clause-no_files
+returns-clause-no_files g c = λ none.
+    let unnamed = no_file_named c.args.n c.args.timeline c.args.options none in
+    c.run_alone-ended.ensures.untouched unnamed.0 unnamed.1.0 ∙ c.in-Ok.ensures.untouched unnamed.1.1

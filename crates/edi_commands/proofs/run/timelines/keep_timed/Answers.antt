@@ -20,8 +20,8 @@ pub returns-then-not-is_kept-2-clause-keeps : goal.returns-then-not-is_kept-2-cl
 returns-then-not-is_kept-2-clause-keeps g c =
     let told = c.args.timeline.now in
     let out : List ℕ = c.args.out.now in
-    let lines : Kept = (out ++ codes ".txt", text_of told.count told.stints) in
-    let picture : Kept = (out ++ codes ".svg", picture_of told.count told.stints) in
+    let lines : Kept = (out ++ codes ".txt", text_of told.count told.ending told.stints) in
+    let picture : Kept = (out ++ codes ".svg", picture_of told.count told.ending told.stints) in
     let kept : is_kept c.keep_record-recorded.result ≡ true = search rules in
     let lost : is_kept c.keep_lines-lines.result ≡ false = search rules in
     then_told (record_of (option_map (λ text. text.now) c.args.record_file) c.args.choices.now.source c.args.choices.now.drawn)
@@ -33,8 +33,8 @@ pub returns-clause-keeps : goal.returns-clause-keeps
 returns-clause-keeps g c =
     let told = c.args.timeline.now in
     let out : List ℕ = c.args.out.now in
-    let lines : Kept = (out ++ codes ".txt", text_of told.count told.stints) in
-    let picture : Kept = (out ++ codes ".svg", picture_of told.count told.stints) in
+    let lines : Kept = (out ++ codes ".txt", text_of told.count told.ending told.stints) in
+    let picture : Kept = (out ++ codes ".svg", picture_of told.count told.ending told.stints) in
     let recorded : is_kept c.keep_record-recorded.result ≡ true = search rules in
     let kept : is_kept c.keep_lines-lines.result ≡ true = search rules in
     then_told (record_of (option_map (λ text. text.now) c.args.record_file) c.args.choices.now.source c.args.choices.now.drawn)

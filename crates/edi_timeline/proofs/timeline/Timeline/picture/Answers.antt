@@ -7,5 +7,5 @@ use Rattle.edi_timeline.proofs.timeline.Timeline.picture.Goals as goal
 pub returns : goal.returns
 returns c = record {
   exact =
-      subst (λ (t : Told). IfOk c.picture_in.result (λ bytes. bytes.items ≡ picture_of t.count t.stints)) c.self.view_is c.picture_in.ensures.exact;
+      subst (λ (t : Told). IfOk c.picture_in.result (λ bytes. bytes.items ≡ picture_of t.count t.ending t.stints)) c.self.view_is c.picture_in.ensures.exact;
 }

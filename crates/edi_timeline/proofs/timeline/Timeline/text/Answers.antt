@@ -7,5 +7,5 @@ use Rattle.edi_timeline.proofs.timeline.Timeline.text.Goals as goal
 pub returns : goal.returns
 returns c = record {
   exact =
-      subst (λ (t : Told). IfOk c.text_in.result (λ bytes. bytes.items ≡ text_of t.count t.stints)) c.self.view_is c.text_in.ensures.exact;
+      subst (λ (t : Told). IfOk c.text_in.result (λ bytes. bytes.items ≡ text_of t.count t.ending t.stints)) c.self.view_is c.text_in.ensures.exact;
 }

@@ -5,7 +5,7 @@ use Rattle.edi_kernel.specs.declared.ends.Ending.TheVariants as ending
 use Rattle.edi_timeline.specs.Told.{end_as, no_row}
 use Rattle.edi_timeline.specs.Picture.{line_kind}
 use Rattle.edi_timeline.proofs.Chains.{five}
-use Rattle.edi_timeline.proofs.boxes.put_line_back.Goals as goal
+use Rattle.edi_timeline.proofs.boxes.put_line_over.Goals as goal
 
 pub returns : goal.returns
 returns c = record {
