@@ -370,7 +370,7 @@ returns-in-TimeCode-clause-unmounted g c =
 pub returns-in-TimeDemo-clause-came : goal.returns-in-TimeDemo-clause-came
 returns-in-TimeDemo-clause-came g c =
     let came = c.demonstrate-in-TimeDemo.ensures.came in
-    came_run (Some (view c.args.command)) c.demonstrate-in-TimeDemo.result.status c.demonstrate-in-TimeDemo.result.due _ _ _ _ _
+    came_run (Some (view c.args.command)) c.demonstrate-in-TimeDemo.result.status c.demonstrate-in-TimeDemo.result.due _ _ _ _ _ _
     (ap (λ x. command_does uses_devices (Some (view x))) c.in-TimeDemo.is)
     (c.demonstrate-in-TimeDemo.ensures.cause (g.D.Drive.faults c.args.drive.now) (g.S.Source.faults c.args.input.now)) came.0 came.1
     (obeyed_timed_demo c.args.command c.in-TimeDemo.n c.from-in-TimeDemo.result c.in-TimeDemo.out c.in-TimeDemo.options
