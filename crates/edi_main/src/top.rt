@@ -229,8 +229,8 @@ fn obey<F: Files, D: Drive, S: Source, T: Sink, P: Sink, W: Watcher>(
 
 /// Does what the words say, which are those after the program's name, and answers how it ended.
 ///
-/// The line of the status is shown on the terminal. `Ok` has none, and neither has `OutputFault`: there bytes of the command, on the
-/// terminal or the printer, or the line of its status could not be taken. While an exploration goes on the watcher is told how many states there are.
+/// The line of the status is shown on the terminal. `Ok` has none, and neither has `OutputFault`: there the terminal or the printer has
+/// failed. While an exploration goes on the watcher is told how many states there are.
 pub fn edison<F: Files, D: Drive, S: Source, T: Sink, P: Sink, W: Watcher>(
     alloc: Global,
     words: &[String],
@@ -242,8 +242,9 @@ pub fn edison<F: Files, D: Drive, S: Source, T: Sink, P: Sink, W: Watcher>(
     kernel: &mut Kernel,
     watcher: &mut W,
 ) -> Status
-    // The status means what it says of the words, of all that is outside before and behind the call and of the lent kernel; and
-    // the terminal has taken what goes with it, and no more. An object that has failed in a call of a program is blamed, and its count rose.
+    // The status means what it says of the words, of all that is outside before and after the call and of the lent kernel; and the terminal
+    // has taken what goes with it, and no more. Where the devices tell, an object that a failed call of a program uses is blamed, and its
+    // count rose; in a session none is blamed.
     // What is left of the drive, the input and the printer, each by itself, is told whatever the others tell.
     ensures ends { let before = outside_of F.contents D.contents S.left T.taken P.taken files.old drive.old input.old terminal.old printer.old in
         let after = outside_of F.contents D.contents S.left T.taken P.taken files.new drive.new input.new terminal.new printer.new in

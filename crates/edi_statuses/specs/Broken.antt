@@ -115,7 +115,7 @@ WatchedLost bytes points bound choices out record_file before after shown kernel
     RanWhole (text bytes) bound choices before after shown kernel
     × (SameBut (out ∷ []) before after ⊎ LosesRecord bytes points bound choices out record_file before after)
 
--- The line of a demonstration was not shown whole, for which the terminal is blamed. All else is as behind a whole one.
+-- A first part of the line of a demonstration was shown, perhaps all of it, and the terminal is blamed. All else is as after a whole one.
 pub record CutsSize (n : ℕ) (effect : CommandEffect) (before after : Outside) (shown : List ℕ) (kernel : Lent) : Type 0 where
   pub by_program : List ℕ
   pub line : List ℕ

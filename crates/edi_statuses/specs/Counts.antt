@@ -42,8 +42,8 @@ IsBlamed (Some object.Terminal) s had_shown has_shown had_printed has_printed = 
 IsBlamed (Some object.Printer) s had_shown has_shown had_printed has_printed = s ≡ status.OutputFault → CountRose had_printed has_printed
 IsBlamed blamed s had_shown has_shown had_printed has_printed = ⊤
 
--- THE OUTPUT HAS FAILED: the count of the one that is blamed rose; of the terminal or of the printer, where none is; of the terminal alone in a command
--- that does not see the printer.
+-- THE OUTPUT HAS FAILED: the count of the one that is blamed rose; of the terminal or of the printer, where neither of them is; of the terminal alone
+-- in a command that does not see the printer.
 abbrev pub OutputRose : (printer_seen : Bool) → (blamed : Option failing.Outside) → (had has : Counts) → Type 0
 OutputRose false blamed had has = CountRose had.terminal has.terminal
 OutputRose true (Some object.Terminal) had has = CountRose had.terminal has.terminal

@@ -97,8 +97,8 @@ Means s (Some c) before after shown kernel = MeansOf s c (seen before after) aft
 
 -- ---- all that a call shows
 
--- The line of a status that has one could not be shown whole, since the terminal failed. If that status tells a fault, the count of its object
--- rose too.
+-- A first part of the line of a status that has one was shown, perhaps all of it, and the terminal failed. If that status tells a fault, the
+-- count of its object rose too.
 pub record IsCutShort (c : Option Command) (before after : Outside) (had has : Counts) (all : List ℕ) (kernel : Lent) : Type 0 where
   pub meant : Status
   pub has_line : IsSome (text_of meant)
