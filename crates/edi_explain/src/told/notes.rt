@@ -173,12 +173,7 @@ fn row_note(before: Option<&Mark>, seen: &Seen) -> &'static str
 }
 
 // The note at what stands there and what stands before it; nothing where there is none.
-fn note_of(
-    marks: &[Mark],
-    here: Option<&Mark>,
-    before: Option<&Mark>,
-    seen: &Seen,
-) -> &'static str
+fn note_of(marks: &[Mark], here: Option<&Mark>, before: Option<&Mark>, seen: &Seen) -> &'static str
     ensures exact { result.now ≡ spec.note_of marks.now (option_copied here.entry) (option_copied before.entry) (seen_of seen.now) }
 {
     if let Some(note) = mark_note(marks, here) {
