@@ -189,7 +189,8 @@ fn put_ink(out: &mut Vec<u8>, row: &Row) -> Result<(), AllocError>
 {
     match row.kind {
         Kind::Over => out.extend_from_slice(b"#fff")?,
-        Kind::Arrives | Kind::Waits | Kind::Tries | Kind::Forks | Kind::Ends => out.extend_from_slice(b"#000")?,
+        Kind::Arrives | Kind::Waits | Kind::Tries | Kind::Forks | Kind::Ends =>
+            out.extend_from_slice(b"#000")?,
     }
     Ok(())
 }
