@@ -14,10 +14,10 @@ use Rattle.edi_timeline.specs.declared.entry.Said.{Said}
 use Rattle.edi_timeline.specs.declared.entry.Came.{Came}
 use Rattle.edi_timeline.specs.declared.entry.Came.TheVariants as came
 use Rattle.edi_timeline.specs.Stints.{Start, End, at, Stint, ending_by}
-use Rattle.edi_timeline.specs.Told.{process_in, numbered, row_at, place_of, said_of, start_behind, start_in, end_as, stint_in, stints_in, AreRows, ending_in, meant}
+use Rattle.edi_timeline.specs.Told.{process_in, numbered, row_at, place_of, said_of, start_behind, start_in, end_as, stint_in, stints_in, AreRows, meant}
 use Rattle.edi_timeline.specs.Timelines.{Told, is_failed}
 use Rattle.edi_timeline.specs.Adding.{said_in, end_of, nth_stint, start_by, start_after, process_after, used_by, stint_after, added, counted, ends_run, is_going, SeatFits}
-use Rattle.edi_timeline.specs.Entered.{kind_of, row_for, ended_with}
+use Rattle.edi_timeline.specs.Entered.{kind_of, row_for, ending_with, ended_with}
 use Rattle.edi_timeline.proofs.Counting.{as_many}
 use Rattle.edi_timeline.proofs.Processes.{process_first, process_more}
 use Rattle.edi_timeline.proofs.Rowed.{number_of, born_within, before_within, start_none, start_more, same_process, same_start, same_stints}
@@ -114,7 +114,7 @@ module _ (e : Ending) (rows : List Row) where
 -- ---- the stint of the new row
 
 end_is : (e : Ending) (rows : List Row) (s : Seat) (c : Came) (used : ℕ) (said : Said) →
-    end_as (ending_in (ended_with c)) (row_for rows s c used said) (kind_of c) ≡ end_of c
+    end_as (ending_with c e) (row_for rows s c used said) (kind_of c) ≡ end_of c
 end_is e rows s (came.Arrived p) used said = refl
 end_is e rows s came.Waited used said = refl
 end_is e rows s came.Tried used said = refl
@@ -149,7 +149,7 @@ module _ (e : Ending) (rows : List Row) (are : AreRows rows)
   with_parts process from end =
       record { process = process; first = suc (used_by 0 Old); last = used; from = from; end = end; shown = said_in said }
 
-  new_stint : stint_in (ending_in (ended_with c)) (rows ++ New ∷ []) (suc (used_by 0 Old)) New ≡ stint_after Old s (end_of c) used (said_in said)
+  new_stint : stint_in (ending_with c e) (rows ++ New ∷ []) (suc (used_by 0 Old)) New ≡ stint_after Old s (end_of c) used (said_in said)
   new_stint =
       (λ i.
       with_parts
@@ -158,9 +158,9 @@ module _ (e : Ending) (rows : List Row) (are : AreRows rows)
       (end_is e rows s c used said i))
 
   new_stints : is_going Old ≡ true →
-      stints_in (ending_in (ended_with c)) (rows ++ New ∷ []) 0 (rows ++ New ∷ []) ≡ Old ++ stint_after Old s (end_of c) used (said_in said) ∷ []
+      stints_in (ending_with c e) (rows ++ New ∷ []) 0 (rows ++ New ∷ []) ≡ Old ++ stint_after Old s (end_of c) used (said_in said) ∷ []
   new_stints going =
-      let f : Ending = ending_in (ended_with c) in
+      let f : Ending = ending_with c e in
       let all : List Row = rows ++ New ∷ [] in
       let same : stints_in f all 0 rows ≡ Old =
       same_stints rows New are.born f 0 rows (born_within rows are.born) (before_within rows are.before) ∙ going_stints e f rows 0 rows going in
@@ -172,13 +172,13 @@ module _ (e : Ending) (rows : List Row) (are : AreRows rows)
   told xs n how = record { stints = xs; count = n; ending = how }
 
   -- the timeline that has the row tells the stint
-  pub grows : (count next : ℕ) (how : Option outcome.Ending) (now : List Row) (r : Row) (f : Option Ending) → is_going Old ≡ true →
-      nat_le 100000 count ≡ false → r ≡ New → now ≡ rows ++ r ∷ [] → f ≡ ended_with c → next ≡ count + 1 →
-      told (stints_in (ending_in f) now 0 now) next (option_map meant f) ≡ added (told Old count how) s c used said
-  grows count next how now r f going room r_is now_is f_is next_is =
+  pub grows : (count next : ℕ) (how : Option outcome.Ending) (now : List Row) (r : Row) (f : Ending) (g : Option Ending) →
+      is_going Old ≡ true → nat_le 100000 count ≡ false → r ≡ New → now ≡ rows ++ r ∷ [] → f ≡ ending_with c e → g ≡ ended_with c → next ≡ count + 1 →
+      told (stints_in f now 0 now) next (option_map meant g) ≡ added (told Old count how) s c used said
+  grows count next how now r f g going room r_is now_is f_is g_is next_is =
       let all : now ≡ rows ++ New ∷ [] = now_is ∙ ap (λ x. rows ++ x ∷ []) r_is in
       let one : next ≡ suc count = omega (arith, next_is) in
-      (λ i. told (stints_in (ending_in (f_is i)) (all i) 0 (all i)) (one i) (option_map meant (f_is i)))
+      (λ i. told (stints_in (f_is i) (all i) 0 (all i)) (one i) (option_map meant (g_is i)))
       ∙ (λ i. told (new_stints going i) (suc count) (meant_is c i))
       ∙ sym (ap (λ b. if b then told Old (suc count) (ending_by (end_of c))
       else told (Old ++ stint_after Old s (end_of c) used (said_in said) ∷ []) (suc count) (ending_by (end_of c))) room)

@@ -53,6 +53,11 @@ row_with s k p used said = record {
 abbrev pub row_for : List Row → Seat → Came → (used : ℕ) → Said → Row
 row_for rows s c used said = row_with s (kind_of c) (kept_place c (numbered rows s.before)) used said
 
+-- how the stint that has ended the run has ended it, where there is a row of it
+abbrev pub ending_with : Came → Ending → Ending
+ending_with (came.Over e) ending = e
+ending_with c ending = ending
+
 -- how the run has ended, if this stint has ended it
 abbrev pub ended_with : Came → Option Ending
 ended_with (came.Over e) = Some e

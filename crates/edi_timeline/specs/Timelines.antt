@@ -4,7 +4,7 @@ use Rattle.std.specs.Option.{option_map}
 use Rattle.edi_calls.specs.Outcome as outcome
 use Rattle.edi_timeline.specs.Stints.{Stint, at, ending_of}
 use Rattle.edi_timeline.specs.Text.{most_lines, kept}
-use Rattle.edi_timeline.specs.Told.{AreRows, ending_in, meant, numbered, place_of, start_in, stints_in}
+use Rattle.edi_timeline.specs.Told.{AreRows, meant, numbered, place_of, start_in, stints_in}
 use Rattle.edi_timeline.specs.declared.rows.Kind.{Kind}
 use Rattle.edi_timeline.specs.declared.rows.Kind.TheVariants as kind
 use Rattle.edi_timeline.specs.declared.timeline.Kept.{Kept}
@@ -21,9 +21,9 @@ told_of xs = record { stints = map kept (take most_lines xs); count = length xs;
 
 abbrev pub told_in : Kept → Told
 told_in k = record {
-  stints = stints_in (ending_in k.ending) k.rows.items 0 k.rows.items;
+  stints = stints_in k.ending k.rows.items 0 k.rows.items;
   count = k.count;
-  ending = option_map meant k.ending;
+  ending = option_map meant k.ended;
 }
 
 -- a row of an attempt that has failed

@@ -1,6 +1,5 @@
 -- Words of contracts. The stints for which the rows of a timeline stand.
 use Rattle.std.specs.Prelude.{◌≡◌, ◌≤◌, ℕ, zero, suc, ◌-◌, ◌==◌, if◌then◌else◌, List, [], ◌∷◌, ◌++◌, replicate, slice_index_or, take, All, length}
-use Rattle.std.specs.Prelude.{Option, Some, None}
 use Rattle.edi_calls.specs.Names.{Name}
 use Rattle.edi_calls.specs.Outcome as outcome
 use Rattle.edi_kernel.specs.declared.ends.Ending.{Ending}
@@ -25,11 +24,6 @@ meant ending.Turns = outcome.turns
 meant ending.Standstill = outcome.standstill
 meant (ending.Bad address) = outcome.bad address
 meant ending.Fault = outcome.bad 0
-
--- how the row that has ended the run has ended it; where the run goes on there is no such row
-abbrev pub ending_in : Option Ending → Ending
-ending_in None = ending.Done
-ending_in (Some e) = e
 
 abbrev pub no_row : Row
 no_row = record { used = 0; born = 0; fork = 0; before = 0; lines = replicate 5 0; shown = replicate 7 0; branch = 0; kind = kind.Ends; many = 0; said = 0 }

@@ -51,6 +51,16 @@ fn kept_place(came: Came, before: &Row) -> Place
     }
 }
 
+// How the stint that has ended the run has ended it, where this one has a row.
+fn ending_with(came: Came, ending: Ending) -> Ending
+    ensures exact { result ≡ spec.ending_with came ending }
+{
+    match came {
+        Came::Over(ending) => ending,
+        Came::Arrived(_) | Came::Waited | Came::Tried | Came::Forked(_) | Came::Ended => ending,
+    }
+}
+
 // How the run has ended, if this stint has ended it.
 fn ended_with(came: Came) -> Option<Ending>
     ensures exact { result ≡ spec.ended_with came }
@@ -94,7 +104,8 @@ pub(crate) fn put(kept: &mut Kept, seat: Seat, came: Came, used: u32, said: Said
     ensures kept { IsTimeline kept.new }
 {
     let row = row_for(&kept.rows, seat, came, used, said);
-    kept.ending = ended_with(came);
+    kept.ending = ending_with(came, kept.ending);
+    kept.ended = ended_with(came);
     kept.rows.push_reserved(row);
     kept.count += 1;
 }
@@ -115,7 +126,7 @@ pub(crate) fn count_one(kept: &mut Kept, ended: Option<Ending>)
     ensures kept { IsTimeline kept.new }
 {
     kept.count += 1;
-    kept.ending = ended;
+    kept.ended = ended;
 }
 
 // Adds a stint, or counts it.

@@ -9,7 +9,7 @@ ghost use Rattle.edi_timeline.specs.Picture as spec;
 
 use crate::boxes::{Sheet, column_x, lane_y, put_box, put_moved, put_own_line};
 use crate::lanes::lanes_of;
-use crate::rows::{Row, ending_in};
+use crate::rows::Row;
 use crate::text::{put_name, whole_path};
 use crate::words::{put_how, put_number};
 use edi_kernel::Ending;
@@ -200,11 +200,12 @@ pub(crate) fn picture_of(
     alloc: Global,
     rows: &[Row],
     count: u64,
+    ending: Ending,
     ended: Option<Ending>,
 ) -> Result<Vec<u8>, AllocError>
     requires rows { AreRows rows.now }
     ensures exact { IfOk result (λ picture. picture.items
-        ≡ spec.picture_of count (option_map told.meant ended) (stints_in (told.ending_in ended) rows.now 0 rows.now)) }
+        ≡ spec.picture_of count (option_map told.meant ended) (stints_in ending rows.now 0 rows.now)) }
 {
     let few = first_rows(rows);
     let lanes = lanes_of(alloc, rows, few)?;
@@ -212,7 +213,7 @@ pub(crate) fn picture_of(
         rows,
         few,
         lanes: &lanes,
-        ending: ending_in(ended),
+        ending,
     };
     let mut out = Vec::new(alloc);
     put_opened(&mut out, width(few.len()), lane_y(lanes.len()) + 156)?;

@@ -3,8 +3,6 @@
 ghost use Rattle.std.specs.Prelude.{◌≡◌, ◌≤◌, ◌<◌, take, length, slice_index_or};
 ghost use Rattle.edi_timeline.specs.Told as spec;
 
-use edi_kernel::Ending;
-
 /// How a stint has ended.
 #[derive(Clone, Copy)]
 pub(crate) enum Kind {
@@ -53,16 +51,6 @@ const NO_ROW: Row = Row {
     many: 0,
     said: 0,
 };
-
-// How the row that has ended the run has ended it. Where the run goes on there is no such row.
-pub(crate) fn ending_in(ended: Option<Ending>) -> Ending
-    ensures exact { result ≡ spec.ending_in ended }
-{
-    match ended {
-        Some(ending) => ending,
-        None => Ending::Done,
-    }
-}
 
 // The row at an index.
 pub(crate) fn row_at(rows: &[Row], index: usize) -> Row

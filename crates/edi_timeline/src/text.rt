@@ -7,7 +7,7 @@ ghost use Rattle.edi_timeline.specs.Told as told;
 ghost use Rattle.edi_timeline.specs.Text as spec;
 
 use crate::plain::{is_plain, put_plain};
-use crate::rows::{Kind, Row, ending_in, numbered};
+use crate::rows::{Kind, Row, numbered};
 use crate::words::{put_branch, put_ending, put_how, put_number, put_place, put_shown, put_turns};
 use edi_kernel::Ending;
 use std::alloc::{AllocError, Global};
@@ -236,14 +236,15 @@ pub(crate) fn text_of(
     alloc: Global,
     rows: &[Row],
     count: u64,
+    ending: Ending,
     ended: Option<Ending>,
 ) -> Result<Vec<u8>, AllocError>
     requires rows { All IsRow rows.now }
     requires few { length rows.now ≤ 100000 }
     ensures exact { IfOk result (λ text. text.items
-        ≡ spec.text_of count (option_map told.meant ended) (told.stints_in (told.ending_in ended) rows.now 0 rows.now)) }
+        ≡ spec.text_of count (option_map told.meant ended) (told.stints_in ending rows.now 0 rows.now)) }
 {
-    let mut out = lines_of(alloc, rows, ending_in(ended))?;
+    let mut out = lines_of(alloc, rows, ending)?;
     put_cut(&mut out, count, ended)?;
     Ok(out)
 }

@@ -26,8 +26,10 @@ pub(crate) struct Kept {
     pub(crate) rows: Vec<Row>,
     /// The number of its stints.
     pub(crate) count: u64,
-    /// How it has ended, if it has.
-    pub(crate) ending: Option<Ending>,
+    /// How the stint that has ended the run has ended it, if there is a row of it.
+    pub(crate) ending: Ending,
+    /// How the run has ended, if it has.
+    pub(crate) ended: Option<Ending>,
 }
 
 // The text of what is kept.
@@ -35,7 +37,7 @@ fn text_in(alloc: Global, kept: &Kept) -> Result<Vec<u8>, AllocError>
     requires kept { IsTimeline kept.now }
     ensures exact { IfOk result (λ bytes. bytes.items ≡ text.text_of (told_in kept.now).count (told_in kept.now).ending (told_in kept.now).stints) }
 {
-    text_of(alloc, &kept.rows, kept.count, kept.ending)
+    text_of(alloc, &kept.rows, kept.count, kept.ending, kept.ended)
 }
 
 // The picture of what is kept.
@@ -43,7 +45,7 @@ fn picture_in(alloc: Global, kept: &Kept) -> Result<Vec<u8>, AllocError>
     requires kept { IsTimeline kept.now }
     ensures exact { IfOk result (λ bytes. bytes.items ≡ picture.picture_of (told_in kept.now).count (told_in kept.now).ending (told_in kept.now).stints) }
 {
-    picture_of(alloc, &kept.rows, kept.count, kept.ending)
+    picture_of(alloc, &kept.rows, kept.count, kept.ending, kept.ended)
 }
 
 /// A timeline: the first 100,000 stints of a run, and how many there were. All its memory, 4 MB, is taken at the start.
@@ -73,7 +75,8 @@ impl Timeline {
             kept: Kept {
                 rows: Vec::with_capacity(alloc, MOST_ROWS)?,
                 count: 0,
-                ending: None,
+                ending: Ending::Done,
+                ended: None,
             },
         })
     }

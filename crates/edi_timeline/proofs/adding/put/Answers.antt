@@ -2,7 +2,7 @@ use Rattle.std.proofs.Common.{◌≡◌, ℕ, ◌+◌, ◌∙◌, ◌++◌, ◌�
 use Rattle.std.proofs.lemmas.Bool.{leb-true, false_from_ne_true}
 use Rattle.edi_timeline.specs.declared.rows.Row.{Row}
 use Rattle.edi_timeline.specs.Stints.{at}
-use Rattle.edi_timeline.specs.Told.{AreRows, ending_in, meant, numbered, place_of, start_in}
+use Rattle.edi_timeline.specs.Told.{AreRows, meant, numbered, place_of, start_in}
 use Rattle.edi_timeline.specs.Timelines.{is_failed}
 use Rattle.edi_timeline.specs.Entered.{row_for}
 use Rattle.edi_timeline.proofs.Growing.{grows}
@@ -14,11 +14,11 @@ returns-clause-exact c =
     let count : ℕ = c.args.kept.now.count in
     let room : nat_le 100000 count ≡ false =
     false_from_ne_true (nat_le 100000 count) (λ h. omega (arith, c.requires.room, leb-true 100000 count h)) in
-    grows (ending_in c.args.kept.now.ending) c.args.kept.now.rows.items c.requires.kept.rows c.requires.kept.stood c.args.seat c.args.came c.args.used c.args.said
-    c.requires.seat count (count + 1) (option_map meant c.args.kept.now.ending) c.push_reserved.new.self.items c.row_for-row.result
-    c.ended_with-kept.result c.requires.going room
+    grows c.args.kept.now.ending c.args.kept.now.rows.items c.requires.kept.rows c.requires.kept.stood c.args.seat c.args.came c.args.used c.args.said
+    c.requires.seat count (count + 1) (option_map meant c.args.kept.now.ended) c.push_reserved.new.self.items c.row_for-row.result
+    c.ending_with-kept.result c.ended_with-kept.result c.requires.going room
     (c.row_for-row.ensures.exact ∙ ap (λ rs. row_for rs c.args.seat c.args.came c.args.used c.args.said) c.deref.ensures.value)
-    c.push_reserved.ensures.items c.ended_with-kept.ensures.exact refl
+    c.push_reserved.ensures.items c.ending_with-kept.ensures.exact c.ended_with-kept.ensures.exact refl
 
 pub returns-clause-kept : goal.returns-clause-kept
 returns-clause-kept c =
@@ -34,13 +34,13 @@ returns-clause-kept c =
     record {
       rows =
           subst AreRows (sym all)
-          (rows_still (ending_in c.args.kept.now.ending) rows c.requires.kept.rows c.requires.kept.stood c.args.seat c.args.used c.args.said c.requires.said c.args.came
+          (rows_still c.args.kept.now.ending rows c.requires.kept.rows c.requires.kept.stood c.args.seat c.args.used c.args.said c.requires.said c.args.came
           c.requires.seat c.requires.came);
       few = omega (arith, longer, one, counted, c.requires.room);
       room = omega (arith, c.requires.kept.room, c.push_reserved.ensures.capacity);
       counted = λ l. omega (arith, longer, one, counted);
       stood =
           subst (λ (rs : List Row). (n : ℕ) → is_failed (numbered rs n).kind ≡ true → start_in rs (numbered rs n) ≡ at (place_of (numbered rs n))) (sym all)
-          (stood_still (ending_in c.args.kept.now.ending) rows c.requires.kept.rows c.requires.kept.stood c.args.seat c.args.used c.args.said c.requires.said c.args.came
+          (stood_still c.args.kept.now.ending rows c.requires.kept.rows c.requires.kept.stood c.args.seat c.args.used c.args.said c.requires.said c.args.came
           c.requires.seat c.requires.came);
     }

@@ -13,8 +13,7 @@ returns c =
           three c.args.out.now.items c.put_moved.new.out.items c.put_own_line.new.out.items c.extend_from_slice.new.self.items
           (moved (column_x columns) (lane_y c.args.lane)) (own_line c.args.sheet.now c.args.row.now columns) (codes "</g>\n")
           (c.in_ok-put_moved.ensures.exact
-          ∙ ap (λ x. c.args.out.now.items ++ moved x c.lane_y.result) (c.column_x.ensures.exact ∙ ap column_x c.len.ensures)
+          ∙ ap (λ x. c.args.out.now.items ++ moved x c.lane_y.result) c.column_x.ensures.exact
           ∙ ap (λ y. c.args.out.now.items ++ moved (column_x columns) y) c.lane_y.ensures.exact)
-          (c.in_ok-put_own_line.ensures.exact ∙ ap (λ n. c.put_moved.new.out.items ++ own_line c.args.sheet.now c.args.row.now n) c.len-2.ensures)
-          c.in_ok-extend_from_slice.ensures.items;
+          c.in_ok-put_own_line.ensures.exact c.in_ok-extend_from_slice.ensures.items;
     }
