@@ -107,6 +107,10 @@ on_devices fetches record_file = record plain {
   record_file = record_file;
 }
 
+-- one that runs a program without a disk and on an empty input of its own
+abbrev pub alone : words.Options → Facts
+alone o = record plain { silent = false; devices = true; kernel = true; fetches = file_of_choices o.choices; record_file = o.record_file; keeps_first = true }
+
 -- one that runs the program of a file, which its steps give with the choices; every device can break it off
 abbrev pub program_run : {A : Type 0} → (file : List ℕ) → (asks : Outside → Type 0) → (steps : Outside → AfterStep A → Type 0)
     → (program : A → Runnable) → (choices : A → Choices) → (bound : ℕ) → (record_file : Option (List ℕ)) → Facts
@@ -204,13 +208,7 @@ facts_of (words.list file) = record plain {
   output_failed = λ before after shown kernel.
       HasBegun (ListSteps before file) (λ parts. ShowsFront (listing_of parts.words) before after shown kernel);
 }
-facts_of (words.demo n o) = record plain {
-  silent = false;
-  devices = true;
-  kernel = true;
-  fetches = file_of_choices o.choices;
-  record_file = o.record_file;
-  keeps_first = true;
+facts_of (words.demo n o) = record (alone o) {
   no_memory = λ before after shown kernel.
       IsNothing before after shown kernel
       ⊎ AtRecord o.record_file (DemoSteps before o.choices)
@@ -274,14 +272,8 @@ facts_of (words.time file out o) =
     timed_run file (λ before. RunAsks before file o.choices) (λ before. RunSteps before file o.choices) (λ a. text a.0) (λ a. a.1) o.turns out o.record_file
 facts_of (words.time_code file out o) =
     timed_run file (λ before. ExecAsks before file o.choices) (λ before. ExecSteps before file o.choices) (λ a. code a.0) (λ a. a.1) o.turns out o.record_file
-facts_of (words.time_demo n out o) = record plain {
-  silent = false;
-  devices = true;
-  kernel = true;
-  fetches = file_of_choices o.choices;
+facts_of (words.time_demo n out o) = record (alone o) {
   keeps = timeline_names out;
-  record_file = o.record_file;
-  keeps_first = true;
   no_memory = λ before after shown kernel.
       IsNothing before after shown kernel
       ⊎ HasBegun (DemoSteps before o.choices)
