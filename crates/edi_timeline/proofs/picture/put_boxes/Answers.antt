@@ -10,6 +10,7 @@ loop-index-preserved c = record {
       box_on c.args.sheet.now.ending c.args.sheet.now.rows.now c.args.sheet.now.few.now (lanes_in c.args.sheet.now) c.loop-index.index
       c.loop-index.out.items c.put_box.new.out.items c.loop-index-test.true c.in_ok-put_box.ensures.exact
       ∙ c.loop-index.invariant.text;
+  within = omega (arith, c.loop-index-test.true);
 }
 
 pub returns : goal.returns
