@@ -1,4 +1,5 @@
 pub mod Alone
+pub mod Blamed
 pub mod Blocks
 pub mod Coded
 pub mod Counted
@@ -14,6 +15,7 @@ pub mod OfFiles
 pub mod Past
 pub mod PointsRead
 pub mod Shown
+pub mod TimedDemo
 pub mod TimedEnds
 pub mod TimedExits
 pub mod TimedKept

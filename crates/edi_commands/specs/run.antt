@@ -1,4 +1,5 @@
 -- Helper. The files of `run`.
+pub mod Blaming
 pub mod CodeRan
 pub mod Demonstrated
 pub mod FileSteps

@@ -4,4 +4,4 @@ pub mod Exactly
 pub mod Whole
 pub mod Cutting
 pub mod Parts
-pub mod OnlyOne
+pub mod Marked

@@ -16,6 +16,11 @@ pub mod Sharing
 pub mod Forking
 pub mod Handled
 pub mod Placing
+pub mod StintGiven
+pub mod StintArrivals
+pub mod StintLeaving
+pub mod StintFailures
+pub mod StintEnds
 pub mod Going
 pub mod Choosing
 pub mod Starting
@@ -23,6 +28,7 @@ pub mod Moments
 pub mod Rounds
 pub mod Named
 pub mod Endings
+pub mod Settling
 pub mod Stinting
 pub mod Machines
 pub mod Passed

@@ -1,5 +1,5 @@
 -- One plain instruction of the code, and many, are steps of the definition, whatever processes live and whatever the system is.
-use Rattle.std.proofs.Common.{◌≡◌, ℕ, zero, suc, ◌-◌, Bool, true, false, List, Option, Some, None, refl, sym, ap, subst, ◌∙◌}
+use Rattle.std.proofs.Common.{◌≡◌, ℕ, zero, suc, ◌-◌, Bool, true, false, ◌&&◌, ◌||◌, nat_eq, List, Option, Some, None, refl, sym, ap, subst, ◌∙◌}
 use Rattle.edi_told.specs.Told.{WhereTold}
 use Rattle.edi_told.proofs.Told.{WhereTold-map}
 use Rattle.edi_calls.specs.State.{State}
@@ -7,27 +7,36 @@ use Rattle.edi_calls.specs.declared.kinds.Cause.{Cause}
 use Rattle.edi_target.specs.Effect.{Local, Effect, goes, released, asks, due, fails, bad}
 use Rattle.edi_target.specs.Mach.{Running}
 use Rattle.edi_machine.specs.declared.activity.Activity.{Activity}
+use Rattle.edi_machine.specs.declared.ends.TurnKind.{TurnKind}
 use Rattle.edi_machine.specs.declared.ends.TurnKind.TheVariants as kind
 use Rattle.edi_machine.specs.declared.ends.StepEnd.{StepEnd}
 use Rattle.edi_machine.specs.declared.ends.StepEnd.TheVariants as end
 use Rattle.edi_machine.specs.Activities.{local_of}
-use Rattle.edi_machine.specs.Plain.{may_be_due}
+use Rattle.edi_machine.specs.Plain.{may_follow}
 use Rattle.edi_machine.specs.Steps.{Gives, Takes, effect_of}
 use Rattle.edi_machine.proofs.Commonly.{gives_takes, keeps_itself}
 use Rattle.edi_machine.proofs.Telling.{fork_of_step, held_of_step, phase_of_step}
 use Rattle.edi_kernel.specs.declared.stretch.Pause.{Pause}
 use Rattle.edi_kernel.specs.declared.stretch.Pause.TheVariants as pause
 use Rattle.edi_kernel.specs.declared.stretch.Progress.{Progress}
-use Rattle.edi_kernel.specs.Stretch.{cleared_in, cleared_of, left_after, noted_after, pause_of, running_in}
-use Rattle.edi_kernel.specs.Stretch.{with_activity, Falls, IsInPhase, IsSameFrame, OneStep, Reaches}
+use Rattle.edi_kernel.specs.Stretch.{cleared_by, cleared_in, cleared_of, goes_on, left_after, noted_after, pause_of, running_in}
+use Rattle.edi_kernel.specs.Stretch.{with_activity, Falls, IsInPhase, IsSameSegment, OneStep, Reaches}
 use Rattle.edi_kernel.specs.Stretch.{Stretches}
 use Rattle.edi_kernel.proofs.Phases.{notes, stays_in}
 use Rattle.edi_kernel.proofs.Steps.{falls_are, steps_are}
 
 -- an arrival where a turn is left
-pauses_by_arrival : (left : ℕ) → may_be_due left kind.Arrive ≡ true → pause_of (end.Turn kind.Arrive) left ≡ Some (pause.At kind.Arrive)
+pauses_by_arrival : (left : ℕ) → may_follow left kind.Arrive ≡ true → pause_of (end.Turn kind.Arrive) left ≡ Some (pause.At kind.Arrive)
 pauses_by_arrival zero may = absurd (cc)
 pauses_by_arrival (suc n) may = refl
+
+-- a turn in which a process goes on, where one is left
+rounds : (k : TurnKind) (left : ℕ) → goes_on k ≡ true → may_follow left k ≡ true → pause_of (end.Turn k) left ≡ None
+rounds k zero round may = absurd (cc)
+rounds kind.Enter (suc n) round may = refl
+rounds kind.End (suc n) round may = refl
+rounds kind.Loop (suc n) round may = refl
+rounds k (suc n) round may = absurd (cc)
 
 module _ (words memory new_memory : List ℕ) (a b : Activity) (p : Progress) where
   abbrev Given : StepEnd → Type 0
@@ -56,7 +65,7 @@ module _ (words memory new_memory : List ℕ) (a b : Activity) (p : Progress) wh
         (running_in new_memory b s p.left) (cleared_in (with_activity p b))
     one_on given = one end.On given
 
-    pub one_arrival : may_be_due p.left kind.Arrive ≡ true → Given (end.Turn kind.Arrive) → (c : Bool)
+    pub one_arrival : may_follow p.left kind.Arrive ≡ true → Given (end.Turn kind.Arrive) → (c : Bool)
         → c ≡ noted_after (end.Turn kind.Arrive) p.cleared p.phase a.held → (live : ℕ) (is_first : Bool) (s : State) →
         OneStep words live is_first (running_in memory a s p.left) (cleared_in (with_activity p a)) (Some (pause.At kind.Arrive))
         (running_in new_memory b s (p.left - 1)) c
@@ -66,6 +75,22 @@ module _ (words memory new_memory : List ℕ) (a b : Activity) (p : Progress) wh
         (subst (λ (r : Option Pause). OneStep words live is_first (running_in memory a s p.left) (cleared_in (with_activity p a)) r
         (running_in new_memory b s (p.left - 1)) (cleared_of r (noted_after (end.Turn kind.Arrive) p.cleared p.phase a.held) p.phase b.held))
         (pauses_by_arrival p.left may) (one (end.Turn kind.Arrive) given live is_first s))
+
+    pub one_round : (k : TurnKind) → goes_on k ≡ true → may_follow p.left k ≡ true → Given (end.Turn k) → (q : Progress) → q.left ≡ p.left - 1
+        → q.cleared ≡ true → (live : ℕ) (is_first : Bool) (s : State) →
+        OneStep words live is_first (running_in memory a s p.left) (cleared_in (with_activity p a)) None
+        (running_in new_memory b s q.left) (cleared_in (with_activity q b))
+    one_round k round may given q left cleared live is_first s =
+        let noted : Bool = cleared_by p.cleared p.phase a.held in
+        subst (λ (c : Bool). OneStep words live is_first (running_in memory a s p.left) (cleared_in (with_activity p a)) None
+        (running_in new_memory b s q.left) (c || (q.phase && nat_eq b.held 0))) (sym cleared)
+        (subst (λ (n : ℕ). OneStep words live is_first (running_in memory a s p.left) (cleared_in (with_activity p a)) None
+        (running_in new_memory b s n) true) (sym left)
+        (subst (λ (c : Bool). OneStep words live is_first (running_in memory a s p.left) (cleared_in (with_activity p a)) None
+        (running_in new_memory b s (p.left - 1)) (cleared_by (c || noted) p.phase b.held)) round
+        (subst (λ (r : Option Pause). OneStep words live is_first (running_in memory a s p.left) (cleared_in (with_activity p a)) r
+        (running_in new_memory b s (p.left - 1)) (cleared_of r (noted_after (end.Turn k) p.cleared p.phase a.held) p.phase b.held))
+        (rounds k p.left round may) (one (end.Turn k) given live is_first s))))
 
     pub on_in_phase : Given end.On → IsInPhase (with_activity p b)
     on_in_phase given one =
@@ -131,13 +156,9 @@ module _ (words memory new_memory : List ℕ) (a b : Activity) where
 
 -- ---- many
 
--- the frame stays the same by steps
-pub frame_on : (p q a b : Activity) → q ≡ p → IsSameFrame p a → IsSameFrame a b → IsSameFrame q b
-frame_on p q a b same h k = (
-  k.0 ∙ h.0 ∙ ap (λ (x : Activity). x.base) (sym same),
-  k.1 ∙ h.1 ∙ ap (λ (x : Activity). x.end) (sym same),
-  k.2 ∙ h.2 ∙ ap (λ (x : Activity). x.segment) (sym same),
-)
+-- the segment stays the same by steps
+pub segment_on : (p q a b : Activity) → q ≡ p → IsSameSegment p a → IsSameSegment a b → IsSameSegment q b
+segment_on p q a b same h k = k ∙ h ∙ ap (λ (x : Activity). x.segment) (sym same)
 
 module _ (words : List ℕ) (live : ℕ) (is_first : Bool) (was r now : Running) (c d e : Bool) where
   pub reaches_on : Reaches words live is_first was c r d → Reaches words live is_first r d now e → Reaches words live is_first was c now e

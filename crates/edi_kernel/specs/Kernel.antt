@@ -1,5 +1,5 @@
 -- Words of contracts. What the kernel keeps, and how it stands for a machine.
-use Rattle.std.specs.Prelude.{◌≡◌, ◌⊎◌, ℕ, ◌+◌, ◌-◌, ◌<◌, ◌==◌, ◌++◌, Bool, true, false, List, [], ◌∷◌, length, map, Option, Some, None, IfSome, ⊤}
+use Rattle.std.specs.Prelude.{◌≡◌, ◌⊎◌, ℕ, ◌+◌, ◌-◌, ◌<◌, ◌==◌, ◌++◌, Bool, true, false, List, [], ◌∷◌, length, map, Option, Some, None, IfSome, if◌then◌else◌, ⊤}
 use Rattle.std.specs.Option.{option_map}
 use Rattle.edi_calls.specs.declared.ends.Outside.{Outside}
 use Rattle.edi_calls.specs.Names.{Name, find}
@@ -250,6 +250,15 @@ HandlesTurn kind.Exit words slot used a old new result =
 HandlesTurn kind words slot used a old new result =
     PutsProcess 0 slot (at_its_when (process_at old.table slot) a) (unmarked old.table) new.table × (new.store ≡ old.store)
     × (result ≡ stint_end.Arrived used) × (new.arrived ≡ Some a) × (new.failed ≡ is_failure kind)
+
+-- whether a process pauses because it has arrived at a `when`
+abbrev pub is_arrival : Pause → Bool
+is_arrival (pause.At kind.Arrive) = true
+is_arrival pause = false
+
+-- nobody is taken any more, and marks are taken away where that is noted
+abbrev pub paused : (cleared : Bool) → KernelState → KernelState
+paused cleared k = record k { table = if cleared then unmarked k.table else k.table; taken = None }
 
 -- the process at this slot, with this activity, pauses after so many turns
 abbrev pub Handles : Pause → (words : List ℕ) → (slot used : ℕ) → Activity → (old new : KernelState) → StintEnd → Type 0

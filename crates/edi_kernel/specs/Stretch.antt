@@ -197,13 +197,13 @@ abbrev pub OneStep : List ℕ → (live : ℕ) → (is_first : Bool) → (was : 
 OneStep words live is_first was cleared result now is_cleared =
     StepsFrom words live is_first was cleared (local_step (fetch words) live is_first was) result now is_cleared
 
--- ---- plain instructions, whose activity goes on apart from the rest of its progress
+-- ---- the instructions of the loop, whose activity goes on apart from the rest of its progress
 
 abbrev pub with_activity : Progress → Activity → Progress
 with_activity p a = record p { activity = a }
 
-abbrev pub IsSameFrame : (old new : Activity) → Type 0
-IsSameFrame old new = (new.base ≡ old.base) × (new.end ≡ old.end) × (new.segment ≡ old.segment)
+abbrev pub IsSameSegment : (old new : Activity) → Type 0
+IsSameSegment old new = new.segment ≡ old.segment
 
 -- one instruction, whatever processes live and whatever the system is
 abbrev pub OnePlain : List ℕ → Plain → (memory : List ℕ) → Activity → Progress → (new_memory : List ℕ) → Activity → Progress → Type 0

@@ -1,6 +1,6 @@
 //! The kernel's state, and what it does at each switch.
 
-ghost use Rattle.std.specs.Prelude.{◌≡◌, ◌≤◌, ◌<◌, ◌==◌, ◌+◌, ◌-◌, ◌^◌, if◌then◌else◌, length, None, Some, IsSome, Option, ℕ, true, false, List};
+ghost use Rattle.std.specs.Prelude.{◌≡◌, ◌≤◌, ◌<◌, ◌==◌, ◌+◌, ◌-◌, ◌^◌, if◌then◌else◌, length, None, Some, IsSome, Option, ℕ, true, false, List, []};
 ghost use Rattle.edi_machine.specs.Activities.{IsOrdered, local_of};
 ghost use Rattle.edi_machine.specs.Starts.{IsFork, branches_at};
 ghost use Rattle.edi_kernel.specs.declared.table.Table.{Table};
@@ -24,8 +24,10 @@ ghost use Rattle.edi_kernel.specs.Kernel.{
   StandsLast,
   attempt_end,
   faulted,
+  is_arrival,
   is_failure,
   is_over,
+  paused,
   used_in,
 };
 ghost use Rattle.edi_kernel.specs.Named.{GoesBy, HoldsBy};
@@ -83,6 +85,17 @@ fn is_failure(kind: TurnKind) -> bool
     }
 }
 
+/// Whether a process pauses because it has arrived at a `when`, as it does most often.
+#[inline(always)]
+fn is_arrival(pause: Pause) -> bool
+    ensures { result ≡ is_arrival pause }
+{
+    match pause {
+        Pause::At(TurnKind::Arrive) => true,
+        _ => false,
+    }
+}
+
 impl KernelState {
     /// The process waits for its children, which begin.
     #[inline(never)]
@@ -107,7 +120,7 @@ impl KernelState {
     }
 
     /// Handles a turn of the process at `slot` at which it paused.
-    #[inline(always)]
+    #[inline(never)]
     fn handle_turn(
         &mut self,
         code: &Code,
@@ -191,6 +204,58 @@ impl KernelState {
         }
     }
 
+    /// The process at `slot` has arrived at a `when` after so many turns, and is taken no more.
+    #[inline(always)]
+    fn arrive(&mut self, slot: usize, activity: &Activity, used: u64) -> StintEnd
+        requires table { IsTable self.old.table }
+        requires taken { IsTaken self.old.table slot }
+        ensures standing { StandsAfter result (Some slot) (ready_slots self.old.table) self.new.table self.new.arrived }
+        ensures failed { MayFail result self.new.failed }
+        ensures exact { HandlesTurn TurnKind.Arrive [] slot used activity.now self.old self.new result }
+        ensures free { self.new.taken ≡ None }
+        ensures entering { self.new.entering ≡ self.old.entering }
+        ensures turns { self.new.used ≡ self.old.used }
+    {
+        self.taken = None;
+        self.failed = false;
+        self.table.arrive(slot, activity);
+        self.arrived = Some(*activity);
+        StintEnd::Arrived { used }
+    }
+
+    /// Handles the pause of the process at `slot`, which has come so far, after so many turns. It is taken no more.
+    ///
+    /// An arrival is handled here, apart from all that is rare. It takes all marks away, whatever is noted of them.
+    #[inline(always)]
+    fn settle(
+        &mut self,
+        code: &Code,
+        slot: usize,
+        progress: &Progress,
+        pause: Pause,
+        used: u64,
+    ) -> StintEnd
+        requires table { IsTable self.old.table }
+        requires taken { IsTaken self.old.table slot }
+        requires ordered { IsOrdered progress.now.activity }
+        requires allowed { Allows (Some pause) code.now.words (32 - length (free_slots self.old.table)) (slot == 0)
+            (local_of self.old.store progress.now.activity) }
+        requires standstill { is_standstill pause ≡ false }
+        ensures standing { StandsAfter result (Some slot) (ready_slots self.old.table) self.new.table self.new.arrived }
+        ensures failed { MayFail result self.new.failed }
+        ensures exact { Handles pause code.now.words slot used progress.now.activity (paused progress.now.cleared self.old) self.new result }
+        ensures free { self.new.taken ≡ None }
+        ensures entering { self.new.entering ≡ self.old.entering }
+        ensures turns { self.new.used ≡ self.old.used }
+    {
+        if is_arrival(pause) {
+            return self.arrive(slot, &progress.activity, used);
+        }
+        self.taken = None;
+        self.table.unmark_if(progress.cleared);
+        self.handle(code, slot, &progress.activity, pause, used)
+    }
+
     /// The process at `slot`, which is taken, goes on until it pauses.
     #[inline(always)]
     fn walk<C: Calls>(
@@ -255,8 +320,6 @@ impl KernelState {
             phase: activity.held == 1,
         };
         let pause = self.walk(code, calls, slot, &mut progress);
-        self.taken = None;
-        self.table.unmark_if(progress.cleared);
-        self.handle(code, slot, &progress.activity, pause, left - progress.left)
+        self.settle(code, slot, &progress, pause, left - progress.left)
     }
 }

@@ -1,8 +1,9 @@
 //! What a taken process does until it gives way: the interpreter's loop.
 //!
-//! It goes round two paths. On the fast one `go_plainly` executes plain instructions one after another, with the activity in registers. On
-//! the slow one `instruct` executes one instruction, whatever it is, by `step`: one that is not plain, one that fails or is refused, one
-//! whose turn is due where none is left, and one in the last two words of a code. Only there a run ends or the system is called.
+//! It goes round two paths. On the fast one `go_plainly` executes plain instructions, calls and returns one after another, with the activity
+//! in registers. On the slow one `instruct` executes one instruction, whatever it is, by `step`: one that is none of these, one that fails
+//! or is refused, one whose turn is due where none is left, and one in the last two words of a code. Only there a run ends or the system is
+//! called.
 
 ghost use Rattle.std.specs.Prelude.{◌≡◌, ◌+◌, ◌-◌, ◌*◌, ◌<◌, ◌≤◌, ◌^◌, ℕ, Bool, None, Some, true, false, length};
 ghost use Rattle.edi_told.specs.Told.{WhereTold};
@@ -19,7 +20,7 @@ ghost use Rattle.edi_kernel.specs.Stretch.{
   OnePlain,
   IsInPhase,
   IsNoStandstill,
-  IsSameFrame,
+  IsSameSegment,
   Reaches,
   Spends,
   Stretches,
@@ -57,7 +58,7 @@ pub(crate) enum Plain {
     On,
     /// The process has arrived at a `when`.
     Arrived,
-    /// Nothing was done: the instruction is no plain one, no turn is left for it, or it fails or is refused. The slow path executes it.
+    /// Nothing was done: the instruction is none of the loop, no turn is left for it, or it fails or is refused. The slow path executes it.
     Other,
 }
 
@@ -202,8 +203,20 @@ fn instruct<C: Calls>(
     pause
 }
 
-/// Executes the next instruction of this activity where it is a plain one. The activity goes on apart: that of the progress is the one from
-/// before, and is not read.
+/// Takes a turn in which the process goes on: it takes all marks away.
+#[inline(always)]
+fn go_round(progress: &mut Progress)
+    requires left { 0 < progress.old.left }
+    ensures left { progress.new.left ≡ progress.old.left - 1 }
+    ensures cleared { progress.new.cleared ≡ true }
+    ensures apart { (progress.new.activity ≡ progress.old.activity) × (progress.new.phase ≡ progress.old.phase) }
+{
+    progress.left -= 1;
+    progress.cleared = true;
+}
+
+/// Executes the next instruction of this activity where it is one of the loop. The activity goes on apart: that of the progress is the one
+/// from before, and is not read.
 #[inline(always)]
 fn instruct_plainly(
     store: &mut Store,
@@ -219,7 +232,7 @@ fn instruct_plainly(
     ensures falls { result ≡ Plain.On → Falls None words.now progress.old.left activity.old.pc progress.new.left activity.new.pc }
     ensures spends { result ≡ Plain.Arrived → progress.new.left < progress.old.left }
     ensures less { progress.new.left ≤ progress.old.left }
-    ensures frame { IsSameFrame activity.old activity.new }
+    ensures segment { IsSameSegment activity.old activity.new }
     ensures apart { (progress.new.activity ≡ progress.old.activity) × (progress.new.phase ≡ progress.old.phase) }
     ensures ordered { IsOrdered activity.new }
     ensures whole { IsMemory store.new }
@@ -228,8 +241,15 @@ fn instruct_plainly(
     match step_plainly(store, activity, words, &progress.left) {
         Some(StepEnd::On) => Plain::On,
         Some(StepEnd::Turn(TurnKind::Loop)) => {
-            progress.left -= 1;
-            progress.cleared = true;
+            go_round(progress);
+            Plain::On
+        }
+        Some(StepEnd::Turn(TurnKind::Enter)) => {
+            go_round(progress);
+            Plain::On
+        }
+        Some(StepEnd::Turn(TurnKind::End)) => {
+            go_round(progress);
             Plain::On
         }
         Some(StepEnd::Turn(TurnKind::Arrive)) => {
@@ -242,23 +262,25 @@ fn instruct_plainly(
         Some(StepEnd::Fail(_, _)) => Plain::Other,
         Some(StepEnd::Bad(_)) => Plain::Other,
         None => Plain::Other,
-        // No other end is that of a plain instruction.
+        // No other end is that of an instruction of the loop.
         _ => unreachable!(),
     }
 }
 
-/// Gives the activity back that went on apart. Its base, end and segment are those from before, so these fields are not written.
+/// Gives the activity back that went on apart. Its segment is that from before, so this field is not written.
 #[inline(always)]
 fn give_back(progress: &mut Progress, activity: Activity)
-    requires { IsSameFrame progress.old.activity activity }
+    requires { IsSameSegment progress.old.activity activity }
     ensures { progress.new ≡ with_activity progress.old activity }
 {
+    progress.activity.base = activity.base;
+    progress.activity.end = activity.end;
     progress.activity.top = activity.top;
     progress.activity.pc = activity.pc;
     progress.activity.held = activity.held;
 }
 
-/// Executes plain instructions as long as the process goes on by them. Tells whether it has arrived at a `when`.
+/// Executes plain instructions, calls and returns as long as the process goes on by them. Tells whether it has arrived at a `when`.
 ///
 /// Most instructions are executed here. The activity goes on in a copy, which is lent to no function that is not inlined and so may stay in
 /// registers; the turns and the marks change seldom and stay in memory.

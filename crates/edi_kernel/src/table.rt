@@ -316,7 +316,7 @@ impl Table {
         if at == 0 {
             return self.lists.take_front(READY);
         }
-        let slot = self.lists.nth(READY, at).unwrap();
+        let slot = self.lists.at(READY, at);
         self.withdraw(slot);
         slot
     }

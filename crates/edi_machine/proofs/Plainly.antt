@@ -1,7 +1,7 @@
 -- Plain instructions.
 use Rattle.std.proofs.Common.{◌≡◌, ℕ, zero, suc, ◌+◌, ◌-◌, ◌<◌, ◌≤◌, Bool, true, false, List, [], ◌∷◌, length, get_or, take, drop, Option}
 use Rattle.std.proofs.Common.{Some, None, refl, sym, ap, subst, ◌∙◌, arith, length-drop, get_or-drop}
-use Rattle.std.specs.Prelude.{MatchOption, slice_index}
+use Rattle.std.specs.Prelude.{MatchOption, slice_index, ⊤}
 use Rattle.std.proofs.Math.Seq.{take-length}
 use Rattle.edi_target.specs.Effect.{Effect, Local}
 use Rattle.edi_machine.specs.declared.activity.Activity.{Activity}
@@ -9,7 +9,7 @@ use Rattle.edi_machine.specs.declared.ends.TurnKind.TheVariants as kind
 use Rattle.edi_machine.specs.declared.ends.StepEnd.{StepEnd}
 use Rattle.edi_machine.specs.declared.ends.StepEnd.TheVariants as end
 use Rattle.edi_machine.specs.Numbers.{effect_by, is_plain_number}
-use Rattle.edi_machine.specs.Plain.{Plainly, is_plain}
+use Rattle.edi_machine.specs.Plain.{Looped, Plainly, is_looped, is_plain}
 use Rattle.edi_machine.specs.Steps.{Gives, effect_of}
 use Rattle.edi_machine.proofs.Commonly.{effect_there}
 
@@ -32,6 +32,30 @@ plainly_more m n answer old new h le = record {
   same_end = h.same_end;
   same_segment = h.same_segment;
 }
+
+looped_plain : (n : ℕ) (answer : StepEnd) → is_plain n answer ≡ true → is_looped n answer ≡ true
+looped_plain zero (end.Turn k) e = e
+looped_plain (suc n) (end.Turn kind.Enter) e = refl
+looped_plain (suc n) (end.Turn kind.End) e = refl
+looped_plain (suc n) (end.Turn k) e = e
+looped_plain n answer e = e
+
+-- an instruction that stays in its frame is one of the loop
+pub plainly_looped : (n : ℕ) (answer : StepEnd) (old new : Activity) → Plainly n answer old new → Looped n answer old new
+plainly_looped n answer old new h = record { looped = looped_plain n answer h.plain; same_segment = h.same_segment }
+
+-- where a turn is left, one is enough
+pub looped_left : (n : ℕ) (answer : StepEnd) (old new : Activity) → Looped 1 answer old new → 0 < n → Looped n answer old new
+looped_left zero answer old new h some = absurd (omega (arith, some))
+looped_left (suc n) answer old new h some = record { looped = same answer h.looped; same_segment = h.same_segment }
+  where
+    same : (a : StepEnd) → is_looped 1 a ≡ true → is_looped (suc n) a ≡ true
+    same (end.Turn kind.Enter) e = refl
+    same (end.Turn kind.End) e = refl
+    same (end.Turn kind.Loop) e = refl
+    same (end.Turn kind.Arrive) e = refl
+    same (end.Turn k) e = e
+    same a e = e
 
 module _ (words : List ℕ) (before after : Local) (Nothing : Type 0) where
   -- what the instruction gives that has these effects
@@ -64,3 +88,22 @@ none_plain words front at here room other =
     let same : slice_index front 0 ≡ slice_index words at =
     ap (λ (ws : List ℕ). slice_index ws 0) (sym here) ∙ get_or-drop at words 0 0 ∙ ap (λ (i : ℕ). slice_index words i) place in
     subst (λ (n : ℕ). is_plain_number n ≡ false) same (other (omega (arith, long, room)))
+
+-- what is said where the number at the front is that of a plain instruction, is said where that at the program counter is
+pub plain_there : (words front : List ℕ) (at : ℕ) (P : Type 0) → drop at words ≡ front → (is_plain_number (slice_index front 0) ≡ true → P)
+    → is_plain_number (slice_index words at) ≡ true → P
+plain_there words front at P here h plain =
+    let place : at + 0 ≡ at = omega arith in
+    let same : slice_index front 0 ≡ slice_index words at =
+    ap (λ (ws : List ℕ). slice_index ws 0) (sym here) ∙ get_or-drop at words 0 0 ∙ ap (λ (i : ℕ). slice_index words i) place in
+    h (subst (λ (n : ℕ). is_plain_number n ≡ true) (sym same) plain)
+
+-- what is done of a number that is that of no plain instruction
+pub whichever : (result : Option StepEnd) (X : Type 0) → X → MatchOption result ⊤ (λ _. X)
+whichever None X x = tt
+whichever (Some answer) X x = x
+
+pub not_plain : (result : Option StepEnd) (plain : Bool) (P : StepEnd → Type 0) → MatchOption result ⊤ (λ _. plain ≡ false) → plain ≡ true
+    → MatchOption result ⊤ P
+not_plain None plain P h e = tt
+not_plain (Some answer) plain P h e = let a : false ≡ true = sym h ∙ e in absurd (cc)

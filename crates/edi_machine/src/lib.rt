@@ -6,6 +6,7 @@ mod arithmetic;
 mod common;
 mod comparisons;
 mod constants;
+mod crossings;
 mod ends;
 mod frame;
 mod instruction;

@@ -1,17 +1,18 @@
 //! The plain instructions: those that are executed most often, but for CALL and RETURN. Their process stays in its frame, and they make no
-//! system call. Each is read, tested and executed at once by its number.
+//! system call. Each is read, tested and executed at once by its number. Beside them the loop executes CALL and RETURN (`crossings.rt`).
 
-ghost use Rattle.std.specs.Prelude.{◌≡◌, ◌+◌, ◌<◌, ◌≤◌, ◌^◌, ◌∷◌, ⊤, ℕ, Bool, None, false, drop, take, length, slice_index, MatchOption};
+ghost use Rattle.std.specs.Prelude.{◌≡◌, ◌+◌, ◌<◌, ◌≤◌, ◌^◌, ◌∷◌, ⊤, ℕ, Bool, None, false, true, drop, take, length, slice_index, MatchOption};
 ghost use Rattle.edi_store.specs.Copied.{IsMemory};
 ghost use Rattle.edi_machine.specs.Activities.{IsOrdered, local_of};
 ghost use Rattle.edi_machine.specs.Numbers.{effect_by, is_plain_number};
-ghost use Rattle.edi_machine.specs.Plain.{Plainly};
+ghost use Rattle.edi_machine.specs.Plain.{Looped, Plainly};
 ghost use Rattle.edi_machine.specs.Steps.{Gives, effect_of};
 
 use crate::activity::Activity;
 use crate::arithmetic::{Operator, calculate, negation, other_truth};
 use crate::comparisons::{Order, compare, compare_values};
 use crate::constants::{check, constant, element_address, field_address, frame_address};
+use crate::crossings::cross;
 use crate::ends::StepEnd;
 use crate::instruction::code_address;
 use crate::variables::{keep, keep_word, load, load_word};
@@ -260,7 +261,36 @@ pub fn execute_plain<const IN_LOOP: bool>(
     Some(end)
 }
 
-// Executes the instruction at the front of these words, which are those of the code from the activity's `pc` on, where it is a plain one.
+// Executes the instruction of this number and these operands, where it is one of the loop.
+#[tactic(auto, using(crate::proofs::Plainly::plainly_looped, crate::proofs::Plainly::not_plain))]
+#[inline(always)]
+fn execute_looped(
+    store: &mut Store,
+    activity: &mut Activity,
+    words: &[u16],
+    number: u16,
+    operands: &[u16],
+    turns_left: &u64,
+) -> Option<StepEnd>
+    requires size { length words.now < 2 ^ 32 }
+    requires room { activity.old.pc + 1 + length operands.now < 2 ^ 32 }
+    requires here { operands.now ≡ drop (activity.old.pc + 1) words.now }
+    requires ordered { IsOrdered activity.old }
+    ensures all { let l = local_of store.old activity.old in
+        MatchOption result ((store.new ≡ store.old) × (activity.new ≡ activity.old)) (λ end. (live : ℕ) (first : Bool) →
+        Gives (effect_by words.now live first (number ∷ operands.now) l) end l (local_of store.new activity.new)) }
+    ensures other { result ≡ None → 0 < turns_left.now → is_plain_number number ≡ false }
+    ensures plain { is_plain_number number ≡ true → MatchOption result ⊤ (λ end. Plainly turns_left.now end activity.old activity.new) }
+    ensures looped { MatchOption result ⊤ (λ end. Looped turns_left.now end activity.old activity.new) }
+    ensures ordered { IsOrdered activity.new }
+{
+    if let Some(end) = execute_plain::<true>(store, activity, words, number, operands, turns_left) {
+        return Some(end);
+    }
+    cross(store, activity, words, number, operands, turns_left)
+}
+
+// Executes the instruction at the front of these words, which are those of the code from the activity's `pc` on, where it is one of the loop.
 #[inline(always)]
 fn execute_front_plainly(
     store: &mut Store,
@@ -277,20 +307,22 @@ fn execute_front_plainly(
         MatchOption result ((store.new ≡ store.old) × (activity.new ≡ activity.old)) (λ end. (live : ℕ) (first : Bool) →
         Gives (effect_by words.now live first front.now l) end l (local_of store.new activity.new)) }
     ensures other { result ≡ None → 0 < turns_left.now → 0 < length front.now → is_plain_number (slice_index front.now 0) ≡ false }
-    ensures plain { MatchOption result ⊤ (λ end. Plainly turns_left.now end activity.old activity.new) }
+    ensures plain { is_plain_number (slice_index front.now 0) ≡ true →
+        MatchOption result ⊤ (λ end. Plainly turns_left.now end activity.old activity.new) }
+    ensures looped { MatchOption result ⊤ (λ end. Looped turns_left.now end activity.old activity.new) }
     ensures ordered { IsOrdered activity.new }
 {
     match front {
-        [number, operands @ ..] => execute_plain::<true>(
+        [number, operands @ ..] => execute_looped(
             store, activity, words, *number, operands, turns_left,
         ),
         _ => None,
     }
 }
 
-/// Executes the instruction at the activity's `pc` where it is a plain one, two words of the code stand behind it, and a turn is left for
-/// the one that is due after it, which is not taken here. `None` tells that nothing was done: `step` executes that instruction. With a
-/// turn left and two words behind, only an instruction that is no plain one is left to it.
+/// Executes the instruction at the activity's `pc` where it is a plain one, or a CALL or RETURN as these most often are, two words of the
+/// code stand behind it, and a turn is left for the one that is due after it, which is not taken here. `None` tells that nothing was done:
+/// `step` executes that instruction. With a turn left and two words behind, only an instruction that is no plain one is left to it.
 ///
 /// What it gives is told as for a step, whatever processes live; all else that `step` tells follows.
 #[inline(always)]
@@ -307,7 +339,9 @@ pub fn step_plainly(
         Gives (effect_of words.now live first before) end before (local_of store.new activity.new)) }
     ensures other { result ≡ None → 0 < turns_left.now → activity.old.pc + 3 ≤ length words.now
         → is_plain_number (slice_index words.now activity.old.pc) ≡ false }
-    ensures plain { MatchOption result ⊤ (λ end. Plainly turns_left.now end activity.old activity.new) }
+    ensures plain { is_plain_number (slice_index words.now activity.old.pc) ≡ true →
+        MatchOption result ⊤ (λ end. Plainly turns_left.now end activity.old activity.new) }
+    ensures looped { MatchOption result ⊤ (λ end. Looped turns_left.now end activity.old activity.new) }
     ensures ordered { IsOrdered activity.new }
     ensures was_whole { IsMemory store.old }
     ensures whole { IsMemory store.new }

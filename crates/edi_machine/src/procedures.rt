@@ -9,6 +9,7 @@ ghost use Rattle.edi_target.specs.Memory.{level, word};
 ghost use Rattle.edi_target.specs.Effect.{Local, due, enter, finishing, frame_words, needs};
 ghost use Rattle.edi_target.specs.Perform.{leave};
 ghost use Rattle.edi_machine.specs.Activities.{IsOrdered, local_of};
+ghost use Rattle.edi_machine.specs.Plain.{Looped};
 ghost use Rattle.edi_machine.specs.Steps.{Gives};
 
 use crate::activity::Activity;
@@ -21,13 +22,13 @@ use edi_target::Op;
 
 /// What an ENTRY says of its block, and the address behind it.
 #[derive(Clone, Copy)]
-struct Block {
-    need: u32,
-    results: u32,
-    parameters: u32,
-    variables: u32,
-    function: u16,
-    body: u32,
+pub struct Block {
+    pub need: u32,
+    pub results: u32,
+    pub parameters: u32,
+    pub variables: u32,
+    pub function: u16,
+    pub body: u32,
 }
 
 // Writes a new frame of `need` words at `at`, for a block that is called from the frame at `base`, whose words above `top`
@@ -55,9 +56,9 @@ fn put_frame(store: &mut Store, at: u32, block: Block, link: u16, base: u32, bac
     store.clear(at + 5 + block.results + block.parameters, block.need - rest);
 }
 
-// Enters the block of an ENTRY with this static link.
-#[inline(never)]
-fn enter_block(
+/// Enters the block of an ENTRY with this static link.
+#[inline(always)]
+pub fn enter_block(
     store: &mut Store,
     activity: &mut Activity,
     block: Block,
@@ -72,6 +73,7 @@ fn enter_block(
     ensures exact { let l = local_of store.old activity.old in
         let entry = op.entry block.need block.results block.parameters block.variables block.function in
         Gives (enter (Some (entry, block.body)) link next line l) result l (local_of store.new activity.new) }
+    ensures looped { Looped 1 result activity.old activity.new }
     ensures ordered { IsOrdered activity.new }
 {
     if block.function == 1 && activity.held == u16::MAX {
@@ -95,7 +97,7 @@ fn enter_block(
 }
 
 /// Enters the block of the ENTRY at `target` with this static link.
-#[inline(always)]
+#[inline(never)]
 pub fn enter(
     store: &mut Store,
     activity: &mut Activity,
@@ -159,13 +161,19 @@ pub fn call(
     enter(store, activity, words, target, link, line, next)
 }
 
-// Leaves a frame that is not the first of its process.
-#[inline(never)]
-fn leave_frame(store: &mut Store, activity: &mut Activity, results: u32, function: u16) -> StepEnd
+/// Leaves a frame that is not the first of its process.
+#[inline(always)]
+pub fn leave_frame(
+    store: &mut Store,
+    activity: &mut Activity,
+    results: u32,
+    function: u16,
+) -> StepEnd
     requires ordered { IsOrdered activity.old }
     requires results { results < 2 ^ 16 }
     ensures exact { let l = local_of store.old activity.old in
         Gives (leave results function (word l.memory (l.base + 1)) (word l.memory (l.base + 4)) l) result l (local_of store.new activity.new) }
+    ensures looped { Looped 1 result activity.old activity.new }
     ensures ordered { IsOrdered activity.new }
 {
     let at = activity.base;

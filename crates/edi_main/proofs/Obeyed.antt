@@ -1,5 +1,5 @@
 -- From what the words are to the command that is obeyed.
-use Rattle.std.proofs.Common.{◌≡◌, ◌∙◌, ◌⊎◌, ◌&&◌, not, inl, inr, ℕ, Bool, true, false, true≢false, List, [], Option, Some, None, option_map, refl, sym, subst}
+use Rattle.std.proofs.Common.{◌≡◌, ◌∙◌, ◌⊎◌, ◌&&◌, arith, not, inl, inr, ℕ, Bool, true, false, true≢false, List, [], Option, Some, None, option_map, refl, sym, subst, ap}
 use Rattle.edi_told.specs.Faults.{CountRose}
 use Rattle.edi_host.specs.Contents.{Contents}
 use Rattle.std.specs.Borrow.{Bor}
@@ -11,20 +11,24 @@ use Rattle.edi_words.specs.Words as words
 use Rattle.edi_words.specs.View.{options_of, view}
 use Rattle.edi_statuses.specs.declared.status.Status.{Status}
 use Rattle.edi_statuses.specs.declared.status.Status.TheVariants as status
-use Rattle.edi_statuses.specs.Counts.{Counts, HasCause, NoneFalls}
-use Rattle.edi_statuses.specs.Outside.{Outside, KernelLeft, Lent}
+use Rattle.edi_statuses.specs.Counts.{Counts, HasCause, IsBlamed, NoneFalls, OutputRose}
+use Rattle.edi_statuses.specs.Outside.{Blamed, Outside, KernelLeft, Lent, blaming}
 use Rattle.edi_told.specs.Told.{WhereTold}
+use Rattle.edi_statuses.specs.OnFiles.{IsOfFiles}
+use Rattle.edi_statuses.proofs.Causes.{output_rose}
 use Rattle.edi_statuses.proofs.EachLeft.{each_same}
 use Rattle.edi_statuses.proofs.Silent.{idle, nothing_shown}
-use Rattle.edi_commands.specs.disk.OnDisk.{MeansOnDisk, RestStays}
+use Rattle.edi_commands.specs.disk.OnDisk.{IsOfDisk, MeansOnDisk, RestStays}
+use Rattle.edi_commands.specs.run.Blaming.{Blaming}
 use Rattle.edi_commands.specs.run.RunMeans.{replaying}
 use Rattle.edi_commands.proofs.run.Meaning.{replayed}
 use Rattle.edi_statuses.specs.Lines.{text_of}
 use Rattle.edi_statuses.specs.Facts.{DriveUse, leaves_drive, mounts_last, mounts_first, formats_to, facts_of}
 use Rattle.edi_statuses.specs.EachObject.{CountsBlocks, CountsNew, CountsUsed, FitsCount, FitsGet, Handed, KeepsImage, LeavesEach, RunStays, UnmountedStay, UnusedStay}
-use Rattle.edi_statuses.specs.EachObject.{asks_first, asks_last, comes_to, formats, handed, is_at_drive, is_unread, stops_by, stops_first, uses_devices, uses_drive}
+use Rattle.edi_statuses.specs.EachObject.{asks_first, asks_last, command_does, comes_to, formats, handed, is_at_drive, is_unread, stops_by, stops_first, uses_devices, uses_drive}
 use Rattle.edi_statuses.specs.EachObject.{uses_input, uses_kernel}
-use Rattle.edi_statuses.specs.Decided.{Came}
+use Rattle.edi_statuses.specs.Always.{lent_from}
+use Rattle.edi_statuses.specs.Decided.{Came, CameBlaming}
 
 pub no_words : (f : Option commands.Command) (x : Option Command) → option_map view f ≡ x → f ≡ None → x ≡ None
 no_words f x exact none = subst (λ y. y ≡ None) exact (subst (λ g. option_map view g ≡ None) (sym none) refl)
@@ -42,6 +46,13 @@ obeyed_demo c n m o s due before after kernel is same came =
     obeyed_so c (command.Demo n o) s due before after kernel is
     (subst (λ k. Came s due (Some (words.demo k (options_of o))) before after kernel) same came)
 
+pub obeyed_timed_demo : (c : commands.Command) (n m : ℕ) (out : Bor Text) (o : Options) (s : Status) (due : Bool) (before after : Outside) (kernel : Lent)
+    → c ≡ command.TimeDemo n out o → m ≡ n → Came s due (Some (words.time_demo m out.now (options_of o))) before after kernel
+    → Came s due (Some (view c)) before after kernel
+obeyed_timed_demo c n m out o s due before after kernel is same came =
+    obeyed_so c (command.TimeDemo n out o) s due before after kernel is
+    (subst (λ k. Came s due (Some (words.time_demo k out.now (options_of o))) before after kernel) same came)
+
 -- so of a replay, which is a run
 pub obeyed_replay : (c : commands.Command) (file choices : Bor Text) (turns : ℕ) (o : Options) (s : Status) (due : Bool) (before after : Outside)
     (kernel : Lent) → c ≡ command.Replay file choices turns → options_of o ≡ replaying choices.now turns
@@ -58,6 +69,53 @@ obeyed c d meant s due before after kernel is same silent came =
     subst (λ x. Came s due (Some (view x)) before after kernel) (sym is)
     (subst (λ t. Came t due (Some (view d)) before after kernel) (sym same)
     (subst (λ x. Came meant x (Some (view d)) before after kernel) (sym silent) came))
+
+-- ---- what is blamed
+
+-- a command that runs a program blames what has failed in it
+pub came_run : (c : Option Command) (s : Status) (due : Bool) (before after : Outside) (had has : Counts) (was now : KernelLeft)
+    → command_does uses_devices c ≡ true → HasCause s had has → (blamed : Blamed)
+    → IsBlamed blamed s had.terminal has.terminal had.printer has.printer → Came s due c before after (blaming blamed (lent_from was now))
+    → CameBlaming s due c before after had has (lent_from was now)
+came_run c s due before after had has was now uses cause blamed is came =
+    (blamed, (λ same. subst (λ u. OutputRose u blamed had has) (sym uses) (output_rose blamed s had has is cause same)), came)
+
+-- so of a command as the code has it
+pub run_so : (c d : commands.Command) (s : Status) (due : Bool) (before after : Outside) (had has : Counts) (was now : KernelLeft) → c ≡ d
+    → uses_devices (view d) ≡ true → HasCause s had has
+    → Blaming s had.terminal has.terminal had.printer has.printer (Came s due (Some (view d)) before after) (lent_from was now)
+    → CameBlaming s due (Some (view c)) before after had has (lent_from was now)
+run_so c d s due before after had has was now is uses cause came =
+    came_run (Some (view c)) s due before after had has was now (ap (λ x. uses_devices (view x)) is ∙ uses) cause came.0 came.1
+    (obeyed_so c d s due before after (blaming came.0 (lent_from was now)) is came.2)
+
+-- another one blames none: of the output only the terminal can have failed
+pub came_else : (c : Option Command) (s : Status) (due : Bool) (before after : Outside) (had has : Counts) (was now : KernelLeft)
+    → command_does uses_devices c ≡ false → (s ≡ status.OutputFault → CountRose had.terminal has.terminal)
+    → Came s due c before after (blaming None (lent_from was now)) → CameBlaming s due c before after had has (lent_from was now)
+came_else c s due before after had has was now none rose came =
+    (None, (λ same. subst (λ u. OutputRose u None had has) (sym none) (rose same)), came)
+
+-- where a printer that never fails is no cause, the terminal is
+pub terminal_rose : (s : Status) (had has : Counts) → has.printer ≡ 0 → HasCause s had has → s ≡ status.OutputFault
+    → CountRose had.terminal has.terminal
+terminal_rose s had has never cause same = elim (subst (λ x. HasCause x had has) same cause) [
+  | inl rose ↦ rose
+  | inr rose ↦ absurd (omega (arith, rose, never))
+]
+
+-- a command that shows nothing
+pub never_on_files : (s t : Status) (had has : ℕ) → t ≡ s → IsOfFiles s → t ≡ status.OutputFault → CountRose had has
+never_on_files s t had has is kind same = absurd (subst IsOfFiles (sym is ∙ same) kind)
+
+pub never_on_disk : (s t : Status) (had has : ℕ) → t ≡ s → IsOfDisk s → t ≡ status.OutputFault → CountRose had has
+never_on_disk s t had has is kind same = absurd (subst IsOfDisk (sym is ∙ same) kind)
+
+pub never_output : (s t : Status) (A : Type 0) → t ≡ s → (s ≡ status.OutputFault → ⊥) → t ≡ status.OutputFault → A
+never_output s t A is other same = absurd (other (sym is ∙ same))
+
+pub never_so : (s t : Status) (had has : ℕ) → t ≡ s → (s ≡ status.OutputFault → ⊥) → t ≡ status.OutputFault → CountRose had has
+never_so s t had has is other same = absurd (other (sym is ∙ same))
 
 -- ---- commands that touch the files and the drive alone
 

@@ -7,13 +7,13 @@ ghost use Rattle.edi_words.specs.Words.{command_of, newdisk};
 ghost use Rattle.edi_words.specs.View.{options_of, view, IsInRange};
 ghost use Rattle.edi_commands.specs.run.RunMeans.{replaying};
 ghost use Rattle.edi_commands.specs.disk.OnDisk.{HasCauseOnDisk, MeansOnDisk};
-ghost use Rattle.edi_statuses.specs.Outside.{lent, outside_of, Shows};
+ghost use Rattle.edi_statuses.specs.Outside.{Blamed, blaming, lent, outside_of, Shows};
 ghost use Rattle.edi_statuses.specs.Counts.{counts_of, HasCause, NoneFalls};
 ghost use Rattle.edi_statuses.specs.EachObject.{command_does, handed, is_before_format, is_silent, uses_files};
 ghost use Rattle.edi_statuses.specs.EachObject.{CountsBlocks, CountsNew, LeavesEach, UnmountedStay, UnusedStay};
 ghost use Rattle.edi_statuses.specs.Explored.{is_exploration};
 ghost use Rattle.edi_statuses.specs.Means.{EndsWith};
-ghost use Rattle.edi_statuses.specs.Decided.{Came};
+ghost use Rattle.edi_statuses.specs.Decided.{CameBlaming};
 
 use edi_commands::boot::boot;
 use edi_commands::code::list;
@@ -84,9 +84,11 @@ fn perform<F: Files, D: Drive, S: Source, T: Sink, P: Sink, W: Watcher>(
     watcher: &mut W,
 ) -> Ended
     requires range { IsInRange command }
-    ensures came { Came result.status result.due (Some (view command.entry))
+    ensures came { CameBlaming result.status result.due (Some (view command.entry))
         (outside_of F.contents D.contents S.left T.taken P.taken files.old drive.old input.old terminal.old printer.old)
         (outside_of F.contents D.contents S.left T.taken P.taken files.new drive.new input.new terminal.new printer.new)
+        (counts_of F.faults D.faults S.faults T.faults P.faults files.old drive.old input.old terminal.old printer.old)
+        (counts_of F.faults D.faults S.faults T.faults P.faults files.new drive.new input.new terminal.new printer.new)
         (lent kernel.old.store kernel.old.used kernel.new.store kernel.new.used) }
     ensures cause { HasCause result.status
         (counts_of F.faults D.faults S.faults T.faults P.faults files.old drive.old input.old terminal.old printer.old)
@@ -133,6 +135,7 @@ fn perform<F: Files, D: Drive, S: Source, T: Sink, P: Sink, W: Watcher>(
         Command::Demo { n, options } => demonstrate(
             alloc,
             u32::from(n),
+            None,
             options,
             files,
             terminal,
@@ -167,6 +170,16 @@ fn perform<F: Files, D: Drive, S: Source, T: Sink, P: Sink, W: Watcher>(
         Command::TimeCode { file, out, options } => time_file(
             alloc, Code, file, out, options, files, drive, input, terminal, printer, kernel,
         ),
+        Command::TimeDemo { n, out, options } => demonstrate(
+            alloc,
+            u32::from(n),
+            Some(out),
+            options,
+            files,
+            terminal,
+            printer,
+            kernel,
+        ),
     }
 }
 
@@ -182,9 +195,11 @@ fn obey<F: Files, D: Drive, S: Source, T: Sink, P: Sink, W: Watcher>(
     kernel: &mut Kernel,
     watcher: &mut W,
 ) -> Ended
-    ensures came { Came result.status result.due (command_of (map string_bytes words.now))
+    ensures came { CameBlaming result.status result.due (command_of (map string_bytes words.now))
         (outside_of F.contents D.contents S.left T.taken P.taken files.old drive.old input.old terminal.old printer.old)
         (outside_of F.contents D.contents S.left T.taken P.taken files.new drive.new input.new terminal.new printer.new)
+        (counts_of F.faults D.faults S.faults T.faults P.faults files.old drive.old input.old terminal.old printer.old)
+        (counts_of F.faults D.faults S.faults T.faults P.faults files.new drive.new input.new terminal.new printer.new)
         (lent kernel.old.store kernel.old.used kernel.new.store kernel.new.used) }
     ensures cause { HasCause result.status
         (counts_of F.faults D.faults S.faults T.faults P.faults files.old drive.old input.old terminal.old printer.old)
@@ -214,8 +229,8 @@ fn obey<F: Files, D: Drive, S: Source, T: Sink, P: Sink, W: Watcher>(
 
 /// Does what the words say, which are those after the program's name, and answers how it ended.
 ///
-/// The line of the status is shown on the terminal. `Ok` has none, and neither has `OutputFault`: there bytes of the command, on the
-/// terminal or the printer, or the line of its status could not be taken. While an exploration goes on the watcher is told how many states there are.
+/// The line of the status is shown on the terminal. `Ok` has none, and neither has `OutputFault`: there the terminal or the printer has
+/// failed. While an exploration goes on the watcher is told how many states there are.
 pub fn edison<F: Files, D: Drive, S: Source, T: Sink, P: Sink, W: Watcher>(
     alloc: Global,
     words: &[String],
@@ -227,16 +242,17 @@ pub fn edison<F: Files, D: Drive, S: Source, T: Sink, P: Sink, W: Watcher>(
     kernel: &mut Kernel,
     watcher: &mut W,
 ) -> Status
-    // The status means what it says of the words, of all that is outside before and behind the call and of the lent kernel; and
-    // the terminal has taken what goes with it, and no more. What is left of the drive, the input and the printer, each by itself, is told
-    // whatever the others tell.
+    // The status means what it says of the words, of all that is outside before and after the call and of the lent kernel; and the terminal
+    // has taken what goes with it, and no more. Where the devices tell, an object that a failed call of a program uses is blamed, and its
+    // count rose; in a session none is blamed.
+    // What is left of the drive, the input and the printer, each by itself, is told whatever the others tell.
     ensures ends { let before = outside_of F.contents D.contents S.left T.taken P.taken files.old drive.old input.old terminal.old printer.old in
         let after = outside_of F.contents D.contents S.left T.taken P.taken files.new drive.new input.new terminal.new printer.new in
         let had = counts_of F.faults D.faults S.faults T.faults P.faults files.old drive.old input.old terminal.old printer.old in
         let has = counts_of F.faults D.faults S.faults T.faults P.faults files.new drive.new input.new terminal.new printer.new in
-        (all : List ℕ)
+        (all : List ℕ) × (blamed : Blamed)
         × EndsWith result (command_of (map string_bytes words.now)) before after had has all
-        (lent kernel.old.store kernel.old.used kernel.new.store kernel.new.used)
+        (blaming blamed (lent kernel.old.store kernel.old.used kernel.new.store kernel.new.used))
         × Shows before after all
         × LeavesEach (command_of (map string_bytes words.now)) before after }
 

@@ -207,6 +207,12 @@ pub some_first : (xs : List ℕ) → 0 < length xs → IsSome (slice_get xs 0)
 some_first [] lt = absurd (omega (arith, lt))
 some_first (x ∷ xs) lt = refl
 
+-- at an index below its length a list has a node
+pub some_at : (xs : List ℕ) (k : ℕ) → k < length xs → IsSome (slice_get xs k)
+some_at [] k lt = absurd (omega (arith, lt))
+some_at (x ∷ xs) zero lt = refl
+some_at (x ∷ xs) (suc k) lt = some_at xs k (omega arith)
+
 -- a node taken out and put at the back of the same list is where it was
 pub homes_again : (was mid now : ℕ → Option ℕ) (list node : ℕ) → was node ≡ Some list → ((q : ℕ) → mid q ≡ cond (eqb q node) None (was q))
     → ((q : ℕ) → now q ≡ cond (eqb q node) (Some list) (mid q)) → (q : ℕ) → now q ≡ was q

@@ -1,3 +1,4 @@
+pub mod Elements
 pub mod Chain
 pub mod Arrays
 pub mod Homes

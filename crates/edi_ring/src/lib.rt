@@ -1,45 +1,115 @@
 //! Lists linked by index: `M` doubly linked lists over the nodes `0` to `N - 1`, kept in fixed arrays.
 #![tactic(auto)]
 
-ghost use Rattle.std.specs.Prelude.{◌≡◌, ℕ, ◌+◌, ◌<◌, ◌≤◌, ◌==◌, if◌then◌else◌, [], length, replicate, IsSome, IfSome, slice_get};
+ghost use Rattle.std.specs.Prelude.{◌≡◌, ℕ, ◌+◌, ◌<◌, ◌≤◌, ◌==◌, ◌^◌, if◌then◌else◌, Some, None, [], length, replicate, IsSome, IfSome, slice_get, slice_index_or};
 ghost use Rattle.std.specs.Option.{ForSome};
 ghost use Rattle.edi_ring.specs.Lists.{list_at, home_of, appended, without, IsSound};
-ghost use Rattle.edi_ring.specs.Links.{redirected, redirected_end, shortened};
+ghost use Rattle.edi_ring.specs.Links.{no_ends, redirected, redirected_end, shortened};
 
 use std::marker::Model;
+
+/// A number or none, in one word: 0 is none, and every other word is the number plus 1. Contracts see an `Option`.
+#[derive(Clone, Copy, Debug)]
+struct Link {
+    word: usize,
+}
+
+impl Model for Link {
+    ghost use Rattle.std.specs.Prelude.{ℕ, Option};
+    ghost use Rattle.edi_ring.specs.Words.{number_in, word_of, word_of-number_in};
+
+    ghost Value = { Option ℕ };
+
+    ghost view = { λ s. number_in s.word };
+
+    ghost inverse = { λ o. record { word = word_of o } };
+
+    ghost inverse_ok = { λ s h i. record { word = word_of-number_in s.word i } };
+}
+
+impl Link {
+    #[inline(always)]
+    fn none() -> Link
+        ensures { result ≡ None }
+    {
+        Link { word: 0 }
+    }
+
+    #[inline(always)]
+    fn to(number: usize) -> Link
+        requires { number + 1 < 2 ^ 64 }
+        ensures { result ≡ Some number }
+    {
+        Link { word: number + 1 }
+    }
+
+    #[inline(always)]
+    fn number(self) -> Option<usize>
+        ensures { result ≡ self }
+    {
+        if self.word == 0 {
+            return None;
+        }
+        Some(self.word - 1)
+    }
+
+    // The number, which is there, so no test is made.
+    #[inline(always)]
+    fn there(self) -> usize
+        requires { IsSome self }
+        ensures { self ≡ Some result }
+    {
+        self.word - 1
+    }
+}
 
 /// The two ends of one list, and how many nodes it has.
 #[derive(Clone, Copy, Debug)]
 struct Ends {
-    first: Option<usize>,
-    last: Option<usize>,
+    first: Link,
+    last: Link,
     len: usize,
 }
 
 /// `M` lists of nodes. A node is a number below `N`, and it stands in one list at most.
 ///
 /// Contracts see the lists themselves, each as the list of its nodes from the front to the back.
-/// Every call but `nth` takes a few steps, whatever the lengths of the lists, and none allocates.
+/// Every call but `nth` and `at` takes a few steps, whatever the lengths of the lists, and none allocates.
 #[derive(Debug, Drop)]
 pub struct Lists<const N: usize, const M: usize> {
     ends: [Ends; M],
-    next: [Option<usize>; N],
-    prev: [Option<usize>; N],
-    home: [Option<usize>; N],
+    next: [Link; N],
+    prev: [Link; N],
+    home: [Link; N],
+}
+
+// The link that is kept at a node.
+#[tactic(auto, using(crate::proofs::Elements::link_there))]
+#[inline(always)]
+fn link_at<const N: usize>(links: &[Link; N], node: usize) -> Link
+    requires { node < N }
+    ensures { result ≡ slice_index_or links.now node None }
+{
+    links[node]
+}
+
+// The ends of a list.
+#[tactic(auto, using(crate::proofs::Elements::ends_there))]
+#[inline(always)]
+fn ends_at<const M: usize>(ends: &[Ends; M], list: usize) -> Ends
+    requires { list < M }
+    ensures { result ≡ slice_index_or ends.now list no_ends }
+{
+    ends[list]
 }
 
 // Where no node is at `index`, it is the one outside the list, whose link is the list's end.
-fn redirect<const N: usize>(
-    links: &mut [Option<usize>; N],
-    end: &mut Option<usize>,
-    index: Option<usize>,
-    target: Option<usize>,
-)
+fn redirect<const N: usize>(links: &mut [Link; N], end: &mut Link, index: Link, target: Link)
     requires { ForSome index (λ node. node < N) }
     ensures links { links.new ≡ redirected links.old index target }
     ensures end { end.new ≡ redirected_end end.old index target }
 {
-    match index {
+    match index.number() {
         Some(node) => links[node] = target,
         None => *end = target,
     }
@@ -48,11 +118,11 @@ fn redirect<const N: usize>(
 // Leads the links of a list past the one node of it that stands between these two, and counts one less.
 #[inline(always)]
 fn lead_past<const N: usize>(
-    next: &mut [Option<usize>; N],
-    prev: &mut [Option<usize>; N],
+    next: &mut [Link; N],
+    prev: &mut [Link; N],
     ends: &mut Ends,
-    before: Option<usize>,
-    after: Option<usize>,
+    before: Link,
+    after: Link,
 )
     requires before_in_range { ForSome before (λ node. node < N) }
     requires after_in_range { ForSome after (λ node. node < N) }
@@ -83,16 +153,17 @@ impl<const N: usize, const M: usize> Lists<N, M> {
         ensures exact { result ≡ replicate M [] }
         ensures sound { IsSound N M result }
     {
-        let none = Ends {
-            first: None,
-            last: None,
+        let none = Link::none();
+        let empty = Ends {
+            first: none,
+            last: none,
             len: 0,
         };
         Lists {
-            ends: [none; M],
-            next: [None; N],
-            prev: [None; N],
-            home: [None; N],
+            ends: [empty; M],
+            next: [none; N],
+            prev: [none; N],
+            home: [none; N],
         }
     }
 
@@ -106,14 +177,20 @@ impl<const N: usize, const M: usize> Lists<N, M> {
         ensures homes { (q : ℕ) → home_of self.new q ≡ (if q == node then Some list else home_of self.old q) }
         ensures sound { IsSound N M self.new }
     {
-        let ends = &mut self.ends[list];
-        let last = ends.last;
-        self.next[node] = None;
-        self.prev[node] = last;
-        self.home[node] = Some(list);
-        redirect(&mut self.next, &mut ends.first, last, Some(node));
-        ends.last = Some(node);
-        ends.len += 1;
+        let ends = ends_at(&self.ends, list);
+        let here = Link::to(node);
+        let home = Link::to(list);
+        let none = Link::none();
+        let mut first = ends.first;
+        self.next[node] = none;
+        self.prev[node] = ends.last;
+        self.home[node] = home;
+        redirect(&mut self.next, &mut first, ends.last, here);
+        self.ends[list] = Ends {
+            first,
+            last: here,
+            len: ends.len + 1,
+        };
     }
 
     /// Removes the node, which is in a list, from there.
@@ -125,11 +202,14 @@ impl<const N: usize, const M: usize> Lists<N, M> {
         ensures homes { (q : ℕ) → home_of self.new q ≡ (if q == node then None else home_of self.old q) }
         ensures sound { IsSound N M self.new }
     {
-        let list = self.home[node].unwrap();
-        let (before, after) = (self.prev[node], self.next[node]);
-        let ends = &mut self.ends[list];
-        lead_past(&mut self.next, &mut self.prev, ends, before, after);
-        self.home[node] = None;
+        let list = link_at(&self.home, node).there();
+        let before = link_at(&self.prev, node);
+        let after = link_at(&self.next, node);
+        let none = Link::none();
+        let mut ends = ends_at(&self.ends, list);
+        lead_past(&mut self.next, &mut self.prev, &mut ends, before, after);
+        self.ends[list] = ends;
+        self.home[node] = none;
     }
 
     /// Removes the first node of the list, which has one, from there.
@@ -142,11 +222,13 @@ impl<const N: usize, const M: usize> Lists<N, M> {
         ensures homes { (q : ℕ) → home_of self.new q ≡ (if q == result then None else home_of self.old q) }
         ensures sound { IsSound N M self.new }
     {
-        let node = self.ends[list].first.unwrap();
-        let after = self.next[node];
-        let ends = &mut self.ends[list];
-        lead_past(&mut self.next, &mut self.prev, ends, None, after);
-        self.home[node] = None;
+        let mut ends = ends_at(&self.ends, list);
+        let node = ends.first.there();
+        let after = link_at(&self.next, node);
+        let none = Link::none();
+        lead_past(&mut self.next, &mut self.prev, &mut ends, none, after);
+        self.ends[list] = ends;
+        self.home[node] = none;
         node
     }
 
@@ -158,7 +240,7 @@ impl<const N: usize, const M: usize> Lists<N, M> {
         ensures homes { (q : ℕ) → home_of self.new q ≡ home_of self.old q }
         ensures sound { IsSound N M self.new }
     {
-        let list = self.home[node].unwrap();
+        let list = link_at(&self.home, node).there();
         self.take(node);
         self.push_back(list, node);
     }
@@ -169,7 +251,7 @@ impl<const N: usize, const M: usize> Lists<N, M> {
         ensures exact { result ≡ slice_get (list_at self.now list) 0 }
         ensures sound { IsSound N M self.now }
     {
-        self.ends[list].first
+        ends_at(&self.ends, list).first.number()
     }
 
     /// The node at index `i` of the list, counted from 0 at the front; `None` exactly where the
@@ -179,12 +261,27 @@ impl<const N: usize, const M: usize> Lists<N, M> {
         ensures exact { result ≡ slice_get (list_at self.now list) i }
         ensures sound { IsSound N M self.now }
     {
-        let mut index = self.ends[list].first;
+        let mut index = ends_at(&self.ends, list).first.number();
         for _step in 0..i {
             let node = index?;
-            index = self.next[node];
+            index = link_at(&self.next, node).number();
         }
         index
+    }
+
+    /// The node at index `i` of the list, which has one there; counted from 0 at the front. It goes from node to node, as `nth` does.
+    pub fn at(&self, list: usize, i: usize) -> usize
+        requires list_in_range { list < M }
+        requires there { i < length (list_at self.now list) }
+        ensures exact { slice_get (list_at self.now list) i ≡ Some result }
+        ensures within { result < N }
+        ensures sound { IsSound N M self.now }
+    {
+        let mut place = ends_at(&self.ends, list).first;
+        for _step in 0..i {
+            place = link_at(&self.next, place.there());
+        }
+        place.there()
     }
 
     /// How many nodes the list has.
@@ -194,7 +291,7 @@ impl<const N: usize, const M: usize> Lists<N, M> {
         ensures bound { result ≤ N }
         ensures sound { IsSound N M self.now }
     {
-        self.ends[list].len
+        ends_at(&self.ends, list).len
     }
 
     /// The list that has the node; `None` exactly where no list has it.
@@ -203,6 +300,6 @@ impl<const N: usize, const M: usize> Lists<N, M> {
         ensures exact { result ≡ home_of self.now node }
         ensures sound { IsSound N M self.now }
     {
-        self.home[node]
+        link_at(&self.home, node).number()
     }
 }

@@ -10,8 +10,8 @@ use Rattle.edi_statuses.specs.declared.status.Status.TheVariants as status
 use Rattle.edi_statuses.specs.Lines.{closing, closing_line, is_due, text_of}
 use Rattle.edi_statuses.specs.Showing.{ClosesWith}
 use Rattle.edi_statuses.specs.Fronts.{IsFront}
-use Rattle.edi_statuses.specs.Counts.{Counts, HasCause}
-use Rattle.edi_statuses.specs.EachObject.{LeavesEach}
+use Rattle.edi_statuses.specs.Counts.{Counts, HasCause, OutputRose}
+use Rattle.edi_statuses.specs.EachObject.{LeavesEach, command_does, uses_devices}
 use Rattle.edi_statuses.specs.Outside.{Outside, Shows, Lent}
 use Rattle.edi_statuses.specs.Means.{EndsWith, IsCutShort, Means}
 use Rattle.edi_statuses.specs.Decided.{EndsAll, LinesEnd, with_shown}
@@ -68,32 +68,32 @@ no_text text e = cc
 
 -- a status without a line
 ends_silent : (s : Status) (c : Option Command) (before after : Outside) (had has : Counts) (shown : List ℕ) (kernel : Lent) → text_of s ≡ None
-    → Means s c before after shown kernel
+    → (s ≡ status.OutputFault → OutputRose (command_does uses_devices c) kernel.failed had has) → Means s c before after shown kernel
     → EndsWith s c before after had has shown kernel
-ends_silent status.Ok c before after had has shown kernel none h = (shown, h, sym (append-nil shown))
-ends_silent status.OutputFault c before after had has shown kernel none h = inl h
-ends_silent status.Words c before after had has shown kernel none h = absurd (no_text _ none)
-ends_silent status.NoMemory c before after had has shown kernel none h = absurd (no_text _ none)
-ends_silent status.FileFault c before after had has shown kernel none h = absurd (no_text _ none)
-ends_silent status.DriveFault c before after had has shown kernel none h = absurd (no_text _ none)
-ends_silent status.InputFault c before after had has shown kernel none h = absurd (no_text _ none)
-ends_silent (status.Refused kind line) c before after had has shown kernel none h = absurd (no_text _ none)
-ends_silent (status.Stopped cause line) c before after had has shown kernel none h = absurd (no_text _ none)
-ends_silent status.Turns c before after had has shown kernel none h = absurd (no_text _ none)
-ends_silent (status.BadImage broken) c before after had has shown kernel none h = absurd (no_text _ none)
-ends_silent (status.BadCode broken) c before after had has shown kernel none h = absurd (no_text _ none)
-ends_silent (status.BadState address) c before after had has shown kernel none h = absurd (no_text _ none)
-ends_silent status.Absent c before after had has shown kernel none h = absurd (no_text _ none)
-ends_silent (status.BadChoices line) c before after had has shown kernel none h = absurd (no_text _ none)
-ends_silent status.SessionLimit c before after had has shown kernel none h = absurd (no_text _ none)
-ends_silent status.DiskFull c before after had has shown kernel none h = absurd (no_text _ none)
-ends_silent status.FileLarge c before after had has shown kernel none h = absurd (no_text _ none)
-ends_silent status.Standstill c before after had has shown kernel none h = absurd (no_text _ none)
-ends_silent (status.BadPoints line) c before after had has shown kernel none h = absurd (no_text _ none)
-ends_silent (status.Found others) c before after had has shown kernel none h = absurd (no_text _ none)
-ends_silent status.NotAll c before after had has shown kernel none h = absurd (no_text _ none)
-ends_silent status.InputLimit c before after had has shown kernel none h = absurd (no_text _ none)
-ends_silent status.NoEnding c before after had has shown kernel none h = absurd (no_text _ none)
+ends_silent status.Ok c before after had has shown kernel none rose h = (shown, h, sym (append-nil shown))
+ends_silent status.OutputFault c before after had has shown kernel none rose h = inl (h, rose refl)
+ends_silent status.Words c before after had has shown kernel none rose h = absurd (no_text _ none)
+ends_silent status.NoMemory c before after had has shown kernel none rose h = absurd (no_text _ none)
+ends_silent status.FileFault c before after had has shown kernel none rose h = absurd (no_text _ none)
+ends_silent status.DriveFault c before after had has shown kernel none rose h = absurd (no_text _ none)
+ends_silent status.InputFault c before after had has shown kernel none rose h = absurd (no_text _ none)
+ends_silent (status.Refused kind line) c before after had has shown kernel none rose h = absurd (no_text _ none)
+ends_silent (status.Stopped cause line) c before after had has shown kernel none rose h = absurd (no_text _ none)
+ends_silent status.Turns c before after had has shown kernel none rose h = absurd (no_text _ none)
+ends_silent (status.BadImage broken) c before after had has shown kernel none rose h = absurd (no_text _ none)
+ends_silent (status.BadCode broken) c before after had has shown kernel none rose h = absurd (no_text _ none)
+ends_silent (status.BadState address) c before after had has shown kernel none rose h = absurd (no_text _ none)
+ends_silent status.Absent c before after had has shown kernel none rose h = absurd (no_text _ none)
+ends_silent (status.BadChoices line) c before after had has shown kernel none rose h = absurd (no_text _ none)
+ends_silent status.SessionLimit c before after had has shown kernel none rose h = absurd (no_text _ none)
+ends_silent status.DiskFull c before after had has shown kernel none rose h = absurd (no_text _ none)
+ends_silent status.FileLarge c before after had has shown kernel none rose h = absurd (no_text _ none)
+ends_silent status.Standstill c before after had has shown kernel none rose h = absurd (no_text _ none)
+ends_silent (status.BadPoints line) c before after had has shown kernel none rose h = absurd (no_text _ none)
+ends_silent (status.Found others) c before after had has shown kernel none rose h = absurd (no_text _ none)
+ends_silent status.NotAll c before after had has shown kernel none rose h = absurd (no_text _ none)
+ends_silent status.InputLimit c before after had has shown kernel none rose h = absurd (no_text _ none)
+ends_silent status.NoEnding c before after had has shown kernel none rose h = absurd (no_text _ none)
 
 pub is_some : {A : Type 0} (x : Option A) → (x ≡ None) ⊎ IsSome x
 is_some None = inl refl
@@ -153,7 +153,7 @@ with_line meant answer c before mid had has y kernel shown cause rose some means
 
 -- THE LAW
 pub lines_end : LinesEnd
-lines_end meant answer due c before mid had has y kernel cause came closed silent rose = by_text (is_some (text_of meant)) where
+lines_end meant answer due c before mid had has y kernel cause blamed came closed silent rose = by_text (is_some (text_of meant)) where
   means : Means meant c before (with_shown y mid) came.shown kernel
   means =
       later before mid y (still_closed meant answer (closing_line due meant) mid.shown y closed) meant c came.shown kernel came.means
@@ -166,7 +166,7 @@ lines_end meant answer due c before mid had has y kernel cause came closed silen
       let same = silent none in (
         came.shown,
         subst (λ s. EndsWith s c before (with_shown y mid) had has came.shown kernel) (sym same.0)
-            (ends_silent meant c before (with_shown y mid) had has came.shown kernel none means),
+            (ends_silent meant c before (with_shown y mid) had has came.shown kernel none blamed means),
         shown_same before.shown mid.shown y came.shown same.1 came.shows,
         each,
       )

@@ -1,15 +1,20 @@
--- What a status of `demo` means does not change where the terminal takes its line.
+-- What a status of `demo` means does not change where the terminal takes its line, with a timeline or without one.
 use Rattle.std.proofs.Common.{ℕ, List, [], Option, inl, inr}
+use Rattle.std.specs.Prelude.{◌⊎◌}
 use Rattle.edi_calls.specs.Choice.{Choices}
 use Rattle.edi_utils.specs.Demo.{demo_text}
+use Rattle.edi_words.specs.Words.{ChoicesFrom}
 use Rattle.edi_statuses.specs.declared.status.Status.{Status}
 use Rattle.edi_statuses.specs.declared.status.Status.TheVariants as status
 use Rattle.edi_statuses.specs.Outside.{Outside, seen, SameFiles, Lent}
 use Rattle.edi_statuses.specs.Executions.{Runnable, text, BrokeRun}
-use Rattle.edi_statuses.specs.Commands.{Demonstrates, OnItsOwn, Runs, with_own}
-use Rattle.edi_statuses.specs.Broken.{BrokeDemo, RanUnkept, RanWhole}
+use Rattle.edi_statuses.specs.Steps.{goes}
+use Rattle.edi_statuses.specs.Timelines.{TimedInPart, TimedLost, Times}
+use Rattle.edi_statuses.specs.Commands.{CommandEffect, Demonstrates, DemonstratesTimed, DemoSteps, Does, IsNothing, OnItsOwn, Runs, ShowsSize, with_own}
+use Rattle.edi_statuses.specs.Broken.{BrokeDemo, BrokeTimedDemo, CutsSize, HasBegun, RanUnkept, RanWhole}
 use Rattle.edi_statuses.specs.Decided.{with_shown}
-use Rattle.edi_statuses.proofs.Terminal.{StillTold, broke_later, runs_later, unkept_later, whole_later}
+use Rattle.edi_statuses.proofs.Terminal.{StillTold, broke_later, demo_later, does_later, nothing_later, runs_later, unkept_later, whole_later}
+use Rattle.edi_statuses.proofs.Timed.{in_part_later, lost_later, times_later}
 
 module _ (b m : Outside) (y : Option (List ℕ)) (still : StillTold m.shown y) where
   abbrev before_ : Outside
@@ -48,17 +53,92 @@ module _ (b m : Outside) (y : Option (List ℕ)) (still : StillTold m.shown y) w
         own_later (λ a c. RanUnkept program bound choices a c shown kernel)
         (λ disk left. unkept_later (with_own [] [] b) (with_own disk left m) y still program bound choices shown kernel)
 
-    own_broke : (shown : List ℕ) → OnItsOwn (λ a c. SameFiles a c × BrokeRun status.OutputFault program bound choices a c shown) before_ m
-        → OnItsOwn (λ a c. SameFiles a c × BrokeRun status.OutputFault program bound choices a c shown) seen_later later_
+    own_broke : (shown : List ℕ) → OnItsOwn (λ a c. SameFiles a c × BrokeRun status.OutputFault kernel.failed program bound choices a c shown) before_ m
+        → OnItsOwn (λ a c. SameFiles a c × BrokeRun status.OutputFault kernel.failed program bound choices a c shown) seen_later later_
     own_broke shown =
-        own_later (λ a c. SameFiles a c × BrokeRun status.OutputFault program bound choices a c shown)
-        (λ disk left h. (h.0, broke_later (with_own [] [] b) (with_own disk left m) y still status.OutputFault program bound choices shown h.1))
+        own_later (λ a c. SameFiles a c × BrokeRun status.OutputFault kernel.failed program bound choices a c shown)
+        (λ disk left h. (h.0, broke_later (with_own [] [] b) (with_own disk left m) y still status.OutputFault kernel.failed program bound choices shown h.1))
+
+    -- an effect stays, of the program on its own
+    abbrev OwnStays : CommandEffect → Type 0
+    OwnStays effect =
+        (s : Status) (shown : List ℕ) → OnItsOwn (λ a c. effect s a c shown kernel) before_ m → OnItsOwn (λ a c. effect s a c shown kernel) seen_later later_
+
+    size_later : (effect : CommandEffect) → OwnStays effect → (s : Status) (shown : List ℕ) → ShowsSize n effect s before_ m shown kernel
+        → ShowsSize n effect s seen_later later_ shown kernel
+    size_later effect own s shown h = record { by_program = h.by_program; shown_ = h.shown_; ran = own s h.by_program h.ran }
+
+    cut_later : (effect : CommandEffect) → OwnStays effect → (shown : List ℕ) → CutsSize n effect before_ m shown kernel
+        → CutsSize n effect seen_later later_ shown kernel
+    cut_later effect own shown h =
+        record { by_program = h.by_program; line = h.line; front = h.front; shown_ = h.shown_; blamed = h.blamed; ran = own status.Ok h.by_program h.ran }
 
     pub demonstrates_later : (s : Status) (shown : List ℕ) → Demonstrates n bound choices name s before_ m shown kernel
         → Demonstrates n bound choices name s seen_later later_ shown kernel
-    demonstrates_later s shown h = record { by_program = h.by_program; shown_ = h.shown_; ran = own_runs s h.by_program h.ran }
+    demonstrates_later = size_later (Runs program bound choices name) own_runs
 
     pub broke_demo_later : (shown : List ℕ) → BrokeDemo n bound choices name before_ m shown kernel → BrokeDemo n bound choices name seen_later later_ shown kernel
     broke_demo_later shown (inl h) = inl (own_broke shown h)
-    broke_demo_later shown (inr h) =
-        inr (record { by_program = h.by_program; line = h.line; front = h.front; shown_ = h.shown_; ran = own_runs status.Ok h.by_program h.ran })
+    broke_demo_later shown (inr h) = inr (cut_later (Runs program bound choices name) own_runs shown h)
+
+    -- ---- with a timeline
+
+    module _ (out : List ℕ) where
+      own_times : (s : Status) (shown : List ℕ) → OnItsOwn (λ a c. Times program bound choices out name s a c shown kernel) before_ m
+          → OnItsOwn (λ a c. Times program bound choices out name s a c shown kernel) seen_later later_
+      own_times s shown =
+          own_later (λ a c. Times program bound choices out name s a c shown kernel)
+          (λ disk left. times_later (with_own [] [] b) (with_own disk left m) y still program bound choices out name s shown kernel)
+
+      pub own_in_part : (shown : List ℕ) → OnItsOwn (λ a c. TimedInPart program bound choices out name a c shown kernel) before_ m
+          → OnItsOwn (λ a c. TimedInPart program bound choices out name a c shown kernel) seen_later later_
+      own_in_part shown =
+          own_later (λ a c. TimedInPart program bound choices out name a c shown kernel)
+          (λ disk left. in_part_later (with_own [] [] b) (with_own disk left m) y still program bound choices out name shown kernel)
+
+      pub own_lost : (shown : List ℕ) → OnItsOwn (λ a c. TimedLost program bound choices out name a c shown kernel) before_ m
+          → OnItsOwn (λ a c. TimedLost program bound choices out name a c shown kernel) seen_later later_
+      own_lost shown =
+          own_later (λ a c. TimedLost program bound choices out name a c shown kernel)
+          (λ disk left. lost_later (with_own [] [] b) (with_own disk left m) y still program bound choices out name shown kernel)
+
+      pub timed_demo_later : (s : Status) (shown : List ℕ) → DemonstratesTimed n bound choices out name s before_ m shown kernel
+          → DemonstratesTimed n bound choices out name s seen_later later_ shown kernel
+      timed_demo_later = size_later (Times program bound choices out name) own_times
+
+      pub broke_timed_later : (shown : List ℕ) → BrokeTimedDemo n bound choices out name before_ m shown kernel
+          → BrokeTimedDemo n bound choices out name seen_later later_ shown kernel
+      broke_timed_later shown (inl h) = inl (own_broke shown h)
+      broke_timed_later shown (inr h) = inr (cut_later (Times program bound choices out name) own_times shown h)
+
+  -- of the whole command
+  pub record TimedDemoLater (n bound : ℕ) (from : ChoicesFrom) (out : List ℕ) (name : Option (List ℕ)) (shown : List ℕ) (kernel : Lent) : Type 0 where
+    pub comes : (s : Status) → Does (DemoSteps before_ from) (λ v. DemonstratesTimed n bound v out name) s before_ m shown kernel
+        → Does (DemoSteps seen_later from) (λ v. DemonstratesTimed n bound v out name) s seen_later later_ shown kernel
+    pub wants : IsNothing before_ m shown kernel
+        ⊎ HasBegun (DemoSteps before_ from) (λ v. OnItsOwn (λ a c. TimedInPart (text (demo_text n)) bound v out name a c shown kernel) before_ m)
+        → IsNothing seen_later later_ shown kernel
+        ⊎ HasBegun (DemoSteps seen_later from) (λ v. OnItsOwn (λ a c. TimedInPart (text (demo_text n)) bound v out name a c shown kernel) seen_later later_)
+    pub files : HasBegun (DemoSteps before_ from) (λ v. OnItsOwn (λ a c. TimedLost (text (demo_text n)) bound v out name a c shown kernel) before_ m)
+        → HasBegun (DemoSteps seen_later from) (λ v. OnItsOwn (λ a c. TimedLost (text (demo_text n)) bound v out name a c shown kernel) seen_later later_)
+    pub output : HasBegun (DemoSteps before_ from) (λ v. BrokeTimedDemo n bound v out name before_ m shown kernel)
+        → HasBegun (DemoSteps seen_later from) (λ v. BrokeTimedDemo n bound v out name seen_later later_ shown kernel)
+
+  module _ (n bound : ℕ) (from : ChoicesFrom) (out : List ℕ) (name : Option (List ℕ)) (shown : List ℕ) (kernel : Lent) where
+    timed_wants : IsNothing before_ m shown kernel
+        ⊎ HasBegun (DemoSteps before_ from) (λ v. OnItsOwn (λ a c. TimedInPart (text (demo_text n)) bound v out name a c shown kernel) before_ m)
+        → IsNothing seen_later later_ shown kernel
+        ⊎ HasBegun (DemoSteps seen_later from) (λ v. OnItsOwn (λ a c. TimedInPart (text (demo_text n)) bound v out name a c shown kernel) seen_later later_)
+    timed_wants (inl h) = inl (nothing_later b m y still shown kernel h)
+    timed_wants (inr h) = inr (h.0, demo_later b m y still from (goes h.0) h.1, own_in_part n bound h.0 name kernel out shown h.2)
+
+    pub timed_demo_by : TimedDemoLater n bound from out name shown kernel
+    timed_demo_by =
+        let go = demo_later b m y still from in
+        record {
+          comes = λ s. does_later b m y still (DemoSteps before_ from) (DemoSteps seen_later from) (λ v. DemonstratesTimed n bound v out name)
+              (λ v. DemonstratesTimed n bound v out name) s shown kernel go (λ v. timed_demo_later n bound v name kernel out s shown);
+          wants = timed_wants;
+          files = λ h. (h.0, go (goes h.0) h.1, own_lost n bound h.0 name kernel out shown h.2);
+          output = λ h. (h.0, go (goes h.0) h.1, broke_timed_later n bound h.0 name kernel out shown h.2);
+        }

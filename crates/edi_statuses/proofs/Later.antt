@@ -21,7 +21,7 @@ use Rattle.edi_statuses.specs.Decided.{with_shown}
 use Rattle.edi_statuses.proofs.Terminal.{StillTold, asks_later, fetch_fails_later, run_later, exec_later, watch_later, text_later, old_later, put_later, get_later, nothing_later, begun_later}
 use Rattle.edi_statuses.proofs.Terminal.{drive_later, keeps_later, blocks_later, code_later, runs_later, whole_later, unkept_later, broke_later}
 use Rattle.edi_statuses.proofs.Terminal.{record_later, does_later, list_later, shows_later, front_later, demo_later, fetches_later}
-use Rattle.edi_statuses.proofs.Demonstrated.{demonstrates_later, own_unkept, own_whole, broke_demo_later}
+use Rattle.edi_statuses.proofs.Demonstrated.{demonstrates_later, own_unkept, own_whole, broke_demo_later, timed_demo_by}
 use Rattle.edi_statuses.proofs.Watched.{watches_later, watched_wants, watched_lost, watched_broke}
 use Rattle.edi_statuses.proofs.Timed.{timed_later_by}
 use Rattle.edi_statuses.proofs.Walked.{walks_later, walked_failed, walked_wants}
@@ -60,8 +60,8 @@ module _ (b m : Outside) (y : Option (List ℕ)) (still : StillTold m.shown y) w
         → IsNothing seen_later later_ shown kernel ⊎ AtRecord name steps' (λ v. RanUnkept (program v) bound (choices v) seen_later later_ shown kernel)
     files : AtRecord name steps (λ v. RanWhole (program v) bound (choices v) before_ m shown kernel)
         → AtRecord name steps' (λ v. RanWhole (program v) bound (choices v) seen_later later_ shown kernel)
-    broke : (s : Status) → HasBegun steps (λ v. BrokeRun s (program v) bound (choices v) before_ m shown)
-        → HasBegun steps' (λ v. BrokeRun s (program v) bound (choices v) seen_later later_ shown)
+    broke : (s : Status) → HasBegun steps (λ v. BrokeRun s kernel.failed (program v) bound (choices v) before_ m shown)
+        → HasBegun steps' (λ v. BrokeRun s kernel.failed (program v) bound (choices v) seen_later later_ shown)
 
   -- memory is wanting before the first effect, or at the record
   wants_later : {A : Type 0} (name : Option (List ℕ)) (steps steps' : AfterStep A → Type 0) (P P' : A → Type 0) (shown : List ℕ) (kernel : Lent)
@@ -81,7 +81,7 @@ module _ (b m : Outside) (y : Option (List ℕ)) (still : StillTold m.shown y) w
     files = record_later b m y still name steps steps' (λ v. RanWhole (program v) bound (choices v) before_ m shown kernel)
         (λ v. RanWhole (program v) bound (choices v) seen_later later_ shown kernel) go
         (λ v. whole_later b m y still (program v) bound (choices v) shown kernel);
-    broke = λ s h. (h.0, go (goes h.0) h.1, broke_later b m y still s (program h.0) bound (choices h.0) shown h.2);
+    broke = λ s h. (h.0, go (goes h.0) h.1, broke_later b m y still s kernel.failed (program h.0) bound (choices h.0) shown h.2);
   }
 
   run_is : (file : List ℕ) (options : Options) (shown : List ℕ) (kernel : Lent) → Later (words.run file options) shown kernel
@@ -124,7 +124,7 @@ module _ (b m : Outside) (y : Option (List ℕ)) (still : StillTold m.shown y) w
   watch_is : (file points_file out : List ℕ) (options : Options) (shown : List ℕ) (kernel : Lent) → Later (words.watch file points_file out options) shown kernel
   watch_is file points_file out options shown kernel =
       let steps = watch_later b m y still file points_file options.choices in
-      let broke = watched_broke b m y still file points_file options.choices options.turns shown in
+      let broke = watched_broke b m y still file points_file options.choices options.turns shown kernel.failed in
       record {
         comes = λ s. does_later b m y still (WatchSteps before_ file points_file options.choices) (WatchSteps seen_later file points_file options.choices)
             (λ a. Watches a.0 a.2 options.turns a.1 out options.record_file) (λ a. Watches a.0 a.2 options.turns a.1 out options.record_file) s shown
@@ -169,6 +169,11 @@ module _ (b m : Outside) (y : Option (List ℕ)) (still : StillTold m.shown y) w
         input = λ h. absurd h;
         output = λ h. (h.0, steps (goes h.0) h.1, broke_demo_later b m y still n options.turns h.0 options.record_file kernel shown h.2);
       }
+
+  time_demo_is : (n : ℕ) (out : List ℕ) (options : Options) (shown : List ℕ) (kernel : Lent) → Later (words.time_demo n out options) shown kernel
+  time_demo_is n out options shown kernel =
+      let r = timed_demo_by b m y still n options.turns options.choices out options.record_file shown kernel in
+      record { comes = r.comes; wants = r.wants; files = r.files; drive = λ h. absurd h; input = λ h. absurd h; output = r.output }
 
   boot_is : (options : Options) (shown : List ℕ) (kernel : Lent) → Later (words.boot options) shown kernel
   boot_is options shown kernel =
@@ -314,6 +319,7 @@ module _ (b m : Outside) (y : Option (List ℕ)) (still : StillTold m.shown y) w
   each_is (words.explore file options) shown kernel = explore_is file options shown kernel
   each_is (words.time file out options) shown kernel = time_is file out options shown kernel
   each_is (words.time_code file out options) shown kernel = time_code_is file out options shown kernel
+  each_is (words.time_demo n out options) shown kernel = time_demo_is n out options shown kernel
 
   -- ---- the statuses
 
@@ -370,28 +376,7 @@ module _ (b m : Outside) (y : Option (List ℕ)) (still : StillTold m.shown y) w
     same = record { files = h.same.files; blocks = h.same.blocks; input = h.same.input; printed = h.same.printed };
     kernel_same = h.kernel_same;
   }
-  refused_later status.FileFault shown kernel h = absurd h
-  refused_later status.DriveFault shown kernel h = absurd h
-  refused_later status.InputFault shown kernel h = absurd h
-  refused_later status.OutputFault shown kernel h = absurd h
-  refused_later status.Ok shown kernel h = absurd h
-  refused_later (status.Refused kind line) shown kernel h = absurd h
-  refused_later (status.Stopped cause line) shown kernel h = absurd h
-  refused_later status.Turns shown kernel h = absurd h
-  refused_later (status.BadImage broken) shown kernel h = absurd h
-  refused_later (status.BadCode broken) shown kernel h = absurd h
-  refused_later (status.BadState address) shown kernel h = absurd h
-  refused_later status.Absent shown kernel h = absurd h
-  refused_later (status.BadChoices line) shown kernel h = absurd h
-  refused_later status.SessionLimit shown kernel h = absurd h
-  refused_later status.DiskFull shown kernel h = absurd h
-  refused_later status.FileLarge shown kernel h = absurd h
-  refused_later status.Standstill shown kernel h = absurd h
-  refused_later (status.BadPoints line) shown kernel h = absurd h
-  refused_later (status.Found others) shown kernel h = absurd h
-  refused_later status.NotAll shown kernel h = absurd h
-  refused_later status.InputLimit shown kernel h = absurd h
-  refused_later status.NoEnding shown kernel h = absurd h
+  refused_later s shown kernel h = absurd h
 
   -- WHAT A STATUS MEANS, behind its line
   pub later : (s : Status) (c : Option Command) (shown : List ℕ) (kernel : Lent) → Means s c b m shown kernel → Means s c b (with_shown y m) shown kernel

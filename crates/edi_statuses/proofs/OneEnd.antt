@@ -24,9 +24,9 @@ use Rattle.edi_statuses.specs.Steps.{AfterStep, goes, stops, Fetches, FindsPoint
 use Rattle.edi_statuses.specs.Executions.{Runnable, text, code, HasRun, record_of}
 use Rattle.edi_statuses.specs.Walked.{Walks}
 use Rattle.edi_statuses.specs.Timelines.{Times, timable, timed_files}
-use Rattle.edi_statuses.specs.Commands.{Comes, CommandEffect, Demonstrates, Does, Explains, IsDone, IsNothing, KeepsCode, OnlyBlocks, OnlyKeeps, OnlyShows}
+use Rattle.edi_statuses.specs.Commands.{Comes, CommandEffect, Demonstrates, DemonstratesTimed, Does, Explains, IsDone, IsNothing, KeepsCode, OnlyBlocks}
 use Rattle.edi_statuses.specs.Commands.{Runs, ShowsReport, AreMigrated, AreNew, ArePut, RunSteps, ExecSteps, WatchSteps, Watches, TextSteps, OldSteps}
-use Rattle.edi_statuses.specs.Commands.{PutSteps, GetSteps, ListSteps, DemoSteps}
+use Rattle.edi_statuses.specs.Commands.{OnlyKeeps, OnlyShows, ShowsSize, PutSteps, GetSteps, ListSteps, DemoSteps}
 use Rattle.edi_statuses.specs.Decided.{IsTold, is_decided}
 use Rattle.edi_statuses.specs.Always.{lent_from, told_outside}
 use Rattle.edi_statuses.specs.OneEnd.{LeaveSame, OneEnd, names_free}
@@ -82,14 +82,49 @@ runs_leave program bound choices s t m n d e f shown bytes left also h k =
       turns = h.kernel_is.turns ∙ ap (λ (o : Outcome). o.turns) same ∙ sym k.kernel_is.turns;
     }
 
+-- an effect that leaves one thing, but for the files of these names
+abbrev LeavesOne : Contents → Devices → KernelLeft → List (List ℕ) → CommandEffect → Type 0
+LeavesOne files d kernel names effect =
+    (s t : Status) (one other : Contents) (e f : Devices) (shown bytes : List ℕ) (left also : KernelLeft)
+    → effect s (told_outside files d) (told_outside one e) shown (lent_from kernel left)
+    → effect t (told_outside files d) (told_outside other f) bytes (lent_from kernel also)
+    → LeaveSame names one other e f left also
+
+-- ---- runs, on any devices
+
+module _ (files : Contents) (d : Devices) (kernel : KernelLeft) where
+  runs_end : (program : Runnable) (bound : ℕ) (choices : Choices) (record_file : Option (List ℕ))
+      → LeavesOne files d kernel [] (Runs program bound choices record_file)
+  runs_end program bound choices record_file s t one other e f shown bytes left also h k =
+      let same = runs_leave program bound choices h.ending k.ending h.drawn k.drawn d e f shown bytes left also h.ran k.ran in record {
+        files_ = h.keeps ∙ ap (λ n. with_kept (record_of record_file choices n) files) same.draws ∙ sym k.keeps;
+        slots = same.slots;
+        count = same.count;
+        input = same.input;
+        printed = same.printed;
+        turns = same.turns;
+      }
+
+  times_end : TimelinesAreOne → (program : Runnable) (bound : ℕ) (choices : Choices) (out : List ℕ) (record_file : Option (List ℕ))
+      → LeavesOne files d kernel [] (Times program bound choices out record_file)
+  times_end timelines program bound choices out record_file s t one other e f shown bytes left also h k =
+      let same = runs_leave program bound choices h.0 k.0 h.2.drawn k.2.drawn d e f shown bytes left also h.2.ran k.2.ran in
+      let told : h.2.told ≡ k.2.told =
+      timelines (timable program) (system_on d) bound choices h.2.told k.2.told h.2.told_is k.2.told_is in record {
+        files_ =
+            h.2.files ∙ ap (λ x. with_kept (timed_files record_file choices h.2.drawn out x) files) told
+            ∙ ap (λ n. with_kept (timed_files record_file choices n out k.2.told) files) same.draws
+            ∙ sym k.2.files;
+        slots = same.slots;
+        count = same.count;
+        input = same.input;
+        printed = same.printed;
+        turns = same.turns;
+      }
+
 module _ (each : TextsAreOne) (files : Contents) (d : Devices) (kernel : KernelLeft) where
-  -- an effect that leaves one thing, but for the files of these names
   abbrev EndsOne : List (List ℕ) → CommandEffect → Type 0
-  EndsOne names effect =
-      (s t : Status) (one other : Contents) (e f : Devices) (shown bytes : List ℕ) (left also : KernelLeft)
-      → effect s (told_outside files d) (told_outside one e) shown (lent_from kernel left)
-      → effect t (told_outside files d) (told_outside other f) bytes (lent_from kernel also)
-      → LeaveSame names one other e f left also
+  EndsOne names effect = LeavesOne files d kernel names effect
 
   -- all is as before
   stays : (names : List (List ℕ)) (one other : Contents) (e f : Devices) (left also : KernelLeft) → one ≡ files → other ≡ files
@@ -175,18 +210,7 @@ module _ (each : TextsAreOne) (files : Contents) (d : Devices) (kernel : KernelL
         turns = ap (λ (x : KernelLeft). x.used) (h.1.kernel_same ∙ sym k.1.kernel_same);
       }
 
-  -- ---- runs and walks
-
-  runs_end : (program : Runnable) (bound : ℕ) (choices : Choices) (record_file : Option (List ℕ)) → EndsOne [] (Runs program bound choices record_file)
-  runs_end program bound choices record_file s t one other e f shown bytes left also h k =
-      let same = runs_leave program bound choices h.ending k.ending h.drawn k.drawn d e f shown bytes left also h.ran k.ran in record {
-        files_ = h.keeps ∙ ap (λ n. with_kept (record_of record_file choices n) files) same.draws ∙ sym k.keeps;
-        slots = same.slots;
-        count = same.count;
-        input = same.input;
-        printed = same.printed;
-        turns = same.turns;
-      }
+  -- ---- walks, and programs that are run on their own
 
   walks_end : (program : List ℕ) (bound : ℕ) (choices : Choices) → EndsOne [] (Walks program bound choices)
   walks_end program bound choices s t one other e f shown bytes left also h k =
@@ -200,14 +224,13 @@ module _ (each : TextsAreOne) (files : Contents) (d : Devices) (kernel : KernelL
         turns = ap (λ (x : KernelLeft). x.used) (h.kernel_same ∙ sym k.kernel_same);
       }
 
-  demo_end : (n bound : ℕ) (choices : Choices) (record_file : Option (List ℕ)) → EndsOne [] (Demonstrates n bound choices record_file)
-  demo_end n bound choices record_file s t one other e f shown bytes left also h k =
-      let same = runs_leave (text (demo_text n)) bound choices h.ran.is.ending k.ran.is.ending h.ran.is.drawn k.ran.is.drawn
-      (record { blocks = []; input = []; shown = d.shown; printed = d.printed })
-      (record { blocks = h.ran.disk; input = h.ran.left; shown = e.shown; printed = e.printed })
-      (record { blocks = k.ran.disk; input = k.ran.left; shown = f.shown; printed = f.printed })
-      h.by_program k.by_program left also h.ran.is.ran k.ran.is.ran in record {
-        files_ = h.ran.is.keeps ∙ ap (λ n. with_kept (record_of record_file choices n) files) same.draws ∙ sym k.ran.is.keeps;
+  size_end : (n : ℕ) (effect : CommandEffect)
+      → LeavesOne files (record { blocks = []; input = []; shown = d.shown; printed = d.printed }) kernel [] effect → EndsOne [] (ShowsSize n effect)
+  size_end n effect ends s t one other e f shown bytes left also h k =
+      let same = ends s t one other (record { blocks = h.ran.disk; input = h.ran.left; shown = e.shown; printed = e.printed })
+      (record { blocks = k.ran.disk; input = k.ran.left; shown = f.shown; printed = f.printed }) h.by_program k.by_program left also
+      h.ran.is k.ran.is in record {
+        files_ = same.files_;
         slots = ap slots_of (h.ran.blocks ∙ sym k.ran.blocks);
         count = ap length (h.ran.blocks ∙ sym k.ran.blocks);
         input = h.ran.input ∙ sym k.ran.input;
@@ -231,24 +254,10 @@ module _ (each : TextsAreOne) (files : Contents) (d : Devices) (kernel : KernelL
         turns = same.turns;
       }
 
-  times_end : TimelinesAreOne → (program : Runnable) (bound : ℕ) (choices : Choices) (out : List ℕ) (record_file : Option (List ℕ))
-      → EndsOne [] (Times program bound choices out record_file)
-  times_end timelines program bound choices out record_file s t one other e f shown bytes left also h k =
-      let same = runs_leave program bound choices h.0 k.0 h.2.drawn k.2.drawn d e f shown bytes left also h.2.ran k.2.ran in
-      let told : h.2.told ≡ k.2.told =
-      timelines (timable program) (system_on d) bound choices h.2.told k.2.told h.2.told_is k.2.told_is in record {
-        files_ =
-            h.2.files ∙ ap (λ x. with_kept (timed_files record_file choices h.2.drawn out x) files) told
-            ∙ ap (λ n. with_kept (timed_files record_file choices n out k.2.told) files) same.draws
-            ∙ sym k.2.files;
-        slots = same.slots;
-        count = same.count;
-        input = same.input;
-        printed = same.printed;
-        turns = same.turns;
-      }
-
   -- ---- the commands
+
+  abbrev own : Devices
+  own = record { blocks = []; input = []; shown = d.shown; printed = d.printed }
 
   abbrev before : Outside
   before = told_outside files d
@@ -258,11 +267,11 @@ module _ (each : TextsAreOne) (files : Contents) (d : Devices) (kernel : KernelL
 
   ends_one : TimelinesAreOne → (c : Command) → is_decided c ≡ true → EndsOne (names_free c) (Comes c)
   ends_one timelines (words.run file o) decided = does_end [] (RunSteps before file o.choices) (λ a. Runs (text a.0) o.turns a.1 o.record_file)
-      (text_steps each before before before told told told file o.choices) (λ a went. runs_end (text a.0) o.turns a.1 o.record_file)
+      (text_steps each before before before told told told file o.choices) (λ a went. runs_end files d kernel (text a.0) o.turns a.1 o.record_file)
   ends_one timelines (words.replay file choices turns) decided = does_end [] (RunSteps before file (words.file choices)) (λ a. Runs (text a.0) turns a.1 None)
-      (text_steps each before before before told told told file (words.file choices)) (λ a went. runs_end (text a.0) turns a.1 None)
+      (text_steps each before before before told told told file (words.file choices)) (λ a went. runs_end files d kernel (text a.0) turns a.1 None)
   ends_one timelines (words.exec file o) decided = does_end [] (ExecSteps before file o.choices) (λ a. Runs (code a.0) o.turns a.1 o.record_file)
-      (code_steps each before before before told told told file o.choices) (λ a went. runs_end (code a.0) o.turns a.1 o.record_file)
+      (code_steps each before before before told told told file o.choices) (λ a went. runs_end files d kernel (code a.0) o.turns a.1 o.record_file)
   ends_one timelines (words.boot o) decided = absurd (true≢false (sym decided))
   ends_one timelines (words.compile file out) decided = does_end (out ∷ []) (TextSteps before file) (λ a. IsDone (KeepsCode out a.0))
       (compile_steps each before before before told told told file) (λ a went. code_end out a.0)
@@ -279,7 +288,9 @@ module _ (each : TextsAreOne) (files : Contents) (d : Devices) (kernel : KernelL
   ends_one timelines (words.list file) decided = does_end [] (ListSteps before file) (λ parts. IsDone (OnlyShows (listing_of parts.words)))
       (list_steps each before before before told told told file) (λ parts went. shows_end (listing_of parts.words))
   ends_one timelines (words.demo n o) decided = does_end [] (DemoSteps before o.choices) (λ choices. Demonstrates n o.turns choices o.record_file)
-      (demo_steps each before before before told told told o.choices) (λ choices went. demo_end n o.turns choices o.record_file)
+      (demo_steps each before before before told told told o.choices)
+      (λ choices went. size_end n (Runs (text (demo_text n)) o.turns choices o.record_file)
+      (runs_end files own kernel (text (demo_text n)) o.turns choices o.record_file))
   ends_one timelines (words.check file) decided = does_end [] (TextSteps before file) (λ a. IsDone (ShowsReport a.1))
       (compile_steps each before before before told told told file) (λ a went. report_end a.1)
   ends_one timelines (words.explain file) decided = does_end [] (Fetches before file) Explains (fetches_one before told.files file) (λ bytes went. explains_end bytes)
@@ -291,10 +302,15 @@ module _ (each : TextsAreOne) (files : Contents) (d : Devices) (kernel : KernelL
       watches_end a.0 found.0 a.2 found.1 o.turns a.1 out o.record_file)
   ends_one timelines (words.time file out o) decided =
       does_end [] (RunSteps before file o.choices) (λ a. Times (text a.0) o.turns a.1 out o.record_file)
-      (text_steps each before before before told told told file o.choices) (λ a went. times_end timelines (text a.0) o.turns a.1 out o.record_file)
+      (text_steps each before before before told told told file o.choices) (λ a went. times_end files d kernel timelines (text a.0) o.turns a.1 out o.record_file)
   ends_one timelines (words.time_code file out o) decided =
       does_end [] (ExecSteps before file o.choices) (λ a. Times (code a.0) o.turns a.1 out o.record_file)
-      (code_steps each before before before told told told file o.choices) (λ a went. times_end timelines (code a.0) o.turns a.1 out o.record_file)
+      (code_steps each before before before told told told file o.choices) (λ a went. times_end files d kernel timelines (code a.0) o.turns a.1 out o.record_file)
+  ends_one timelines (words.time_demo n out o) decided =
+      does_end [] (DemoSteps before o.choices) (λ choices. DemonstratesTimed n o.turns choices out o.record_file)
+      (demo_steps each before before before told told told o.choices)
+      (λ choices went. size_end n (Times (text (demo_text n)) o.turns choices out o.record_file)
+      (times_end files own kernel timelines (text (demo_text n)) o.turns choices out o.record_file))
   ends_one timelines (words.explore file o) decided = absurd (true≢false (sym decided))
 
 -- THE LAW

@@ -30,7 +30,7 @@ use Rattle.edi_statuses.specs.Outside.{Outside, Devices, devices_of, system_on, 
 use Rattle.edi_statuses.specs.Executions.{Runnable, text, code, HasOutcome, HasRun, Ran, status_of}
 use Rattle.edi_statuses.specs.Commands.{Comes, IsDone, OnlyBlocks, OnlyKeeps, OnlyShows, ShowsReport, KeepsCode, Runs, AreNew, AreMigrated, ArePut}
 use Rattle.edi_statuses.specs.Commands.{RunSteps, ExecSteps, WatchSteps, Watches, TextSteps, OldSteps, PutSteps, GetSteps, ListSteps, DemoSteps}
-use Rattle.edi_statuses.specs.Commands.{Demonstrates, Explains, IsShownOf, size_shown, with_own}
+use Rattle.edi_statuses.specs.Commands.{CommandEffect, Demonstrates, DemonstratesTimed, Explains, IsShownOf, ShowsSize, size_shown, with_own}
 use Rattle.edi_statuses.specs.Steps.{goes, ◌>>=◌, Accepts, Fetches, Ready}
 use Rattle.edi_statuses.specs.Walked.{Walks}
 use Rattle.edi_statuses.specs.Sessions.{BootSteps, HoldsSession, session_status}
@@ -109,6 +109,16 @@ runs_same before after behind is_told after_told behind_told program bound choic
     h.ran k.ran in
     (h.status_is ∙ ap status_of same.ending ∙ sym k.status_is, same.shown_, same.used)
 
+-- so does one with a timeline
+times_same : (before after behind : Outside) → IsTold before → IsTold after → IsTold behind → (program : Runnable) (bound : ℕ) (choices : Choices)
+    (out : List ℕ) (record_file : Option (List ℕ)) (s t : Status) (shown bytes : List ℕ) (kernel other : Lent)
+    → Times program bound choices out record_file s before after shown kernel → Times program bound choices out record_file t before behind bytes other
+    → (s ≡ t) × (shown ≡ bytes) × (kernel.after.used ≡ other.after.used)
+times_same before after behind is_told after_told behind_told program bound choices out record_file s t shown bytes kernel other h k =
+    let same = ended_same before after behind is_told after_told behind_told program bound choices h.0 k.0 h.2.drawn k.2.drawn shown bytes kernel other
+    h.2.ran k.2.ran in
+    (h.1 ∙ ap status_of same.ending ∙ sym k.1, same.shown_, same.used)
+
 own_told : (blocks : List (List ℕ)) (input : List ℕ) (o : Outside) → IsTold o → IsTold (with_own blocks input o)
 own_told blocks input o told =
     record { files = told.files; blocks = search rules; input = search rules; shown = told.shown; printed = told.printed }
@@ -138,17 +148,31 @@ module _ (each : TextsAreOne) (before after behind : Outside) (is_told : IsTold 
   times_one : (program : Runnable) (bound : ℕ) (choices : Choices) (out : List ℕ) (record_file : Option (List ℕ))
       → IsOneEffect before after behind (Times program bound choices out record_file)
   times_one program bound choices out record_file s t shown bytes kernel other h k =
-      let same = ended_same before after behind is_told after_told behind_told program bound choices h.0 k.0 h.2.drawn k.2.drawn shown bytes
-      kernel other h.2.ran k.2.ran in
-      (h.1 ∙ ap status_of same.ending ∙ sym k.1, same.shown_)
+      let same = times_same before after behind is_told after_told behind_told program bound choices out record_file s t shown bytes kernel other h k in
+      (same.0, same.1)
+
+  -- a program on its own that has one end, and then the line of a demonstration
+  size_one : (n : ℕ) (effect : CommandEffect)
+      → ((b a c : Outside) → IsTold b → IsTold a → IsTold c → (s t : Status) (shown bytes : List ℕ) (kernel other : Lent) → effect s b a shown kernel
+      → effect t b c bytes other → (s ≡ t) × (shown ≡ bytes) × (kernel.after.used ≡ other.after.used))
+      → IsOneEffect before after behind (ShowsSize n effect)
+  size_one n effect one s t shown bytes kernel other h k =
+      let same = one (with_own [] [] before) (with_own h.ran.disk h.ran.left after) (with_own k.ran.disk k.ran.left behind)
+      (own_told [] [] before is_told) (own_told h.ran.disk h.ran.left after after_told) (own_told k.ran.disk k.ran.left behind behind_told)
+      s t h.by_program k.by_program kernel other h.ran.is k.ran.is in
+      (same.0, h.shown_ ∙ (λ i. same.1 i ++ size_shown (same.0 i) n (same.2 i) (same.1 i)) ∙ sym k.shown_)
 
   demo_one : (n bound : ℕ) (choices : Choices) (record_file : Option (List ℕ))
       → IsOneEffect before after behind (Demonstrates n bound choices record_file)
-  demo_one n bound choices record_file s t shown bytes kernel other h k =
-      let same = runs_same (with_own [] [] before) (with_own h.ran.disk h.ran.left after) (with_own k.ran.disk k.ran.left behind)
-      (own_told [] [] before is_told) (own_told h.ran.disk h.ran.left after after_told) (own_told k.ran.disk k.ran.left behind behind_told)
-      (text (demo_text n)) bound choices record_file s t h.by_program k.by_program kernel other h.ran.is k.ran.is in
-      (same.0, h.shown_ ∙ (λ i. same.1 i ++ size_shown (same.0 i) n (same.2 i) (same.1 i)) ∙ sym k.shown_)
+  demo_one n bound choices record_file =
+      size_one n (Runs (text (demo_text n)) bound choices record_file) (λ b a c is_b is_a is_c. runs_same b a c is_b is_a is_c
+      (text (demo_text n)) bound choices record_file)
+
+  timed_demo_one : (n bound : ℕ) (choices : Choices) (out : List ℕ) (record_file : Option (List ℕ))
+      → IsOneEffect before after behind (DemonstratesTimed n bound choices out record_file)
+  timed_demo_one n bound choices out record_file =
+      size_one n (Times (text (demo_text n)) bound choices out record_file) (λ b a c is_b is_a is_c. times_same b a c is_b is_a is_c
+      (text (demo_text n)) bound choices out record_file)
 
   blocks_one : (P : List (List ℕ) → List (List ℕ) → Type 0) → IsOneEffect before after behind (IsDone (OnlyBlocks P))
   blocks_one P s t shown bytes kernel other h k = (h.0 ∙ sym k.0, h.1.shown_ ∙ sym k.1.shown_)
@@ -279,6 +303,9 @@ module _ (each : TextsAreOne) (before after behind : Outside) (is_told : IsTold 
       (λ a. Times (text a.0) o.turns a.1 out o.record_file) (text_steps file o.choices) (λ a went. times_one (text a.0) o.turns a.1 out o.record_file)
   comes_one (words.time_code file out o) decided = does_one before after behind (ExecSteps before file o.choices)
       (λ a. Times (code a.0) o.turns a.1 out o.record_file) (code_steps file o.choices) (λ a went. times_one (code a.0) o.turns a.1 out o.record_file)
+  comes_one (words.time_demo n out o) decided = does_one before after behind (DemoSteps before o.choices)
+      (λ choices. DemonstratesTimed n o.turns choices out o.record_file) (demo_steps o.choices)
+      (λ choices went. timed_demo_one n o.turns choices out o.record_file)
 
   -- ---- refusals
 

@@ -72,6 +72,7 @@ wants_any (Some (words.watch file points_file out options)) o kernel = inl (noth
 wants_any (Some (words.explore file options)) o kernel = inl (nothing_seen o kernel)
 wants_any (Some (words.time file out options)) o kernel = inl (nothing_seen o kernel)
 wants_any (Some (words.time_code file out options)) o kernel = inl (nothing_seen o kernel)
+wants_any (Some (words.time_demo n out options)) o kernel = inl (nothing_seen o kernel)
 
 pub wants : (s : Status) (due : Bool) (c : Option Command) (o : Outside) (kernel : KernelLeft) → s ≡ status.NoMemory → due ≡ false
     → Came s due c o o (idle kernel)

@@ -3,6 +3,7 @@ use Rattle.std.proofs.Common.{◌≡◌, ℕ, ◌-◌, List, length, Option, Som
 use Rattle.std.specs.Prelude.{⊤}
 use Rattle.edi_told.specs.Told.{WhereTold}
 use Rattle.edi_host.specs.Contents.{Contents}
+use Rattle.edi_calls.specs.declared.ends.Outside as failing
 use Rattle.edi_calls.specs.Choice.{Choices}
 use Rattle.edi_debug.specs.stops.Stops.{Watched}
 use Rattle.edi_calls.specs.Outcome.{Ending}
@@ -306,9 +307,11 @@ module _ (b m : Outside) (y : Option (List ℕ)) (still : StillTold m.shown y) w
   at_silent : (state : State) (shown : List ℕ) → Silent (λ d e. DevicesAreAt state d e shown)
   at_silent state shown d e bytes h = record { input = h.input; shown_ = h.shown_; printed = h.printed; disk = h.disk; count = h.count }
 
-  pub failed_silent : (s : Status) (Calls : Devices → State → State → Type 0) (shown : List ℕ) → Silent (λ d e. FailedAt s (Calls d) d e shown)
-  failed_silent s Calls shown d e bytes h = record {
+  pub failed_silent : (s : Status) (blamed : Option failing.Outside) (Calls : Devices → State → State → Type 0) (shown : List ℕ)
+      → Silent (λ d e. FailedAt s blamed (Calls d) d e shown)
+  failed_silent s blamed Calls shown d e bytes h = record {
     failed = h.failed;
+    blamed_is = h.blamed_is;
     status_is = h.status_is;
     before = h.before;
     next = h.next;
@@ -342,11 +345,11 @@ module _ (b m : Outside) (y : Option (List ℕ)) (still : StillTold m.shown y) w
       → RanUnkept program bound choices seen_then m shown kernel → RanUnkept program bound choices seen_now now shown kernel
   unkept_later program bound choices shown kernel r = (whole_later program bound choices shown kernel r.0, r.1)
 
-  pub broke_later : (s : Status) (program : Runnable) (bound : ℕ) (choices : Choices) (shown : List ℕ) → BrokeRun s program bound choices seen_then m shown
-      → BrokeRun s program bound choices seen_now now shown
-  broke_later s program bound choices shown told =
-      told_later (λ d e. FailedAt s (HasCall program (system_on d) bound choices) d e shown)
-      (failed_silent s (λ d. HasCall program (system_on d) bound choices) shown) told
+  pub broke_later : (s : Status) (blamed : Option failing.Outside) (program : Runnable) (bound : ℕ) (choices : Choices) (shown : List ℕ)
+      → BrokeRun s blamed program bound choices seen_then m shown → BrokeRun s blamed program bound choices seen_now now shown
+  broke_later s blamed program bound choices shown told =
+      told_later (λ d e. FailedAt s blamed (HasCall program (system_on d) bound choices) d e shown)
+      (failed_silent s blamed (λ d. HasCall program (system_on d) bound choices) shown) told
 
   -- ---- sessions
 

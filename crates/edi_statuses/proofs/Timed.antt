@@ -50,6 +50,22 @@ module _ (b m : Outside) (y : Option (List ℕ)) (still : StillTold m.shown y) w
   next_later : (kept : List Kept) → LosesNext kept before_ m → LosesNext kept seen_later later_
   next_later kept h = record { first = h.first; next = h.next; more = h.more; all_ = h.all_; files = h.files }
 
+  -- of a program
+  pub times_later : (program : Runnable) (bound : ℕ) (choices : Choices) (out : List ℕ) (name : Option (List ℕ)) (s : Status) (shown : List ℕ) (kernel : Lent)
+      → Times program bound choices out name s before_ m shown kernel → Times program bound choices out name s seen_later later_ shown kernel
+  times_later program bound choices out name s shown kernel h =
+      (h.0, h.1, has_timed_later KeepsAll program bound choices out name h.0 shown kernel all_later h.2)
+
+  pub in_part_later : (program : Runnable) (bound : ℕ) (choices : Choices) (out : List ℕ) (name : Option (List ℕ)) (shown : List ℕ) (kernel : Lent)
+      → TimedInPart program bound choices out name before_ m shown kernel → TimedInPart program bound choices out name seen_later later_ shown kernel
+  in_part_later program bound choices out name shown kernel h =
+      (h.0, has_timed_later KeepsFirst program bound choices out name h.0 shown kernel first_later h.1)
+
+  pub lost_later : (program : Runnable) (bound : ℕ) (choices : Choices) (out : List ℕ) (name : Option (List ℕ)) (shown : List ℕ) (kernel : Lent)
+      → TimedLost program bound choices out name before_ m shown kernel → TimedLost program bound choices out name seen_later later_ shown kernel
+  lost_later program bound choices out name shown kernel h =
+      (h.0, has_timed_later LosesNext program bound choices out name h.0 shown kernel next_later h.1)
+
   -- of a command whose steps lead to a program
   pub record TimedLater {A : Type 0} (steps steps' : AfterStep A → Type 0) (program : A → Runnable) (choices : A → Choices) (bound : ℕ) (out : List ℕ)
       (name : Option (List ℕ)) (shown : List ℕ) (kernel : Lent) : Type 0 where
@@ -60,8 +76,8 @@ module _ (b m : Outside) (y : Option (List ℕ)) (still : StillTold m.shown y) w
         ⊎ HasBegun steps' (λ v. TimedInPart (program v) bound (choices v) out name seen_later later_ shown kernel)
     pub files : HasBegun steps (λ v. TimedLost (program v) bound (choices v) out name before_ m shown kernel)
         → HasBegun steps' (λ v. TimedLost (program v) bound (choices v) out name seen_later later_ shown kernel)
-    pub broke : (s : Status) → HasBegun steps (λ v. BrokeRun s (program v) bound (choices v) before_ m shown)
-        → HasBegun steps' (λ v. BrokeRun s (program v) bound (choices v) seen_later later_ shown)
+    pub broke : (s : Status) → HasBegun steps (λ v. BrokeRun s kernel.failed (program v) bound (choices v) before_ m shown)
+        → HasBegun steps' (λ v. BrokeRun s kernel.failed (program v) bound (choices v) seen_later later_ shown)
 
   wants_later : {A : Type 0} (steps steps' : AfterStep A → Type 0) (program : A → Runnable) (choices : A → Choices) (bound : ℕ) (out : List ℕ)
       (name : Option (List ℕ)) (shown : List ℕ) (kernel : Lent) → ((r : AfterStep A) → steps r → steps' r)
@@ -73,7 +89,7 @@ module _ (b m : Outside) (y : Option (List ℕ)) (still : StillTold m.shown y) w
       inr (
         h.0,
         go (goes h.0) h.1,
-        (h.2.0, has_timed_later KeepsFirst (program h.0) bound (choices h.0) out name h.2.0 shown kernel first_later h.2.1),
+        in_part_later (program h.0) bound (choices h.0) out name shown kernel h.2,
       )
 
   pub timed_later_by : {A : Type 0} (steps steps' : AfterStep A → Type 0) (program : A → Runnable) (choices : A → Choices) (bound : ℕ) (out : List ℕ)
@@ -81,13 +97,12 @@ module _ (b m : Outside) (y : Option (List ℕ)) (still : StillTold m.shown y) w
       → TimedLater steps steps' program choices bound out name shown kernel
   timed_later_by steps steps' program choices bound out name shown kernel go = record {
     comes = λ s. does_later b m y still steps steps' (λ v. Times (program v) bound (choices v) out name) (λ v. Times (program v) bound (choices v) out name)
-        s shown kernel go
-        (λ v h. (h.0, h.1, has_timed_later KeepsAll (program v) bound (choices v) out name h.0 shown kernel all_later h.2));
+        s shown kernel go (λ v. times_later (program v) bound (choices v) out name s shown kernel);
     wants = wants_later steps steps' program choices bound out name shown kernel go;
     files = λ h. (
       h.0,
       go (goes h.0) h.1,
-      (h.2.0, has_timed_later LosesNext (program h.0) bound (choices h.0) out name h.2.0 shown kernel next_later h.2.1),
+      lost_later (program h.0) bound (choices h.0) out name shown kernel h.2,
     );
-    broke = λ s h. (h.0, go (goes h.0) h.1, broke_later b m y still s (program h.0) bound (choices h.0) shown h.2);
+    broke = λ s h. (h.0, go (goes h.0) h.1, broke_later b m y still s kernel.failed (program h.0) bound (choices h.0) shown h.2);
   }

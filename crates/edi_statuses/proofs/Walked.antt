@@ -59,8 +59,8 @@ module _ (b m : Outside) (y : Option (List ℕ)) (still : StillTold m.shown y) w
   failed_later : (bytes : List ℕ) (bound : ℕ) (choices : Choices) (shown : List ℕ) (kernel : Lent) (s : Status)
       → FailedWalk s bytes bound choices before_ m shown kernel → FailedWalk s bytes bound choices seen_later later_ shown kernel
   failed_later bytes bound choices shown kernel s h = record {
-    at = told_later b m y still (λ d e. FailedAt s (IsCallOfWalk bytes (system_on d) bound choices) d e shown)
-        (failed_silent b m y still s (λ d. IsCallOfWalk bytes (system_on d) bound choices) shown) h.at;
+    at = told_later b m y still (λ d e. FailedAt s kernel.failed (IsCallOfWalk bytes (system_on d) bound choices) d e shown)
+        (failed_silent b m y still s kernel.failed (λ d. IsCallOfWalk bytes (system_on d) bound choices) shown) h.at;
     files = h.files;
     kernel_same = h.kernel_same;
   }

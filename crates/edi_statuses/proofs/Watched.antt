@@ -1,6 +1,7 @@
 -- What a status of `watch` means does not change where the terminal takes its line.
 use Rattle.std.proofs.Common.{ℕ, List, Option, inl, inr}
 use Rattle.std.specs.Prelude.{◌⊎◌}
+use Rattle.edi_calls.specs.declared.ends.Outside as failing
 use Rattle.edi_calls.specs.Choice.{Choices}
 use Rattle.edi_debug.specs.stops.Stops.{Watched}
 use Rattle.edi_runs.specs.watch.Logs.{IsLogOf}
@@ -92,8 +93,8 @@ module _ (b m : Outside) (y : Option (List ℕ)) (still : StillTold m.shown y) w
   watched_lost file points_file out o shown kernel h =
       (h.0, watch_later b m y still file points_file o.choices (goes h.0) h.1, lost_later h.0.0 h.0.2 o.turns h.0.1 out o.record_file shown kernel h.2)
 
-  pub watched_broke : (file points_file : List ℕ) (from : ChoicesFrom) (bound : ℕ) (shown : List ℕ) (s : Status)
-      → HasBegun (WatchSteps before_ file points_file from) (λ a. BrokeRun s (text a.0) bound a.1 before_ m shown)
-      → HasBegun (WatchSteps seen_later file points_file from) (λ a. BrokeRun s (text a.0) bound a.1 seen_later later_ shown)
-  watched_broke file points_file from bound shown s h =
-      (h.0, watch_later b m y still file points_file from (goes h.0) h.1, broke_later b m y still s (text h.0.0) bound h.0.1 shown h.2)
+  pub watched_broke : (file points_file : List ℕ) (from : ChoicesFrom) (bound : ℕ) (shown : List ℕ) (blamed : Option failing.Outside) (s : Status)
+      → HasBegun (WatchSteps before_ file points_file from) (λ a. BrokeRun s blamed (text a.0) bound a.1 before_ m shown)
+      → HasBegun (WatchSteps seen_later file points_file from) (λ a. BrokeRun s blamed (text a.0) bound a.1 seen_later later_ shown)
+  watched_broke file points_file from bound shown blamed s h =
+      (h.0, watch_later b m y still file points_file from (goes h.0) h.1, broke_later b m y still s blamed (text h.0.0) bound h.0.1 shown h.2)

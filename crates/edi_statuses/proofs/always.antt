@@ -13,6 +13,7 @@ pub mod Walks
 pub mod Plain
 pub mod Programs
 pub mod Timelines
+pub mod Demonstrations
 pub mod Puts
 pub mod OldDisks
 pub mod Refuted

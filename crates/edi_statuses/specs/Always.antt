@@ -27,7 +27,7 @@ HasBlocks d = list_all is_block d.blocks ≡ true
 
 -- the kernel before a call and after it
 abbrev pub lent_from : (before after : KernelLeft) → Lent
-lent_from before after = record { before = before; after = after }
+lent_from before after = record { before = before; after = after; failed = None }
 
 -- ---- an end that is open
 
@@ -74,6 +74,7 @@ StepsOf P (words.watch file points_file out o) before = P _ (WatchSteps before f
 StepsOf P (words.explore file o) before = P _ (TextSteps before file)
 StepsOf P (words.time file out o) before = P _ (RunSteps before file o.choices)
 StepsOf P (words.time_code file out o) before = P _ (ExecSteps before file o.choices)
+StepsOf P (words.time_demo n out o) before = P _ (DemoSteps before o.choices)
 
 -- all of them have gone on
 abbrev pub StepsGo : Command → Outside → Type 0
@@ -100,6 +101,7 @@ SomeStep = (c : Command) (files : Contents) (d : Devices) (kernel : KernelLeft) 
 abbrev pub IsInRange : Command → Type 0
 IsInRange (words.newdisk blocks old) = (64 ≤ blocks) × (blocks ≤ 4096)
 IsInRange (words.demo n o) = (1 ≤ n) × (n ≤ 1000)
+IsInRange (words.time_demo n out o) = (1 ≤ n) × (n ≤ 1000)
 IsInRange (words.put file title) = is_title title ≡ true
 IsInRange c = ⊤
 

@@ -1,6 +1,7 @@
 -- Definition. What is left by a command that was broken off: memory ran out, or an object outside failed.
 use Rattle.std.specs.Prelude.{◌≡◌, ◌≤◌, ◌⊎◌, ℕ, List, [], ◌∷◌, ◌++◌, length, Option, Some, None, IsSome, ⊤}
 use Rattle.edi_told.specs.Told.{WhereTold}
+use Rattle.edi_calls.specs.declared.ends.Outside.TheVariants as object
 use Rattle.edi_calls.specs.Choice.{Choices}
 use Rattle.edi_calls.specs.Outcome.{Ending}
 use Rattle.edi_image.specs.Image.{Holds, slots_of}
@@ -15,7 +16,8 @@ use Rattle.edi_statuses.specs.Fronts.{IsFront}
 use Rattle.edi_statuses.specs.Outside.{Outside, Keeps, SameBut, SameFiles, SameInput, SamePrinted, IsAsBefore, Lent, with_kept, without_names}
 use Rattle.edi_statuses.specs.Steps.{AfterStep, goes, ◌>>=◌, Fetches, ReadsChoices, Accepts, Loads}
 use Rattle.edi_statuses.specs.Executions.{Runnable, text, Ran, BrokeRun}
-use Rattle.edi_statuses.specs.Commands.{Runs, OnItsOwn, IsLog, IsShownOf, PointSteps, released, put_in, size_line}
+use Rattle.edi_statuses.specs.Timelines.{Times}
+use Rattle.edi_statuses.specs.Commands.{CommandEffect, Runs, OnItsOwn, IsLog, IsShownOf, PointSteps, released, put_in, size_line}
 
 -- ---- memory ran out
 
@@ -113,20 +115,30 @@ WatchedLost bytes points bound choices out record_file before after shown kernel
     RanWhole (text bytes) bound choices before after shown kernel
     × (SameBut (out ∷ []) before after ⊎ LosesRecord bytes points bound choices out record_file before after)
 
--- the line of a demonstration was not shown whole; all else is as behind a whole one
-pub record CutsDemo (n bound : ℕ) (choices : Choices) (record_file : Option (List ℕ)) (before after : Outside) (shown : List ℕ) (kernel : Lent)
-    : Type 0 where
+-- A first part of the line of a demonstration was shown, perhaps all of it, and the terminal is blamed. All else is as after a whole one.
+pub record CutsSize (n : ℕ) (effect : CommandEffect) (before after : Outside) (shown : List ℕ) (kernel : Lent) : Type 0 where
   pub by_program : List ℕ
   pub line : List ℕ
   pub front : IsFront line (size_line n kernel.after.used by_program)
   pub shown_ : shown ≡ by_program ++ line
-  pub ran : OnItsOwn (λ b a. Runs (text (demo_text n)) bound choices record_file status.Ok b a by_program kernel) before after
+  pub blamed : kernel.failed ≡ Some object.Terminal
+  pub ran : OnItsOwn (λ b a. effect status.Ok b a by_program kernel) before after
+
+abbrev pub CutsDemo : (n bound : ℕ) → Choices → (record_file : Option (List ℕ)) → Outside → Outside → (shown : List ℕ) → Lent → Type 0
+CutsDemo n bound choices record_file = CutsSize n (Runs (text (demo_text n)) bound choices record_file)
 
 -- the program of a demonstration was broken off, and no record was kept; or its line was not shown
 abbrev pub BrokeDemo : (n bound : ℕ) → Choices → (record_file : Option (List ℕ)) → Outside → Outside → (shown : List ℕ) → Lent → Type 0
 BrokeDemo n bound choices record_file before after shown kernel =
-    OnItsOwn (λ b a. SameFiles b a × BrokeRun status.OutputFault (text (demo_text n)) bound choices b a shown) before after
+    OnItsOwn (λ b a. SameFiles b a × BrokeRun status.OutputFault kernel.failed (text (demo_text n)) bound choices b a shown) before after
     ⊎ CutsDemo n bound choices record_file before after shown kernel
+
+-- so of one with a timeline, of which no file was kept; or its line was not shown
+abbrev pub BrokeTimedDemo : (n bound : ℕ) → Choices → (out : List ℕ) → (record_file : Option (List ℕ)) → Outside → Outside → (shown : List ℕ) → Lent
+    → Type 0
+BrokeTimedDemo n bound choices out record_file before after shown kernel =
+    OnItsOwn (λ b a. SameFiles b a × BrokeRun status.OutputFault kernel.failed (text (demo_text n)) bound choices b a shown) before after
+    ⊎ CutsSize n (Times (text (demo_text n)) bound choices out record_file) before after shown kernel
 
 -- the steps of a command went on, and it was broken off there
 abbrev pub HasBegun : {A : Type 0} → (AfterStep A → Type 0) → (A → Type 0) → Type 0

@@ -234,12 +234,19 @@ pub record OnItsOwn (P : Outside → Outside → Type 0) (before after : Outside
   pub blocks : SameBlocks before after
   pub input : SameInput before after
 
--- The program of the demonstration is run on its own to its ending, and the record of its choices is kept; then its line is shown.
-pub record Demonstrates (n bound : ℕ) (choices : Choices) (record_file : Option (List ℕ)) (s : Status) (before after : Outside) (shown : List ℕ)
-    (kernel : Lent) : Type 0 where
+-- A program has this effect on its own; then the line of a demonstration is shown.
+pub record ShowsSize (n : ℕ) (effect : CommandEffect) (s : Status) (before after : Outside) (shown : List ℕ) (kernel : Lent) : Type 0 where
   pub by_program : List ℕ
   pub shown_ : shown ≡ by_program ++ size_shown s n kernel.after.used by_program
-  pub ran : OnItsOwn (λ b a. Runs (text (demo_text n)) bound choices record_file s b a by_program kernel) before after
+  pub ran : OnItsOwn (λ b a. effect s b a by_program kernel) before after
+
+-- The program of the demonstration is run on its own to its ending, and the record of its choices is kept; then its line is shown.
+abbrev pub Demonstrates : (n bound : ℕ) → Choices → (record_file : Option (List ℕ)) → CommandEffect
+Demonstrates n bound choices record_file = ShowsSize n (Runs (text (demo_text n)) bound choices record_file)
+
+-- and its timeline is kept too, before its line is shown
+abbrev pub DemonstratesTimed : (n bound : ℕ) → Choices → (out : List ℕ) → (record_file : Option (List ℕ)) → CommandEffect
+DemonstratesTimed n bound choices out record_file = ShowsSize n (Times (text (demo_text n)) bound choices out record_file)
 
 -- ---- what the drive holds behind `newdisk` and `put`
 
@@ -303,3 +310,5 @@ Comes (words.time file out o) s before after shown kernel =
     Does (RunSteps before file o.choices) (λ a. Times (text a.0) o.turns a.1 out o.record_file) s before after shown kernel
 Comes (words.time_code file out o) s before after shown kernel =
     Does (ExecSteps before file o.choices) (λ a. Times (code a.0) o.turns a.1 out o.record_file) s before after shown kernel
+Comes (words.time_demo n out o) s before after shown kernel =
+    Does (DemoSteps before o.choices) (λ choices. DemonstratesTimed n o.turns choices out o.record_file) s before after shown kernel

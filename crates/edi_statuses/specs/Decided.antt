@@ -1,14 +1,15 @@
 -- Words of contracts. What a command comes to before the line of its status, and the laws on what decides a status.
 use Rattle.std.specs.Prelude.{◌≡◌, ℕ, Bool, true, List, Option, None, IsSome, ⊤}
 use Rattle.edi_told.specs.Faults.{CountRose}
+use Rattle.edi_calls.specs.declared.ends.Outside as failing
 use Rattle.edi_words.specs.Words.{Command}
 use Rattle.edi_statuses.specs.declared.status.Status.{Status}
 use Rattle.edi_statuses.specs.declared.status.Status.TheVariants as status
 use Rattle.edi_statuses.specs.Lines.{closing_line, is_due, text_of}
 use Rattle.edi_statuses.specs.Showing.{ClosesWith}
-use Rattle.edi_statuses.specs.Counts.{Counts, HasCause}
-use Rattle.edi_statuses.specs.Outside.{Outside, Shows, Lent}
-use Rattle.edi_statuses.specs.EachObject.{LeavesEach, is_before_drive}
+use Rattle.edi_statuses.specs.Counts.{Counts, HasCause, OutputRose}
+use Rattle.edi_statuses.specs.Outside.{Outside, Shows, Lent, blaming}
+use Rattle.edi_statuses.specs.EachObject.{LeavesEach, command_does, is_before_drive, uses_devices}
 use Rattle.edi_statuses.specs.Commands.{Comes}
 use Rattle.edi_statuses.specs.Facts.{facts_of}
 use Rattle.edi_statuses.specs.Means.{EndsWith, Means}
@@ -21,6 +22,12 @@ pub record Came (s : Status) (due : Bool) (c : Option Command) (before after : O
   pub shows : Shows before after shown
   pub due_is : due ≡ is_due shown
   pub each : LeavesEach c before after
+
+-- So it came, and if the output has failed, the count of the object rose that is blamed.
+abbrev pub CameBlaming : Status → (due : Bool) → Option Command → Outside → Outside → (had has : Counts) → Lent → Type 0
+CameBlaming s due c before after had has kernel =
+    (blamed : Option failing.Outside) × (s ≡ status.OutputFault → OutputRose (command_does uses_devices c) blamed had has)
+    × Came s due c before after (blaming blamed kernel)
 
 -- the same outside where the terminal has taken more
 abbrev pub with_shown : Option (List ℕ) → Outside → Outside
@@ -36,7 +43,8 @@ EndsAll answer c before after had has kernel =
 abbrev pub LinesEnd : Type 0
 LinesEnd =
     (meant answer : Status) (due : Bool) (c : Option Command) (before mid : Outside) (had has : Counts) (shown : Option (List ℕ)) (kernel : Lent)
-    → HasCause meant had has → Came meant due c before mid kernel → ClosesWith meant answer (closing_line due meant) mid.shown shown
+    → HasCause meant had has → (meant ≡ status.OutputFault → OutputRose (command_does uses_devices c) kernel.failed had has)
+    → Came meant due c before mid kernel → ClosesWith meant answer (closing_line due meant) mid.shown shown
     → (text_of meant ≡ None → (answer ≡ meant) × (shown ≡ mid.shown))
     → ((answer ≡ meant → ⊥) → CountRose had.terminal has.terminal) → EndsAll answer c before (with_shown shown mid) had has kernel
 

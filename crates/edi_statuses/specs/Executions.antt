@@ -2,7 +2,6 @@
 use Rattle.std.specs.Prelude.{◌≡◌, ◌⊎◌, ℕ, min, List, [], ◌∷◌, Option, Some, None, ⊤}
 use Rattle.edi_told.specs.Told.{WhereTold}
 use Rattle.edi_calls.specs.declared.ends.Outside as failing
-use Rattle.edi_calls.specs.declared.ends.Outside.TheVariants as object
 use Rattle.edi_calls.specs.declared.kinds.Cause.TheVariants as cause
 use Rattle.edi_calls.specs.Asked.{Asks}
 use Rattle.edi_calls.specs.Choice.{Choices, first_choices}
@@ -18,6 +17,7 @@ use Rattle.edi_trace.specs.Drawn.{most_kept}
 use Rattle.edi_trace.specs.Lines.{written}
 use Rattle.edi_statuses.specs.declared.status.Status.{Status}
 use Rattle.edi_statuses.specs.declared.status.Status.TheVariants as status
+pub use Rattle.edi_statuses.specs.Counts.{object_status}
 use Rattle.edi_statuses.specs.Outside.{Outside, Kept, Devices, devices_of, system_on, DevicesAreAt, OutcomeLeaves, KernelLeft, Lent}
 
 -- ---- programs
@@ -96,17 +96,11 @@ Ran program bound choices ending drawn before after shown kernel =
 
 -- ---- where an object outside has failed in the midst of them
 
--- the status of the fault of an object
-abbrev pub object_status : failing.Outside → Status
-object_status object.Drive = status.DriveFault
-object_status object.Input = status.InputFault
-object_status object.Terminal = status.OutputFault
-object_status object.Printer = status.OutputFault
-
--- The execution was broken off in a call that uses an object whose fault this status is. The devices are as they were before that call, or
--- as it was to leave them: a change of the files in which the drive failed may have been made.
-pub record FailedAt (s : Status) (Calls : State → State → Type 0) (d e : Devices) (shown : List ℕ) : Type 0 where
+-- The execution was broken off in a call that uses the object which is blamed, and whose fault this status is. The devices are as they were before that
+-- call, or as it was to leave them: a change of the files in which the drive failed may have been made.
+pub record FailedAt (s : Status) (blamed : Option failing.Outside) (Calls : State → State → Type 0) (d e : Devices) (shown : List ℕ) : Type 0 where
   pub failed : failing.Outside
+  pub blamed_is : blamed ≡ Some failed
   pub status_is : object_status failed ≡ s
   pub before : State
   pub next : State
@@ -114,9 +108,9 @@ pub record FailedAt (s : Status) (Calls : State → State → Type 0) (d e : Dev
   pub asks : Asks failed before next
   pub at : DevicesAreAt before d e shown ⊎ DevicesAreAt next d e shown
 
-abbrev pub BrokeRun : Status → Runnable → (bound : ℕ) → Choices → Outside → Outside → (shown : List ℕ) → Type 0
-BrokeRun s program bound choices before after shown =
-    WhereTold (devices_of before) (devices_of after) (λ d e. FailedAt s (HasCall program (system_on d) bound choices) d e shown)
+abbrev pub BrokeRun : Status → (blamed : Option failing.Outside) → Runnable → (bound : ℕ) → Choices → Outside → Outside → (shown : List ℕ) → Type 0
+BrokeRun s blamed program bound choices before after shown =
+    WhereTold (devices_of before) (devices_of after) (λ d e. FailedAt s blamed (HasCall program (system_on d) bound choices) d e shown)
 
 -- The devices are at one moment of a walk or a session, at which just these bytes were shown and printed. A change of the files
 -- in which the drive failed leaves them at the moment before it or at the one after it.

@@ -13,7 +13,7 @@ use Rattle.edi_statuses.specs.Steps.{AfterStep, ◌>>=◌, Fetches, ReadsChoices
 use Rattle.edi_statuses.specs.Executions.{Runnable, text, code, BrokeRun}
 use Rattle.edi_statuses.specs.Sessions.{BootSteps, BrokeSession, EndedUnkept, EndedWhole}
 use Rattle.edi_statuses.specs.Commands.{IsNothing, OnItsOwn, RunSteps, ExecSteps, WatchSteps, TextSteps, OldSteps, PutSteps, GetSteps, ListSteps, DemoSteps}
-use Rattle.edi_statuses.specs.Broken.{RanWhole, RanUnkept, AtRecord, HasNotBegun, ChangesDrive, ArePutInPart, IsOpen, BrokeDemo}
+use Rattle.edi_statuses.specs.Broken.{RanWhole, RanUnkept, AtRecord, HasNotBegun, ChangesDrive, ArePutInPart, IsOpen, BrokeDemo, BrokeTimedDemo}
 use Rattle.edi_statuses.specs.Broken.{ShowsFront, ShowsReportFront, ExplainsFront}
 use Rattle.edi_statuses.specs.Broken.{HasBegun, WentOn, RunAsks, ExecAsks, WatchAsks, WatchedLost, WatchedUnkept}
 use Rattle.edi_statuses.specs.Walked.{BrokeWalk, FailedWalk}
@@ -112,7 +112,7 @@ abbrev pub program_run : {A : Type 0} → (file : List ℕ) → (asks : Outside 
     → (program : A → Runnable) → (choices : A → Choices) → (bound : ℕ) → (record_file : Option (List ℕ)) → Facts
 program_run file asks steps program choices bound record_file =
     let broken : Status → Left = λ s before after shown kernel.
-    HasBegun (steps before) (λ a. BrokeRun s (program a) bound (choices a) before after shown) in
+    HasBegun (steps before) (λ a. BrokeRun s kernel.failed (program a) bound (choices a) before after shown) in
     record (on_devices (file_named file) record_file) {
       asks_drive = asks;
       no_memory = λ before after shown kernel.
@@ -274,3 +274,21 @@ facts_of (words.time file out o) =
     timed_run file (λ before. RunAsks before file o.choices) (λ before. RunSteps before file o.choices) (λ a. text a.0) (λ a. a.1) o.turns out o.record_file
 facts_of (words.time_code file out o) =
     timed_run file (λ before. ExecAsks before file o.choices) (λ before. ExecSteps before file o.choices) (λ a. code a.0) (λ a. a.1) o.turns out o.record_file
+facts_of (words.time_demo n out o) = record plain {
+  silent = false;
+  devices = true;
+  kernel = true;
+  fetches = file_of_choices o.choices;
+  keeps = timeline_names out;
+  record_file = o.record_file;
+  keeps_first = true;
+  no_memory = λ before after shown kernel.
+      IsNothing before after shown kernel
+      ⊎ HasBegun (DemoSteps before o.choices)
+      (λ choices. OnItsOwn (λ b a. TimedInPart (text (demo_text n)) o.turns choices out o.record_file b a shown kernel) before after);
+  files_failed = λ before after shown kernel.
+      HasBegun (DemoSteps before o.choices)
+      (λ choices. OnItsOwn (λ b a. TimedLost (text (demo_text n)) o.turns choices out o.record_file b a shown kernel) before after);
+  output_failed = λ before after shown kernel.
+      HasBegun (DemoSteps before o.choices) (λ choices. BrokeTimedDemo n o.turns choices out o.record_file before after shown kernel);
+}

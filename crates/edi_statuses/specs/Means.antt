@@ -9,9 +9,9 @@ use Rattle.edi_statuses.specs.declared.status.Status.{Status}
 use Rattle.edi_statuses.specs.declared.status.Status.TheVariants as status
 use Rattle.edi_statuses.specs.Lines.{closing, text_of}
 use Rattle.edi_statuses.specs.Fronts.{IsFront}
-use Rattle.edi_statuses.specs.Counts.{Counts, HasCause}
+use Rattle.edi_statuses.specs.Counts.{Counts, HasCause, OutputRose}
 use Rattle.edi_statuses.specs.Outside.{Outside, seen, SameFiles, SameBut, IsSomeFile, Lent}
-use Rattle.edi_statuses.specs.EachObject.{Uses}
+use Rattle.edi_statuses.specs.EachObject.{Uses, command_does, uses_devices}
 use Rattle.edi_statuses.specs.Steps.{ChoicesAreThere}
 use Rattle.edi_statuses.specs.Commands.{Comes, IsNothing}
 use Rattle.edi_statuses.specs.Broken.{HasNotBegun, names_in}
@@ -97,8 +97,8 @@ Means s (Some c) before after shown kernel = MeansOf s c (seen before after) aft
 
 -- ---- all that a call shows
 
--- The line of a status that has one could not be shown whole, since the terminal failed. If that status tells a fault, the count of its object
--- rose too.
+-- A first part of the line of a status that has one was shown, perhaps all of it, and the terminal failed. If that status tells a fault, the
+-- count of its object rose too.
 pub record IsCutShort (c : Option Command) (before after : Outside) (had has : Counts) (all : List ℕ) (kernel : Lent) : Type 0 where
   pub meant : Status
   pub has_line : IsSome (text_of meant)
@@ -110,9 +110,14 @@ pub record IsCutShort (c : Option Command) (before after : Outside) (had has : C
   pub front : IsFront line (closing meant shown)
   pub all_ : all ≡ shown ++ line
 
+-- The output has failed in the midst of the command, and the count rose of the object that is blamed.
+abbrev pub BreaksOutput : Option Command → Outside → Outside → (had has : Counts) → (shown : List ℕ) → Lent → Type 0
+BreaksOutput c before after had has shown kernel =
+    Means status.OutputFault c before after shown kernel × OutputRose (command_does uses_devices c) kernel.failed had has
+
 -- THE END OF A CALL: the bytes before the line of the status, and that line. The counts are those of the objects' faults.
 abbrev pub EndsWith : Status → Option Command → Outside → Outside → (had has : Counts) → (all : List ℕ) → Lent → Type 0
 EndsWith status.OutputFault c before after had has all kernel =
-    Means status.OutputFault c before after all kernel ⊎ IsCutShort c before after had has all kernel
+    BreaksOutput c before after had has all kernel ⊎ IsCutShort c before after had has all kernel
 EndsWith s c before after had has all kernel =
     (shown : List ℕ) × Means s c before after shown kernel × (all ≡ shown ++ closing s shown)

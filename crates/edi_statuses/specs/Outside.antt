@@ -5,6 +5,7 @@ use Rattle.std.specs.FinMap as map
 use Rattle.std.specs.Option.{option_map, option_and_then}
 use Rattle.edi_told.specs.Told.{WhereTold}
 use Rattle.edi_host.specs.Contents.{Contents}
+use Rattle.edi_calls.specs.declared.ends.Outside as failing
 use Rattle.edi_calls.specs.Outcome.{Outcome}
 use Rattle.edi_calls.specs.State.{File, State}
 use Rattle.edi_image.specs.Image.{Holds}
@@ -151,14 +152,24 @@ pub record KernelLeft : Type 0 where
 abbrev pub kernel_of : (words : List ℕ) → (used : ℕ) → KernelLeft
 kernel_of words used = record { words = words; used = used }
 
--- before the call and behind it
+-- the object that is blamed, or none
+abbrev pub Blamed : Type 0
+Blamed = Option failing.Outside
+
+-- What a command was lent: the kernel, before the call and behind it; and the object that is blamed for the end of the command, if one is.
 pub record Lent : Type 0 where
   pub before : KernelLeft
   pub after : KernelLeft
+  pub failed : Blamed
 
+-- no object is blamed
 abbrev pub lent : (old_words : List ℕ) → (old_used : ℕ) → (words : List ℕ) → (used : ℕ) → Lent
-lent old_words old_used words used = record { before = kernel_of old_words old_used; after = kernel_of words used }
+lent old_words old_used words used = record { before = kernel_of old_words old_used; after = kernel_of words used; failed = None }
+
+-- this object is blamed, or none
+abbrev pub blaming : Blamed → Lent → Lent
+blaming failed kernel = record { before = kernel.before; after = kernel.after; failed = failed }
 
 -- a kernel that was left alone
 abbrev pub idle : KernelLeft → Lent
-idle kernel = record { before = kernel; after = kernel }
+idle kernel = record { before = kernel; after = kernel; failed = None }

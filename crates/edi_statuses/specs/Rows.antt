@@ -21,7 +21,7 @@ use Rattle.edi_statuses.specs.declared.status.Status.{Status}
 use Rattle.edi_statuses.specs.declared.status.Status.TheVariants as status
 use Rattle.edi_statuses.specs.Lines.{closing}
 use Rattle.edi_statuses.specs.Counts.{Counts}
-use Rattle.edi_statuses.specs.Outside.{Outside, Lent, idle, kernel_of, outside_with, system_on}
+use Rattle.edi_statuses.specs.Outside.{Outside, Lent, idle, kernel_of, lent, outside_with, system_on}
 use Rattle.edi_statuses.specs.Commands.{IsNothing}
 use Rattle.edi_statuses.specs.Means.{EndsWith}
 
@@ -144,7 +144,7 @@ abbrev pub RunsSo : CodeParts → (words : List (List ℕ)) → (bound : ℕ) �
 RunsSo code words bound s shown turns left =
     (files : Contents) → map.get files (codes "c") ≡ Some (code_bytes code) → (store : List ℕ) (used : ℕ)
     → EndsWith s (command_of words) (outside files [] []) (outside (left files) [] shown) no_faults no_faults shown
-    (record { before = kernel_of store used; after = kernel_of (end_of code bound).memory turns })
+    (lent store used (end_of code bound).memory turns)
 
 pub code_shows_a : RunsSo shows_a (codes "exec" ∷ codes "c" ∷ []) 1000000 status.Ok (codes "a") 2 (λ files. files)
 unfolding decode zero_words code_bytes code_fault_of words_fault

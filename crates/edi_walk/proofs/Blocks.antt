@@ -15,7 +15,8 @@ use Rattle.edi_walk.specs.declared.stop.Stop.{Stop}
 use Rattle.edi_walk.specs.declared.stop.Stop.TheVariants as stop
 use Rattle.edi_walk.specs.Frames.{Given, nothing, Frame, some_cells, performs, calls_function, calls_procedure, ends_function, ends_procedure}
 use Rattle.edi_walk.specs.Machine.{given_of, deeper_of, rest_of, next_of, world_of, Entered, Left, LeavesBlock, Follows}
-use Rattle.edi_walk.proofs.FrameSteps.{function_enters, procedure_enters, two}
+use Rattle.edi_walk.proofs.FrameSteps.{two}
+use Rattle.edi_walk.proofs.ActSteps.{function_enters, procedure_enters}
 use Rattle.edi_walk.proofs.Arms.{above}
 
 module _ (levels : ℕ) (system : Traced) (old new : code.Evaluation) (number : ℕ) (parent : Spot) (cells : List Cell) (entered : Entered number parent cells old new)

@@ -1,8 +1,10 @@
+mod ActSteps
 mod Arms
 mod AtOnce
 mod Bare
 mod Births
 mod Blocks
+mod CallPieces
 mod Calls
 mod Choosing
 mod ChoosingTold

@@ -1,5 +1,5 @@
 -- Words of contracts. What the answer of a walk means.
-use Rattle.std.specs.Prelude.{◌≡◌, ◌≤◌, ◌<◌, ◌+◌, ◌-◌, ◌^◌, ◌%◌, ℕ, Bool, true, false, List, ◌∷◌, ◌++◌, Option, Some, None, Result, Err, Contains, ⊤}
+use Rattle.std.specs.Prelude.{◌≡◌, ◌≤◌, ◌<◌, ◌+◌, ◌-◌, ◌^◌, ◌%◌, ℕ, Bool, true, false, List, ◌∷◌, ◌++◌, Option, Some, None, Result, Ok, Err, Contains, ⊤}
 use Rattle.edi_told.specs.Faults.{CountRose}
 use Rattle.edi_calls.specs.declared.ends.Outside.{Outside}
 use Rattle.edi_calls.specs.Choice.{choice}
@@ -93,13 +93,17 @@ abbrev pub WalkBlames : WalkEnd → (failed : Option Outside → Type 0) → (ol
 WalkBlames end.Fault failed old new = (outside : Outside) × failed (Some outside) × CountRose (old outside) (new outside)
 WalkBlames _ failed old new = failed None
 
--- the same of a part of a walk, where the object is one that the call of this number uses
-abbrev pub StopBlames : Result (Unit {0}) Stop → (failed : Option Outside → Type 0) → (old new : Outside → ℕ) → Type 0
-StopBlames (Err (stop.Fault number)) failed old new =
+-- the same of what goes no further, where the object is one that the call of this number uses
+abbrev pub ErrBlames : Stop → (failed : Option Outside → Type 0) → (old new : Outside → ℕ) → Type 0
+ErrBlames (stop.Fault number) failed old new =
     (outside : Outside) × failed (Some outside) × CountRose (old outside) (new outside) × (uses number outside ≡ true)
-StopBlames _ failed old new = failed None
+ErrBlames _ failed old new = failed None
+
+-- and of a part of a walk: of one that goes no further it is said by what stops it alone, whatever the part gives
+abbrev pub StopBlames : Result (Unit {0}) Stop → (failed : Option Outside → Type 0) → (old new : Outside → ℕ) → Type 0
+StopBlames (Ok _) failed old new = failed None
+StopBlames (Err s) failed old new = ErrBlames s failed old new
 
 abbrev pub PartBlames : {T : Type 0} → Result T Stop → (failed : Option Outside → Type 0) → (old new : Outside → ℕ) → Type 0
-PartBlames (Err (stop.Fault number)) failed old new =
-    (outside : Outside) × failed (Some outside) × CountRose (old outside) (new outside) × (uses number outside ≡ true)
-PartBlames _ failed old new = failed None
+PartBlames (Ok _) failed old new = failed None
+PartBlames (Err s) failed old new = ErrBlames s failed old new

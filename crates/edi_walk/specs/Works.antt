@@ -153,6 +153,10 @@ Attempted cs true (Err _) old new = ⊥
 Attempted cs false result old new = TurnsTo (asks.Stands cs) result old new
 
 -- no object outside has failed
+abbrev pub StopIsCalm : Stop → Type 0
+StopIsCalm (stop.Fault number) = ⊥
+StopIsCalm _ = ⊤
+
 abbrev pub IsCalm : {T : Type 0} → Result T Stop → Type 0
-IsCalm (Err (stop.Fault number)) = ⊥
-IsCalm _ = ⊤
+IsCalm (Ok _) = ⊤
+IsCalm (Err s) = StopIsCalm s

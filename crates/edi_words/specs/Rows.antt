@@ -1,6 +1,6 @@
 -- Computed rows. Words of the command `explore`, and the options that are its own. And the words of a run with a timeline.
 use Rattle.std.specs.Prelude.{◌≡◌, [], ◌∷◌, Some, None, codes, refl}
-use Rattle.edi_words.specs.Words.{command_of, explore, file, nowhere, run, time, time_code}
+use Rattle.edi_words.specs.Words.{command_of, explore, file, nowhere, run, seed, time, time_code, time_demo}
 
 pub what_is_not_given : command_of (codes "explore" ∷ codes "p" ∷ []) ≡ Some (explore (codes "p") (record {
   states = 1000000;
@@ -85,6 +85,14 @@ pub timed_code : command_of (codes "exec" ∷ codes "p" ∷ codes "--timeline" �
     ≡ Some (time_code (codes "p") (codes "t") (record { turns = 1000000; choices = nowhere; record_file = None }))
 timed_code = refl
 
+pub timed_demo : command_of (codes "demo" ∷ codes "5" ∷ codes "--timeline" ∷ codes "t" ∷ codes "--seed" ∷ codes "3" ∷ [])
+    ≡ Some (time_demo 5 (codes "t") (record { turns = 1000000; choices = seed 3; record_file = None }))
+timed_demo = refl
+
+-- its number is in the same range
+pub too_large : command_of (codes "demo" ∷ codes "1001" ∷ codes "--timeline" ∷ codes "t" ∷ []) ≡ None
+too_large = refl
+
 -- it is given once, with a name
 pub two_timelines : command_of (codes "run" ∷ codes "p" ∷ codes "--timeline" ∷ codes "t" ∷ codes "--timeline" ∷ codes "t" ∷ []) ≡ None
 two_timelines = refl
@@ -105,9 +113,6 @@ not_watch = refl
 
 pub not_walk : command_of (codes "walk" ∷ codes "p" ∷ codes "c" ∷ codes "--timeline" ∷ codes "t" ∷ []) ≡ None
 not_walk = refl
-
-pub not_demo : command_of (codes "demo" ∷ codes "5" ∷ codes "--timeline" ∷ codes "t" ∷ []) ≡ None
-not_demo = refl
 
 pub not_boot : command_of (codes "boot" ∷ codes "--timeline" ∷ codes "t" ∷ []) ≡ None
 not_boot = refl

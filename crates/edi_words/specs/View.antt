@@ -53,6 +53,7 @@ view (command.Watch file stops out options) = words.watch file.now stops.now out
 view (command.Explore file options) = words.explore file.now (exploring_of options)
 view (command.Time file out options) = words.time file.now out.now (options_of options)
 view (command.TimeCode file out options) = words.time_code file.now out.now (options_of options)
+view (command.TimeDemo n out options) = words.time_demo n out.now (options_of options)
 
 -- Titles are titles, and numbers are in their ranges.
 abbrev pub IsInRange : Command → Type 0
@@ -60,4 +61,5 @@ IsInRange (command.NewDisk blocks old) = (64 ≤ blocks) × (blocks ≤ 4096)
 IsInRange (command.Put file title) = is_title title.now ≡ true
 IsInRange (command.Get title file) = is_title title.now ≡ true
 IsInRange (command.Demo n options) = (1 ≤ n) × (n ≤ 1000)
+IsInRange (command.TimeDemo n out options) = (1 ≤ n) × (n ≤ 1000)
 IsInRange _ = ⊤

@@ -51,6 +51,8 @@ pub data Command : Type 0 where
   -- a run with a timeline: `run FILE --timeline OUT` and `replay FILE CHOICES --timeline OUT`, and `exec CODEFILE --timeline OUT`
   time : (file out : List ℕ) → Options → Command
   time_code : (file out : List ℕ) → Options → Command
+  -- and `demo N --timeline OUT`
+  time_demo : (n : ℕ) → (out : List ℕ) → Options → Command
 
 -- ---- operands and options
 
@@ -321,11 +323,12 @@ named name operands g =
     if bytes_eq name (codes "explore") then option_map (λ p. explore p.0 p.1) (explored_file operands g)
     else (if has_no_exploring g then named_plain name operands g else None)
 
--- The command with a timeline of this name. Only runs of files have one; a replay is then a run with the choices of its file.
+-- The command with a timeline of this name. Only runs of one program have one; a replay is then a run with the choices of its file.
 abbrev pub timed : (out : Text) → Command → Option Command
 timed out (run file_ o) = Some (time file_ out o)
 timed out (replay file_ choices turns) = Some (time file_ out (record { turns = turns; choices = file choices; record_file = None }))
 timed out (exec file_ o) = Some (time_code file_ out o)
+timed out (demo n o) = Some (time_demo n out o)
 timed out c = None
 
 abbrev pub named_timed : (out name : Text) → List Text → Given → Option Command

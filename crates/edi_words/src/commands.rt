@@ -125,4 +125,10 @@ pub enum Command<'a> {
         out: &'a str,
         options: Options<'a>,
     },
+    /// `demo N --timeline OUT`: runs a text of this number of procedures, 1 to 1000, and keeps a timeline.
+    TimeDemo {
+        n: u16,
+        out: &'a str,
+        options: Options<'a>,
+    },
 }

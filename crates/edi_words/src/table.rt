@@ -233,8 +233,9 @@ fn named<'a>(name: &str, operands: &[&'a str], given: &Given<'_, 'a>) -> Option<
     named_plain(name, operands, given)
 }
 
-/// The command with a timeline of this name, if it runs a file.
+/// The command with a timeline of this name, if it runs one program.
 fn timed<'a>(out: &'a str, command: Command<'a>) -> Option<Command<'a>>
+    requires range { IsInRange command }
     ensures exact { option_map view result ≡ words.timed out.entry.now (view command.entry) }
     ensures range { IfSome result IsInRange }
 {
@@ -254,6 +255,7 @@ fn timed<'a>(out: &'a str, command: Command<'a>) -> Option<Command<'a>>
             },
         }),
         Command::Exec { file, options } => Some(Command::TimeCode { file, out, options }),
+        Command::Demo { n, options } => Some(Command::TimeDemo { n, out, options }),
         _ => None,
     }
 }

@@ -37,7 +37,7 @@ const USAGES: [(&str, &str); 15] = [
     ("get", "get TITLE FILE"),
     (
         "demo",
-        "demo N [--turns N] [--choices FILE | --seed N] [--record FILE]",
+        "demo N [--turns N] [--choices FILE | --seed N] [--record FILE] [--timeline NAME]",
     ),
     (
         "boot",

@@ -35,7 +35,7 @@ const REFUSED: [&str; 15] = [
     "replay a b --timeline c --record d",
     "watch a b c --timeline d",
     "explore a --timeline b",
-    "demo 5 --timeline a",
+    "demo 0 --timeline a",
 ];
 
 fn are_refused(rt: &impl Abort, alloc: Global, table: &[&str]) {
@@ -81,6 +81,22 @@ fn a_timeline(rt: HostRuntime) {
         options,
     };
     let line = "replay a --timeline t c --turns 9";
+    assert!(rt; is_command(rt.alloc(), line, expected) == Some(true));
+}
+
+#[test]
+fn a_timeline_of_a_demonstration(rt: HostRuntime) {
+    let options = Options {
+        turns: 1_000_000,
+        choices: ChoicesFrom::Seed(3),
+        record_file: Some("r"),
+    };
+    let expected = Command::TimeDemo {
+        n: 1000,
+        out: "t",
+        options,
+    };
+    let line = "demo 1000 --record r --timeline t --seed 3";
     assert!(rt; is_command(rt.alloc(), line, expected) == Some(true));
 }
 

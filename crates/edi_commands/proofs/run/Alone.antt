@@ -5,11 +5,11 @@ use Rattle.std.specs.Prelude.{⊤}
 use Rattle.edi_told.specs.Told.{WhereTold}
 use Rattle.edi_host.specs.Blocks.{block_of}
 use Rattle.edi_host.specs.Contents.{Contents}
+use Rattle.edi_calls.specs.declared.ends.Outside.TheVariants as object
 use Rattle.edi_calls.specs.Choice.{Choices}
 use Rattle.edi_target.specs.Check.{CodeParts}
-use Rattle.edi_texts.specs.Run.{IsCodeFor}
+use Rattle.edi_timed.specs.on.Timelines.{IsOf}
 use Rattle.edi_utils.specs.Demo.{demo_text}
-use Rattle.edi_words.specs.Words as words
 use Rattle.edi_words.specs.Words.{Options}
 use Rattle.edi_statuses.specs.declared.ended.Ended.{Ended}
 use Rattle.edi_statuses.specs.declared.status.Status.{Status}
@@ -17,20 +17,21 @@ use Rattle.edi_statuses.specs.declared.status.Status.TheVariants as status
 use Rattle.edi_statuses.specs.Counts.{HasCause, counts_with}
 use Rattle.edi_statuses.specs.EachObject.{LeavesEach}
 use Rattle.edi_statuses.specs.Means.{MeansOf}
-use Rattle.edi_statuses.specs.Outside.{KernelLeft, Lent, Outside, idle, outside_with, seen, still_told}
+use Rattle.edi_statuses.specs.Outside.{KernelLeft, Lent, Outside, blaming, idle, outside_with, seen, still_told}
 use Rattle.edi_statuses.specs.Showing.{ShowsBytes, due_behind}
 use Rattle.edi_statuses.specs.Steps.{ReadsChoices, goes}
-use Rattle.edi_statuses.specs.Executions.{text}
-use Rattle.edi_statuses.specs.Commands.{DemoSteps, IsNothing, Runs, size_line}
+use Rattle.edi_statuses.specs.Executions.{Runnable, text}
+use Rattle.edi_statuses.specs.Commands.{DemoSteps, IsNothing, size_line}
+use Rattle.edi_statuses.specs.Timelines.{timable}
 use Rattle.edi_statuses.proofs.Closing as closing
 use Rattle.edi_statuses.proofs.Due.{due_then}
 use Rattle.edi_statuses.proofs.EachLeft.{each_same}
-use Rattle.edi_statuses.proofs.Terminal.{runs_later}
 use Rattle.edi_statuses.proofs.Told.{same_told, shows_nothing, still, still_same}
 use Rattle.edi_commands.specs.steps.OnFiles.{ChoicesStep, files_only}
-use Rattle.edi_commands.specs.run.CodeRan.{CodeRan, RanCode}
-use Rattle.edi_commands.specs.run.Demonstrated.{CameAlone, HasCauseAlone, RanAlone, is_ok}
-use Rattle.edi_commands.proofs.run.Demonstrated.{IsOfDemo, line_means, ran_means, uncoded_means, unread_means}
+use Rattle.edi_commands.specs.run.Demonstrated.{CameAlone, HasCauseAlone, RanAlone, demo_with, is_ok}
+use Rattle.edi_commands.specs.run.OnTimed.{ProgramRan, RanWith}
+use Rattle.edi_commands.proofs.run.Demonstrated.{IsOfDemo}
+use Rattle.edi_commands.proofs.run.TimedDemo.{EndsWell, line_by, ran_by, uncoded_by, unread_by, well_later}
 use Rattle.edi_commands.proofs.run.Told.{on_files, reads_till_the_last}
 
 -- ---- causes
@@ -54,15 +55,15 @@ cause_alone s had has had_shown has_shown had_printed has_printed h = λ drive i
 -- ---- nothing was run
 
 -- another status that is the same
-came_so : (n : ℕ) (o : Options) (s t : Status) (due : Bool) (old new : Option Contents) (taken printed : Option (List ℕ)) (kernel : Lent) → t ≡ s
-    → due ≡ false → CameAlone (words.demo n o) s false old new taken taken printed printed kernel
-    → CameAlone (words.demo n o) t due old new taken taken printed printed kernel
-came_so n o s t due old new taken printed kernel same silent h =
-    subst (λ d. CameAlone (words.demo n o) t d old new taken taken printed printed kernel) (sym silent)
-    (subst (λ x. CameAlone (words.demo n o) x false old new taken taken printed printed kernel) (sym same) h)
+came_so : (n : ℕ) (timeline : Option (List ℕ)) (o : Options) (s t : Status) (due : Bool) (old new : Option Contents) (taken printed : Option (List ℕ))
+    (kernel : Lent) → t ≡ s → due ≡ false → CameAlone (demo_with n timeline o) s false old new taken taken printed printed kernel
+    → CameAlone (demo_with n timeline o) t due old new taken taken printed printed kernel
+came_so n timeline o s t due old new taken printed kernel same silent h =
+    subst (λ d. CameAlone (demo_with n timeline o) t d old new taken taken printed printed kernel) (sym silent)
+    (subst (λ x. CameAlone (demo_with n timeline o) x false old new taken taken printed printed kernel) (sym same) h)
 
-module _ (n : ℕ) (o : Options) (old mid : Option Contents) (first : WhereTold old mid (λ a b. b ≡ a)) (taken printed : Option (List ℕ))
-    (kernel : KernelLeft) where
+module _ (n : ℕ) (timeline : Option (List ℕ)) (o : Options) (old mid : Option Contents) (first : WhereTold old mid (λ a b. b ≡ a))
+    (taken printed : Option (List ℕ)) (kernel : KernelLeft) where
   module _ (blocks : Option (List (List ℕ))) (input : Option (List ℕ)) where
     abbrev start : Outside
     start = outside_with old blocks input taken printed
@@ -84,64 +85,56 @@ module _ (n : ℕ) (o : Options) (old mid : Option Contents) (first : WhereTold 
 
   -- so for any drive and any input
   stopped : (s t : Status) (due : Bool) → t ≡ s → due ≡ false → ((blocks : Option (List (List ℕ))) (input : Option (List ℕ))
-      → MeansOf s (words.demo n o) (seen (start blocks input) (end blocks input)) (end blocks input) [] (idle kernel))
-      → CameAlone (words.demo n o) t due old mid taken taken printed printed (idle kernel)
-  stopped s t due same silent means = came_so n o s t due old mid taken printed (idle kernel) same silent (λ blocks input. record {
+      → MeansOf s (demo_with n timeline o) (seen (start blocks input) (end blocks input)) (end blocks input) [] (idle kernel))
+      → CameAlone (demo_with n timeline o) t due old mid taken taken printed printed (idle kernel)
+  stopped s t due same silent means = came_so n timeline o s t due old mid taken printed (idle kernel) same silent (λ blocks input. record {
     shown = [];
     means = means blocks input;
     shows = shows_nothing taken taken refl;
     due_is = refl;
-    each = each_same (Some (words.demo n o)) (start blocks input) (end blocks input) refl refl refl;
+    each = each_same (Some (demo_with n timeline o)) (start blocks input) (end blocks input) refl refl refl;
   })
 
   pub unread : (s t : Status) (due : Bool) → t ≡ s → due ≡ false → ChoicesStep (files_only (still_told old mid)) o.choices (Err s)
-      → CameAlone (words.demo n o) t due old mid taken taken printed printed (idle kernel)
+      → CameAlone (demo_with n timeline o) t due old mid taken taken printed printed (idle kernel)
   unread s t due same silent h = stopped s t due same silent (λ blocks input.
-      unread_means n o (seen (start blocks input) (end blocks input)) (end blocks input) (same_told blocks blocks refl) (same_told input input refl)
+      unread_by n timeline o (seen (start blocks input) (end blocks input)) (end blocks input) (same_told blocks blocks refl) (same_told input input refl)
       (idle kernel) (nothing blocks input) s h)
 
   pub uncoded : (t : Status) (due : Bool) → t ≡ status.NoMemory → due ≡ false
-      → CameAlone (words.demo n o) t due old mid taken taken printed printed (idle kernel)
+      → CameAlone (demo_with n timeline o) t due old mid taken taken printed printed (idle kernel)
   uncoded t due same silent = stopped status.NoMemory t due same silent (λ blocks input.
-      uncoded_means n o (seen (start blocks input) (end blocks input)) (end blocks input) (same_told blocks blocks refl) (same_told input input refl)
+      uncoded_by n timeline o (seen (start blocks input) (end blocks input)) (end blocks input) (same_told blocks blocks refl) (same_told input input refl)
       (idle kernel) (nothing blocks input))
 
 -- ---- the code was run
 
 -- on a drive and an input of its own that began empty
-pub alone_by : (parts : CodeParts) (bound : ℕ) (choices : Choices) (name : Option (List ℕ)) (s : Status) (due : Bool) (old new : Option Contents)
+pub alone_by : (timeline : Option (List ℕ)) (parts : CodeParts) (bound : ℕ) (choices : Choices) (name : Option (List ℕ)) (s : Status) (due : Bool) (old new : Option Contents)
     (taken takes printed prints : Option (List ℕ)) (kernel : Lent) (disk disk' : List (List ℕ)) (input input' : List ℕ) → disk ≡ [] → input ≡ []
-    → RanCode parts bound choices name s due (outside_with old (Some (map block_of disk)) (Some input) taken printed)
+    → RanWith timeline parts bound choices name s due (outside_with old (Some (map block_of disk)) (Some input) taken printed)
     (outside_with new (Some (map block_of disk')) (Some input') takes prints) kernel
-    → RanAlone parts bound choices name s due old new taken takes printed prints kernel
-alone_by parts bound choices name s due old new taken takes printed prints kernel disk disk' input input' no_disk no_input h = record {
+    → RanAlone timeline parts bound choices name s due old new taken takes printed prints kernel
+alone_by timeline parts bound choices name s due old new taken takes printed prints kernel disk disk' input input' no_disk no_input h = record {
   disk = map block_of disk';
   left = input';
-  ran = subst (λ d. RanCode parts bound choices name s due (outside_with old (Some (map block_of d)) (Some []) taken printed)
+  ran = subst (λ d. RanWith timeline parts bound choices name s due (outside_with old (Some (map block_of d)) (Some []) taken printed)
       (outside_with new (Some (map block_of disk')) (Some input') takes prints) kernel) no_disk
-      (subst (λ b. RanCode parts bound choices name s due (outside_with old (Some (map block_of disk)) (Some b) taken printed)
+      (subst (λ b. RanWith timeline parts bound choices name s due (outside_with old (Some (map block_of disk)) (Some b) taken printed)
       (outside_with new (Some (map block_of disk')) (Some input') takes prints) kernel) no_input h);
 }
 
 -- memory was wanting for them
-pub alone_wants : (parts : CodeParts) (bound : ℕ) (choices : Choices) (name : Option (List ℕ)) (s : Status) (due : Bool) (old : Option Contents)
+pub alone_wants : (timeline : Option (List ℕ)) (parts : CodeParts) (bound : ℕ) (choices : Choices) (name : Option (List ℕ)) (s : Status) (due : Bool) (old : Option Contents)
     (taken printed : Option (List ℕ)) (kernel : KernelLeft) → s ≡ status.NoMemory → due ≡ false
-    → RanAlone parts bound choices name s due old old taken taken printed printed (idle kernel)
-alone_wants parts bound choices name s due old taken printed kernel is silent = record {
+    → RanAlone timeline parts bound choices name s due old old taken taken printed printed (idle kernel)
+alone_wants timeline parts bound choices name s due old taken printed kernel is silent = record {
   disk = [];
   left = [];
   ran = record {
     shown = [];
-    ran = λ program code. subst (λ t. CodeRan program bound choices name t (seen start start) start [] (idle kernel)) (sym is) (inl (record {
-      shown_ = refl;
-      same = record {
-        files = same_told old old refl;
-        blocks = refl;
-        input = refl;
-        printed = same_told printed printed refl;
-      };
-      kernel_same = refl;
-    }));
+    ran = λ program code. subst (λ t. ProgramRan timeline program bound choices name t (seen start start) start [] (idle kernel)) (sym is)
+        (wants_by timeline program);
     shows = shows_nothing taken taken refl;
     due_is = silent;
     each = each_same None start start refl refl refl;
@@ -150,10 +143,21 @@ alone_wants parts bound choices name s due old taken printed kernel is silent = 
   start : Outside
   start = outside_with old (Some []) (Some []) taken printed
 
-module _ (n : ℕ) (o : Options) (old mid new : Option Contents) (choices : Choices) (c : ReadsChoices (files_only (still_told old mid)) o.choices (goes choices))
+  nothing_now : IsNothing (seen start start) start [] (idle kernel)
+  nothing_now = record {
+    shown_ = refl;
+    same = record { files = same_told old old refl; blocks = refl; input = refl; printed = same_told printed printed refl };
+    kernel_same = refl;
+  }
+
+  wants_by : (timeline : Option (List ℕ)) (program : Runnable) → ProgramRan timeline program bound choices name status.NoMemory (seen start start) start [] (idle kernel)
+  wants_by None program = inl nothing_now
+  wants_by (Some out) program = inl nothing_now
+
+module _ (n : ℕ) (timeline : Option (List ℕ)) (o : Options) (old mid new : Option Contents) (choices : Choices) (c : ReadsChoices (files_only (still_told old mid)) o.choices (goes choices))
     (first : WhereTold old mid (λ a b. b ≡ a)) (last : WhereTold mid new (λ a b. ⊤)) (parts : CodeParts)
-    (code : IsCodeFor (demo_text n) parts) (taken takes printed prints : Option (List ℕ)) (kernel : Lent) (s : Status) (due : Bool)
-    (r : RanAlone parts o.turns choices o.record_file s due mid new taken takes printed prints kernel) where
+    (code : IsOf (timable (text (demo_text n))) parts) (taken takes printed prints : Option (List ℕ)) (kernel : Lent) (s : Status) (due : Bool)
+    (r : RanAlone timeline parts o.turns choices o.record_file s due mid new taken takes printed prints kernel) where
   steps : (shown : Option (List ℕ)) (blocks : Option (List (List ℕ))) (input : Option (List ℕ))
       → DemoSteps (seen (outside_with old blocks input taken printed) (outside_with new blocks input shown prints)) o.choices (goes choices)
   steps shown blocks input =
@@ -162,25 +166,25 @@ module _ (n : ℕ) (o : Options) (old mid new : Option Contents) (choices : Choi
 
   -- the drive and the input that were lent are left alone
   each_alone : (shown : Option (List ℕ)) (blocks : Option (List (List ℕ))) (input : Option (List ℕ))
-      → LeavesEach (Some (words.demo n o)) (outside_with old blocks input taken printed) (outside_with new blocks input shown prints)
+      → LeavesEach (Some (demo_with n timeline o)) (outside_with old blocks input taken printed) (outside_with new blocks input shown prints)
   each_alone shown blocks input =
-      let rest = each_same (Some (words.demo n o)) (outside_with old blocks input taken printed) (outside_with new blocks input shown printed) refl refl refl in
+      let rest = each_same (Some (demo_with n timeline o)) (outside_with old blocks input taken printed) (outside_with new blocks input shown printed) refl refl refl in
       record { drive = rest.drive; input = rest.input; printer = r.ran.each.printer }
 
   -- so over the files from before the command
-  ran : CodeRan (text (demo_text n)) o.turns choices o.record_file s
+  ran : ProgramRan timeline (text (demo_text n)) o.turns choices o.record_file s
       (outside_with (still_told old new) (Some []) (Some []) (still_told taken takes) (still_told printed prints))
       (outside_with new (Some r.disk) (Some r.left) takes prints) r.ran.shown kernel
   ran =
-      subst (λ files. CodeRan (text (demo_text n)) o.turns choices o.record_file s
+      subst (λ files. ProgramRan timeline (text (demo_text n)) o.turns choices o.record_file s
       (outside_with files (Some []) (Some []) (still_told taken takes) (still_told printed prints))
       (outside_with new (Some r.disk) (Some r.left) takes prints) r.ran.shown kernel)
       (still_same old mid new first last) (r.ran.ran (text (demo_text n)) code)
 
-  pub ran_alone : IsOfDemo s → is_ok s ≡ false → CameAlone (words.demo n o) s due old new taken takes printed prints kernel
+  pub ran_alone : IsOfDemo s → is_ok s ≡ false → CameAlone (demo_with n timeline o) s due old new taken takes printed prints kernel
   ran_alone of_ not_ok = λ blocks input. record {
     shown = r.ran.shown;
-    means = ran_means n o (seen (outside_with old blocks input taken printed) (outside_with new blocks input takes prints))
+    means = ran_by n timeline o (seen (outside_with old blocks input taken printed) (outside_with new blocks input takes prints))
         (outside_with new blocks input takes prints) (same_told blocks blocks refl) (same_told input input refl) kernel choices (steps takes blocks input)
         r.disk r.left r.ran.shown s of_ not_ok ran;
     shows = r.ran.shows;
@@ -191,22 +195,26 @@ module _ (n : ℕ) (o : Options) (old mid new : Option Contents) (choices : Choi
   -- the line of its size was shown, or a first part of it
   module _ (ok : s ≡ status.Ok) (shows : Option (List ℕ)) (ended : Ended)
       (line : ShowsBytes (size_line n kernel.after.used r.ran.shown) due ended takes shows) where
-    runs : Runs (text (demo_text n)) o.turns choices o.record_file status.Ok
-        (outside_with (still_told old new) (Some []) (Some []) (still_told taken shows) (still_told printed prints))
-        (outside_with new (Some r.disk) (Some r.left) shows prints) r.ran.shown kernel
-    runs =
-        let whole = subst (λ t. CodeRan (text (demo_text n)) o.turns choices o.record_file t
-        (outside_with (still_told old new) (Some []) (Some []) (still_told taken takes) (still_told printed prints))
-        (outside_with new (Some r.disk) (Some r.left) takes prints) r.ran.shown kernel) ok ran in
-        runs_later (outside_with old (Some []) (Some []) taken printed) (outside_with new (Some r.disk) (Some r.left) takes prints) shows
-        (closing.still_told takes shows _ line.2) (text (demo_text n)) o.turns choices o.record_file status.Ok r.ran.shown kernel whole.1
+    -- for which the terminal is blamed
+    abbrev blaming_it : Lent
+    blaming_it = blaming (Some object.Terminal) kernel
 
-    pub lined : CameAlone (words.demo n o) ended.status ended.due old new taken shows printed prints kernel
+    ends : EndsWell timeline (text (demo_text n)) o.turns choices o.record_file
+        (outside_with (still_told old new) (Some []) (Some []) (still_told taken shows) (still_told printed prints))
+        (outside_with new (Some r.disk) (Some r.left) shows prints) r.ran.shown blaming_it
+    ends =
+        well_later (outside_with old (Some []) (Some []) taken printed) (outside_with new (Some r.disk) (Some r.left) takes prints) shows
+        (closing.still_told takes shows _ line.2) timeline (text (demo_text n)) o.turns choices o.record_file r.ran.shown (Some object.Terminal) kernel
+        (subst (λ t. ProgramRan timeline (text (demo_text n)) o.turns choices o.record_file t
+        (outside_with (still_told old new) (Some []) (Some []) (still_told taken takes) (still_told printed prints))
+        (outside_with new (Some r.disk) (Some r.left) takes prints) r.ran.shown kernel) ok ran)
+
+    pub lined : CameAlone (demo_with n timeline o) ended.status ended.due old new taken shows printed prints blaming_it
     lined = λ blocks input. record {
       shown = r.ran.shown ++ line.0;
-      means = line_means n o (seen (outside_with old blocks input taken printed) (outside_with new blocks input shows prints))
-          (outside_with new blocks input shows prints) (same_told blocks blocks refl) (same_told input input refl) kernel choices (steps shows blocks input)
-          r.disk r.left r.ran.shown runs ended.status line.0 line.1;
+      means = line_by n timeline o (seen (outside_with old blocks input taken printed) (outside_with new blocks input shows prints))
+          (outside_with new blocks input shows prints) (same_told blocks blocks refl) (same_told input input refl) blaming_it refl choices
+          (steps shows blocks input) r.disk r.left r.ran.shown ends ended.status line.0 line.1;
       shows = closing.shown_line taken takes shows r.ran.shown line.0 r.ran.shows line.2;
       due_is = line.3 ∙ ap (λ d. due_behind d line.0) r.ran.due_is ∙ sym (due_then r.ran.shown line.0);
       each = each_alone shows blocks input;

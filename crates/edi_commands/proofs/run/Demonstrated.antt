@@ -8,6 +8,7 @@ use Rattle.std.specs.FinMap as map
 use Rattle.std.specs.FinMap.{slice_cmp-IsAntisymmetric, nat_cmp-IsAntisymmetric}
 use Rattle.std.proofs.lemmas.Cmp.{nat_list_cmp_total}
 use Rattle.edi_host.specs.Contents.{Contents}
+use Rattle.edi_calls.specs.declared.ends.Outside.TheVariants as object
 use Rattle.edi_calls.specs.Choice.{Choices}
 use Rattle.edi_image.specs.declared.faults.MountFault.{MountFault}
 use Rattle.edi_utils.specs.Demo.{demo_text}
@@ -56,11 +57,11 @@ record_there : (name : Option (List ℕ)) → IsSome name → not (is_none name)
 record_there None there = absurd (cc)
 record_there (Some name) there = refl
 
-or_second : (a b : Bool) → b ≡ true → (a || b) ≡ true
+pub or_second : (a b : Bool) → b ≡ true → (a || b) ≡ true
 or_second true b h = refl
 or_second false b h = h
 
-or_first : (a b : Bool) → a ≡ true → (a || b) ≡ true
+pub or_first : (a b : Bool) → a ≡ true → (a || b) ≡ true
 or_first true b h = refl
 or_first false b h = absurd (true≢false (sym h))
 
@@ -71,7 +72,7 @@ IsOfDemo status.DriveFault = ⊥
 IsOfDemo status.InputFault = ⊥
 IsOfDemo _ = ⊤
 
-no_image : (o : Outside) (input : List ℕ) (broken : MountFault) → Mounts (with_own [] input o) (stops (status.BadImage broken)) → ⊥
+pub no_image : (o : Outside) (input : List ℕ) (broken : MountFault) → Mounts (with_own [] input o) (stops (status.BadImage broken)) → ⊥
 no_image o input broken h = let never = h.2 in absurd (cc)
 
 -- ---- the meaning of a status
@@ -80,11 +81,11 @@ module _ (n : ℕ) (o : Options) (before after : Outside) (blocks : SameBlocks b
   abbrev MeansHere : Status → (shown : List ℕ) → Type 0
   MeansHere s shown = MeansOf s (words.demo n o) before after shown kernel
 
-  on_its_own : (P : Outside → Outside → Type 0) (disk : List (List ℕ)) (left : List ℕ) → P (with_own [] [] before) (with_own disk left after)
+  pub on_its_own : (P : Outside → Outside → Type 0) (disk : List (List ℕ)) (left : List ℕ) → P (with_own [] [] before) (with_own disk left after)
       → OnItsOwn P before after
   on_its_own P disk left h = record { disk = disk; left = left; is = h; blocks = blocks; input = input }
 
-  own_nothing : (disk : List (List ℕ)) (left shown : List ℕ) → IsNothing (with_own [] [] before) (with_own disk left after) shown kernel
+  pub own_nothing : (disk : List (List ℕ)) (left shown : List ℕ) → IsNothing (with_own [] [] before) (with_own disk left after) shown kernel
       → IsNothing before after shown kernel
   own_nothing disk left shown h = record {
     shown_ = h.shown_;
@@ -119,7 +120,7 @@ module _ (n : ℕ) (o : Options) (before after : Outside) (blocks : SameBlocks b
       uses = tt;
       far = (
         same_but (names_in o.record_file) before.files after.files h.0,
-        (choices, steps, inl (on_its_own (λ b a. SameFiles b a × BrokeRun status.OutputFault (text (demo_text n)) o.turns choices b a shown) disk left (h.0, h.2))),
+        (choices, steps, inl (on_its_own (λ b a. SameFiles b a × BrokeRun status.OutputFault kernel.failed (text (demo_text n)) o.turns choices b a shown) disk left (h.0, h.2))),
       );
     }
     ran_means status.DriveFault of_ not_ok h = absurd of_
@@ -136,11 +137,11 @@ module _ (n : ℕ) (o : Options) (before after : Outside) (blocks : SameBlocks b
           },
         )
 
-  -- its line was shown, or a first part of it
-  pub line_means : (choices : Choices) → DemoSteps before o.choices (goes choices) → (disk : List (List ℕ)) (left by_program : List ℕ)
+  -- its line was shown, or a first part of it, for which the terminal is blamed
+  pub line_means : kernel.failed ≡ Some object.Terminal → (choices : Choices) → DemoSteps before o.choices (goes choices) → (disk : List (List ℕ)) (left by_program : List ℕ)
       → Runs (text (demo_text n)) o.turns choices o.record_file status.Ok (with_own [] [] before) (with_own disk left after) by_program kernel
       → (s : Status) (front : List ℕ) → ShowsFar s front (size_line n kernel.after.used by_program) → MeansHere s (by_program ++ front)
-  line_means choices steps disk left by_program ran status.Ok front far =
+  line_means named choices steps disk left by_program ran status.Ok front far =
       inr (
         choices,
         steps,
@@ -150,7 +151,7 @@ module _ (n : ℕ) (o : Options) (before after : Outside) (blocks : SameBlocks b
           ran = on_its_own (λ b a. Runs (text (demo_text n)) o.turns choices o.record_file status.Ok b a by_program kernel) disk left ran;
         },
       )
-  line_means choices steps disk left by_program ran status.OutputFault front far = record {
+  line_means named choices steps disk left by_program ran status.OutputFault front far = record {
     uses = tt;
     far = (
       told_so _ _ before.files after.files (kept_but o.record_file choices ran.drawn) ran.keeps,
@@ -162,12 +163,13 @@ module _ (n : ℕ) (o : Options) (before after : Outside) (blocks : SameBlocks b
           line = front;
           front = far;
           shown_ = refl;
+          blamed = named;
           ran = on_its_own (λ b a. Runs (text (demo_text n)) o.turns choices o.record_file status.Ok b a by_program kernel) disk left ran;
         }),
       ),
     );
   }
-  line_means choices steps disk left by_program ran s front far = absurd far
+  line_means named choices steps disk left by_program ran s front far = absurd far
 
   -- the command stopped before it ran anything
   module _ (nothing : IsNothing before after [] kernel) where
@@ -178,7 +180,7 @@ module _ (n : ℕ) (o : Options) (before after : Outside) (blocks : SameBlocks b
     refused (status.BadCode broken) refusal h = inl (h, nothing)
     refused s refusal h = absurd refusal
 
-    not_begun : HasNotBegun before after [] kernel
+    pub not_begun : HasNotBegun before after [] kernel
     not_begun = record { shown_ = refl; blocks = blocks; input = input; printed = nothing.same.printed; kernel_same = nothing.kernel_same }
 
     -- the choices were not read

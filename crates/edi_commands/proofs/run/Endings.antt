@@ -33,7 +33,7 @@ pub unmounted : (parts : CodeParts) (bound : ℕ) (choices : Choices) (name : Op
 unmounted parts bound choices name s due before after kernel why is silent h = record {
   shown = [];
   ran = λ program code. subst (λ x. CodeRan program bound choices name x (seen before after) after [] kernel) (sym is)
-      (unmounted_by before after kernel why h name (BrokeRun (mount_status why) program bound choices (seen before after) after [])
+      (unmounted_by before after kernel why h name (BrokeRun (mount_status why) kernel.failed program bound choices (seen before after) after [])
       (RanWhole program bound choices (seen before after) after [] kernel) (λ end. Runs program bound choices name end (seen before after) after [] kernel));
   shows = shows_nothing before.shown after.shown h.shown;
   due_is = silent;
@@ -66,27 +66,29 @@ module _ (parts : CodeParts) (bound : ℕ) (old : Drawn) (none : old.drawn ≡ 0
   shown_now = shown_in due before after
 
   -- an object has failed
-  pub broke_run : (failed : failing.Outside) → WhereTold (told_by before) (told_by after) (StandsAtCall parts bound old failed) → (program : Runnable)
-      → HasCode program parts → BrokeRun (object_status failed) program bound old.source (seen before after) after shown_now
-  broke_run failed at program is =
+  pub broke_run : (failed : failing.Outside) (blamed : Option failing.Outside) → blamed ≡ Some failed
+      → WhereTold (told_by before) (told_by after) (StandsAtCall parts bound old failed) → (program : Runnable) → HasCode program parts
+      → BrokeRun (object_status failed) blamed program bound old.source (seen before after) after shown_now
+  broke_run failed blamed named at program is =
       devices_told before after shown_now (StandsAtCall parts bound old failed)
-      (λ d e. FailedAt (object_status failed) (HasCall program (system_on d) bound old.source) d e shown_now)
-      left.told.valid (left_shows due before after left) (stands program parts is bound old none shown_now failed) at
+      (λ d e. FailedAt (object_status failed) blamed (HasCall program (system_on d) bound old.source) d e shown_now)
+      left.told.valid (left_shows due before after left) (stands program parts is bound old none shown_now failed blamed named) at
 
   broke_by : (failed : failing.Outside) (name : Option (List ℕ)) (kernel : Lent) → SameFiles (seen before after) after → (program : Runnable)
-      → BrokeRun (object_status failed) program bound old.source (seen before after) after shown_now
+      → BrokeRun (object_status failed) kernel.failed program bound old.source (seen before after) after shown_now
       → CodeRan program bound old.source name (object_status failed) (seen before after) after shown_now kernel
   broke_by object.Drive name kernel files program broke = (files, inr (mounts due before after left, broke))
   broke_by object.Input name kernel files program broke = (files, mounts due before after left, broke)
   broke_by object.Terminal name kernel files program broke = (files, mounts due before after left, broke)
   broke_by object.Printer name kernel files program broke = (files, mounts due before after left, broke)
 
-  pub broke : (name : Option (List ℕ)) (s : Status) (failed : failing.Outside) (kernel : Lent) → s ≡ object_status failed → after.files ≡ before.files
-      → WhereTold (told_by before) (told_by after) (StandsAtCall parts bound old failed) → RanCode parts bound old.source name s due before after kernel
-  broke name s failed kernel is files at = record {
+  pub broke : (name : Option (List ℕ)) (s : Status) (failed : failing.Outside) (kernel : Lent) → kernel.failed ≡ Some failed → s ≡ object_status failed
+      → after.files ≡ before.files → WhereTold (told_by before) (told_by after) (StandsAtCall parts bound old failed)
+      → RanCode parts bound old.source name s due before after kernel
+  broke name s failed kernel named is files at = record {
     shown = shown_now;
     ran = λ program code. subst (λ x. CodeRan program bound old.source name x (seen before after) after shown_now kernel) (sym is)
-        (broke_by failed name kernel (same_told before.files after.files files) program (broke_run failed at program code));
+        (broke_by failed name kernel (same_told before.files after.files files) program (broke_run failed kernel.failed named at program code));
     shows = left_shows due before after left;
     due_is = left_due due before after left;
     each = left_each due before after left;
@@ -137,7 +139,7 @@ module _ (parts : CodeParts) (bound : ℕ) (old : Drawn) (none : old.drawn ≡ 0
     unrecorded name s step = record {
       shown = shown_now;
       ran = λ program is.
-          unkept due before after left new (Unit {0}) name s step (BrokeRun s program bound old.source (seen before after) after shown_now)
+          unkept due before after left new (Unit {0}) name s step (BrokeRun s kernel.failed program bound old.source (seen before after) after shown_now)
           (RanWhole program bound old.source (seen before after) after shown_now kernel)
           (λ end. Runs program bound old.source name end (seen before after) after shown_now kernel) shown_now kernel (whole program is);
       shows = left_shows due before after left;

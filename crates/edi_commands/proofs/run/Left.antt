@@ -170,13 +170,14 @@ module _ (program : Runnable) (parts : CodeParts) (is : HasCode program parts) (
   }
 
   -- a run in which an object has failed
-  pub stands : (failed : failing.Outside) (x y : Contents) → mount_fault_of y.disk ≡ None → y.shown ≡ x.shown ++ shown
-      → StandsAtCall parts bound old failed x y
-      → FailedAt (object_status failed) (HasCall program (system_on (devices x)) bound old.source) (devices x) (devices y) shown
-  stands failed x y valid shows h =
+  pub stands : (failed : failing.Outside) (blamed : Option failing.Outside) → blamed ≡ Some failed → (x y : Contents) → mount_fault_of y.disk ≡ None
+      → y.shown ≡ x.shown ++ shown → StandsAtCall parts bound old failed x y
+      → FailedAt (object_status failed) blamed (HasCall program (system_on (devices x)) bound old.source) (devices x) (devices y) shown
+  stands failed blamed named x y valid shows h =
       let both = call_blocks (fetch parts.words) parts.entry parts.calls (execute.system_on x) bound old.source old.drawn h.calls.0 h.from h.next h.calls.1 in
       record {
         failed = failed;
+        blamed_is = named;
         status_is = refl;
         before = h.from;
         next = h.next;

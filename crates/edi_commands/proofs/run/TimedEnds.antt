@@ -31,9 +31,9 @@ use Rattle.edi_statuses.specs.Timelines.{HasTimed, IsTimeline, KeepsAll, TimedIn
 use Rattle.edi_statuses.proofs.EachLeft.{each_same}
 use Rattle.edi_statuses.proofs.Told.{same_told, still, shows_nothing, told_so}
 use Rattle.edi_commands.specs.steps.NotMounted.{mount_status}
-use Rattle.edi_commands.specs.run.CodeRan.{ending_status}
+use Rattle.edi_commands.specs.run.CodeRan.{RanCode, ending_status}
 use Rattle.edi_commands.specs.run.OnMounted.{DriveAsked, OnMounted}
-use Rattle.edi_commands.specs.run.OnTimed.{OnTimed, ProgramTimed, RanTimed, timed_status}
+use Rattle.edi_commands.specs.run.OnTimed.{OnTimed, ProgramTimed, RanTimed, RanWith, timed_status}
 use Rattle.edi_commands.proofs.run.Asked.{asked_so}
 use Rattle.edi_commands.proofs.run.Endings.{broke_run, has_ran, status_is}
 use Rattle.edi_commands.proofs.run.Left.{devices_told, ending_of, told_by, IsNoFault}
@@ -46,6 +46,17 @@ use Rattle.edi_commands.proofs.text.ManyNames.{all_kept, keeps_first, loses_next
 pub has_code : (program : Runnable) (parts : CodeParts) → IsOf (timable program) parts → HasCode program parts
 has_code (text bytes) parts (unit, is, can, same) = subst (IsCodeFor bytes) (sym same) (texts_do_as_meant bytes unit is)
 has_code (code own) parts is = is
+
+-- a run whose code may be made of its program is one of the code that is made of it
+pub ran_plainly : (parts : CodeParts) (bound : ℕ) (choices : Choices) (name : Option (List ℕ)) (s : Status) (due : Bool) (before after : Outside)
+    (kernel : Lent) → RanCode parts bound choices name s due before after kernel → RanWith None parts bound choices name s due before after kernel
+ran_plainly parts bound choices name s due before after kernel r = record {
+  shown = r.shown;
+  ran = λ program is. r.ran program (has_code program parts is);
+  shows = r.shows;
+  due_is = r.due_is;
+  each = r.each;
+}
 
 -- ---- nothing was kept
 
@@ -84,7 +95,7 @@ module _ (parts : CodeParts) (bound : ℕ) (out : List ℕ) (name : Option (List
     shown = [];
     ran = λ program of.
         let x : Outside = seen before after in
-        let broken : Type 0 = BrokeRun (mount_status why) program bound choices x after [] in
+        let broken : Type 0 = BrokeRun (mount_status why) kernel.failed program bound choices x after [] in
         let wants : Type 0 = TimedInPart program bound choices out name x after [] kernel in
         let lost : Type 0 = TimedLost program bound choices out name x after [] kernel in
         let comes : Status → Type 0 = λ end. Times program bound choices out name end x after [] kernel in
@@ -101,21 +112,21 @@ module _ (parts : CodeParts) (bound : ℕ) (out : List ℕ) (name : Option (List
     shown_now = shown_in due before after
 
     broke_timed : (program : Runnable) (failed : failing.Outside) (kernel : Lent) → SameFiles (seen before after) after
-        → BrokeRun (object_status failed) program bound old.source (seen before after) after shown_now
+        → BrokeRun (object_status failed) kernel.failed program bound old.source (seen before after) after shown_now
         → ProgramTimed program bound old.source out name (object_status failed) (seen before after) after shown_now kernel
     broke_timed program object.Drive kernel files broke = (files, inr (mounts due before after left, broke))
     broke_timed program object.Input kernel files broke = (files, mounts due before after left, broke)
     broke_timed program object.Terminal kernel files broke = (files, mounts due before after left, broke)
     broke_timed program object.Printer kernel files broke = (files, mounts due before after left, broke)
 
-    pub failed_so : (s : Status) (failed : failing.Outside) (kernel : Lent) → s ≡ object_status failed → after.files ≡ before.files
-        → WhereTold (told_by before) (told_by after) (StandsAtCall parts bound old failed)
+    pub failed_so : (s : Status) (failed : failing.Outside) (kernel : Lent) → kernel.failed ≡ Some failed → s ≡ object_status failed
+        → after.files ≡ before.files → WhereTold (told_by before) (told_by after) (StandsAtCall parts bound old failed)
         → RanTimed parts bound old.source out name s due before after kernel
-    failed_so s failed kernel is files at = record {
+    failed_so s failed kernel named is files at = record {
       shown = shown_now;
       ran = λ program of. subst (λ t. ProgramTimed program bound old.source out name t (seen before after) after shown_now kernel) (sym is)
           (broke_timed program failed kernel (same_told before.files after.files files)
-          (broke_run parts bound old none due before after left failed at program (has_code program parts of)));
+          (broke_run parts bound old none due before after left failed kernel.failed named at program (has_code program parts of)));
       shows = left_shows due before after left;
       due_is = left_due due before after left;
       each = left_each due before after left;

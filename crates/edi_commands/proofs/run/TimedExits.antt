@@ -52,11 +52,11 @@ TimeMeans there asks steps program choices bound out name status.FileFault befor
     × HasBegun steps (λ a. TimedLost (program a) bound (choices a) out name before after shown kernel))
 TimeMeans there asks steps program choices bound out name status.DriveFault before after shown kernel =
     SameFiles before after
-    × ((asks × HasNotBegun before after shown kernel) ⊎ HasBegun steps (λ a. BrokeRun status.DriveFault (program a) bound (choices a) before after shown))
+    × ((asks × HasNotBegun before after shown kernel) ⊎ HasBegun steps (λ a. BrokeRun status.DriveFault kernel.failed (program a) bound (choices a) before after shown))
 TimeMeans there asks steps program choices bound out name status.InputFault before after shown kernel =
-    SameFiles before after × HasBegun steps (λ a. BrokeRun status.InputFault (program a) bound (choices a) before after shown)
+    SameFiles before after × HasBegun steps (λ a. BrokeRun status.InputFault kernel.failed (program a) bound (choices a) before after shown)
 TimeMeans there asks steps program choices bound out name status.OutputFault before after shown kernel =
-    SameFiles before after × HasBegun steps (λ a. BrokeRun status.OutputFault (program a) bound (choices a) before after shown)
+    SameFiles before after × HasBegun steps (λ a. BrokeRun status.OutputFault kernel.failed (program a) bound (choices a) before after shown)
 TimeMeans there asks steps program choices bound out name s before after shown kernel =
     Does steps (λ a. Times (program a) bound (choices a) out name) s before after shown kernel
 

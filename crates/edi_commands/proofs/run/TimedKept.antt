@@ -13,7 +13,7 @@ use Rattle.edi_runs.specs.explore.Keeping.{KeepsInTurn, is_kept}
 use Rattle.edi_system.proofs.Chained.{told_then}
 use Rattle.edi_timeline.specs.Timelines.{Told}
 use Rattle.edi_statuses.specs.Broken.{names_in}
-use Rattle.edi_statuses.specs.Outside.{Kept, without_names}
+use Rattle.edi_statuses.specs.Outside.{Kept, with_kept, without_names}
 use Rattle.edi_statuses.specs.Timelines.{timed_files, timeline_names}
 use Rattle.edi_statuses.proofs.Told.{told_so}
 use Rattle.edi_commands.proofs.run.Demonstrated.{kept_and_gone}
@@ -86,6 +86,13 @@ lost_among (one ∷ more) names old new are (inl h) =
     ∙ gone_among one.0 names old (map.insert old one.0 one.1) are.0 (kept_and_gone old one.0 one.1)
 lost_among (one ∷ more) names old new are (inr h) = gone_among one.0 names old new are.0 h.1
 
+kept_among : (all : List Kept) (names : List (List ℕ)) (old : Contents) → AllAmong all names
+    → without_names names (with_kept all old) ≡ without_names names old
+kept_among [] names old are = refl
+kept_among (one ∷ more) names old are =
+    kept_among more names (map.insert old one.0 one.1) are.1
+    ∙ gone_among one.0 names old (map.insert old one.0 one.1) are.0 (kept_and_gone old one.0 one.1)
+
 -- ---- the files of a timeline
 
 module _ (choices : Choices) (drawn : ℕ) (out : List ℕ) (told : Told) where
@@ -99,6 +106,14 @@ module _ (choices : Choices) (drawn : ℕ) (out : List ℕ) (told : Told) where
   lost_timed name old new h =
       told_so (KeepsInTurn keep.Failed (timed_files name choices drawn out told)) _ old new
       (λ a b k. lost_among (timed_files name choices drawn out told) (timeline_names out ++ names_in name) a b (timed_among name) k) h
+
+  pub kept_timed : (name : Option (List ℕ)) (old new : Option Contents)
+      → WhereTold old new (λ a b. b ≡ with_kept (timed_files name choices drawn out told) a)
+      → WhereTold old new (λ a b. without_names (timeline_names out ++ names_in name) b ≡ without_names (timeline_names out ++ names_in name) a)
+  kept_timed name old new h =
+      let names : List (List ℕ) = timeline_names out ++ names_in name in
+      let all : List Kept = timed_files name choices drawn out told in
+      told_so (λ a b. b ≡ with_kept all a) _ old new (λ a b k. ap (without_names names) k ∙ kept_among all names a (timed_among name)) h
 
   pub some_timed : (name : Option (List ℕ)) → 0 < length (timed_files name choices drawn out told)
   some_timed None = omega arith

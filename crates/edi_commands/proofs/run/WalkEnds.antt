@@ -30,7 +30,7 @@ use Rattle.edi_statuses.specs.declared.status.Status.{Status}
 use Rattle.edi_statuses.specs.declared.status.Status.TheVariants as status
 use Rattle.edi_statuses.specs.Counts.{Counts, HasCause}
 use Rattle.edi_statuses.specs.EachObject.{MayBeImage}
-use Rattle.edi_statuses.specs.Outside.{Outside, DevicesAreAt, KernelLeft, Lent, idle, seen, system_on}
+use Rattle.edi_statuses.specs.Outside.{Outside, DevicesAreAt, KernelLeft, Lent, blaming, idle, seen, system_on}
 use Rattle.edi_statuses.specs.Steps.{goes, Mounts}
 use Rattle.edi_statuses.specs.Executions.{FailedAt, StandsAt, object_status, status_of}
 use Rattle.edi_statuses.specs.Walked.{BrokeWalk, FailedWalk, HasWalked, Walks}
@@ -121,14 +121,16 @@ module _ (unit : ProgramUnit) (bytes : List ℕ) (is : IsUnit bytes unit) (bound
     count = h.blocks ∙ blocks;
   }
 
-  fails_at : (failed : failing.Outside) (x y : Contents) → mount_fault_of y.disk ≡ None → y.shown ≡ x.shown ++ shown → BrokeAtCall failed unit bound old x y
-      → FailedAt (object_status failed) (IsCallOfWalk bytes (system_on (devices x)) bound old.source) (devices x) (devices y) shown
-  fails_at failed x y valid shows h =
+  fails_at : (failed : failing.Outside) (blamed : Option failing.Outside) → blamed ≡ Some failed → (x y : Contents) → mount_fault_of y.disk ≡ None
+      → y.shown ≡ x.shown ++ shown → BrokeAtCall failed unit bound old x y
+      → FailedAt (object_status failed) blamed (IsCallOfWalk bytes (system_on (devices x)) bound old.source) (devices x) (devices y) shown
+  fails_at failed blamed named x y valid shows h =
       let among = followed_among (execute.system_on x) h.last.past h.one h.next h.followed in
       let same : (s : State) → Contains (moments_of (execute.system_on x) h.last.past) s → s.blocks ≡ (execute.system_on x).blocks =
       walk_moment_blocks unit (execute.system_on x) bound old.source old.drawn h.ending h.last h.turns h.drawn h.order h.is in
       record {
         failed = failed;
+        blamed_is = named;
         status_is = refl;
         before = h.one;
         next = h.next;
@@ -197,22 +199,23 @@ unmounted_walked failed whole broken comes comes' before after shown kernel (mou
 unmounted_walked failed whole broken comes comes' before after shown kernel (mount.Page slot block) h = h
 unmounted_walked failed whole broken comes comes' before after shown kernel (mount.Shared block) h = h
 
-module _ (unit : ProgramUnit) (bound : ℕ) (before after : Outside) (kernel : KernelLeft) where
+module _ (unit : ProgramUnit) (bound : ℕ) (before after : Outside) (kernel : KernelLeft)
+    (blamed : Option failing.Outside) where
   pub not_mounted : (choices : Choices) (s : Status) (due : Bool) (why : MountFault) → s ≡ mount_status why → due ≡ false
-      → IsUnmounted before after (idle kernel) why → RanWalk unit bound choices s due before after (idle kernel)
+      → IsUnmounted before after (blaming blamed (idle kernel)) why → RanWalk unit bound choices s due before after (blaming blamed (idle kernel))
   not_mounted choices s due why is silent h = record {
     shown = [];
     ran = λ bytes whose.
         let x : Outside = seen before after in
-        let broken : Type 0 = BrokeWalk bytes bound choices x after [] (idle kernel) in
-        let failed : Type 0 = FailedWalk (mount_status why) bytes bound choices x after [] (idle kernel) in
-        let comes : Status → Type 0 = λ end. Walks bytes bound choices end x after [] (idle kernel) in
-        subst (λ t. TextWalked bytes bound choices t x after [] (idle kernel)) (sym is)
-        (unmounted_walked failed failed broken comes comes x after [] (idle kernel) why
-        (unmounted_by before after (idle kernel) why h None failed failed comes));
+        let broken : Type 0 = BrokeWalk bytes bound choices x after [] (blaming blamed (idle kernel)) in
+        let failed : Type 0 = FailedWalk (mount_status why) bytes bound choices x after [] (blaming blamed (idle kernel)) in
+        let comes : Status → Type 0 = λ end. Walks bytes bound choices end x after [] (blaming blamed (idle kernel)) in
+        subst (λ t. TextWalked bytes bound choices t x after [] (blaming blamed (idle kernel))) (sym is)
+        (unmounted_walked failed failed broken comes comes x after [] (blaming blamed (idle kernel)) why
+        (unmounted_by before after (blaming blamed (idle kernel)) why h None failed failed comes));
     shows = shows_nothing before.shown after.shown h.shown;
     due_is = silent;
-    each = unmounted_each before after (idle kernel) why h;
+    each = unmounted_each before after (blaming blamed (idle kernel)) why h;
   }
 
   -- ---- it was mounted
@@ -221,8 +224,8 @@ module _ (unit : ProgramUnit) (bound : ℕ) (before after : Outside) (kernel : K
     abbrev shown_now : List ℕ
     shown_now = shown_in due before after
 
-    ran_so : (s : Status) → ((bytes : List ℕ) → IsUnit bytes unit → TextWalked bytes bound old.source s (seen before after) after shown_now (idle kernel))
-        → RanWalk unit bound old.source s due before after (idle kernel)
+    ran_so : (s : Status) → ((bytes : List ℕ) → IsUnit bytes unit → TextWalked bytes bound old.source s (seen before after) after shown_now (blaming blamed (idle kernel)))
+        → RanWalk unit bound old.source s due before after (blaming blamed (idle kernel))
     ran_so s so = record {
       shown = shown_now;
       ran = so;
@@ -232,7 +235,7 @@ module _ (unit : ProgramUnit) (bound : ℕ) (before after : Outside) (kernel : K
     }
 
     broke : WhereTold (told_by before) (told_by after) (StandsInWalk unit bound old) → (bytes : List ℕ) → IsUnit bytes unit
-        → BrokeWalk bytes bound old.source (seen before after) after shown_now (idle kernel)
+        → BrokeWalk bytes bound old.source (seen before after) after shown_now (blaming blamed (idle kernel))
     broke told bytes is = record {
       at = devices_told before after shown_now (StandsInWalk unit bound old)
           (λ d e. StandsAt (IsMomentOfWalk bytes (system_on d) bound old.source) d e shown_now) left.told.valid (left_shows due before after left)
@@ -241,19 +244,19 @@ module _ (unit : ProgramUnit) (bound : ℕ) (before after : Outside) (kernel : K
       kernel_same = refl;
     }
 
-    failed_at : (failed : failing.Outside) → WhereTold (told_by before) (told_by after) (BrokeAtCall failed unit bound old) → (bytes : List ℕ) → IsUnit bytes unit
-        → FailedWalk (object_status failed) bytes bound old.source (seen before after) after shown_now (idle kernel)
-    failed_at failed told bytes is = record {
+    failed_at : (failed : failing.Outside) → blamed ≡ Some failed → WhereTold (told_by before) (told_by after) (BrokeAtCall failed unit bound old) → (bytes : List ℕ) → IsUnit bytes unit
+        → FailedWalk (object_status failed) bytes bound old.source (seen before after) after shown_now (blaming blamed (idle kernel))
+    failed_at failed named told bytes is = record {
       at = devices_told before after shown_now (BrokeAtCall failed unit bound old)
-          (λ d e. FailedAt (object_status failed) (IsCallOfWalk bytes (system_on d) bound old.source) d e shown_now) left.told.valid
-          (left_shows due before after left) (fails_at unit bytes is bound old none shown_now failed) told;
+          (λ d e. FailedAt (object_status failed) blamed (IsCallOfWalk bytes (system_on d) bound old.source) d e shown_now) left.told.valid
+          (left_shows due before after left) (fails_at unit bytes is bound old none shown_now failed blamed named) told;
       files = same_told before.files after.files files;
       kernel_same = refl;
     }
 
     failed_by : (failed : failing.Outside) (bytes : List ℕ)
-        → FailedWalk (object_status failed) bytes bound old.source (seen before after) after shown_now (idle kernel)
-        → TextWalked bytes bound old.source (object_status failed) (seen before after) after shown_now (idle kernel)
+        → FailedWalk (object_status failed) bytes bound old.source (seen before after) after shown_now (blaming blamed (idle kernel))
+        → TextWalked bytes bound old.source (object_status failed) (seen before after) after shown_now (blaming blamed (idle kernel))
     failed_by object.Drive bytes h = inr (mounts due before after left, h)
     failed_by object.Input bytes h = (mounts due before after left, h)
     failed_by object.Terminal bytes h = (mounts due before after left, h)
@@ -266,24 +269,25 @@ module _ (unit : ProgramUnit) (bound : ℕ) (before after : Outside) (kernel : K
         (λ x y h. stands_in_walk unit bound old e new x y off h) told
 
     -- an object has failed
-    pub failed_so : (s : Status) (failed : failing.Outside) (which : Option failing.Outside) → s ≡ object_status failed → which ≡ Some failed
-        → WhereTold (told_by before) (told_by after) (BrokeAtCallOf which unit bound old) → RanWalk unit bound old.source s due before after (idle kernel)
-    failed_so s failed which is there told =
+    pub failed_so : (s : Status) (failed : failing.Outside) (which : Option failing.Outside) → blamed ≡ Some failed
+        → s ≡ object_status failed → which ≡ Some failed
+        → WhereTold (told_by before) (told_by after) (BrokeAtCallOf which unit bound old) → RanWalk unit bound old.source s due before after (blaming blamed (idle kernel))
+    failed_so s failed which named is there told =
         let broke_there : WhereTold (told_by before) (told_by after) (BrokeAtCall failed unit bound old) =
         subst (λ w. WhereTold (told_by before) (told_by after) (BrokeAtCallOf w unit bound old)) there told in
-        ran_so s (λ bytes whose. subst (λ t. TextWalked bytes bound old.source t (seen before after) after shown_now (idle kernel)) (sym is)
-        (failed_by failed bytes (failed_at failed broke_there bytes whose)))
+        ran_so s (λ bytes whose. subst (λ t. TextWalked bytes bound old.source t (seen before after) after shown_now (blaming blamed (idle kernel))) (sym is)
+        (failed_by failed bytes (failed_at failed named broke_there bytes whose)))
 
     -- memory ran out
     wants_so : (s : Status) → s ≡ status.NoMemory → WhereTold (told_by before) (told_by after) (StandsInWalk unit bound old)
-        → RanWalk unit bound old.source s due before after (idle kernel)
+        → RanWalk unit bound old.source s due before after (blaming blamed (idle kernel))
     wants_so s is told =
-        ran_so s (λ bytes whose. subst (λ t. TextWalked bytes bound old.source t (seen before after) after shown_now (idle kernel)) (sym is)
+        ran_so s (λ bytes whose. subst (λ t. TextWalked bytes bound old.source t (seen before after) after shown_now (blaming blamed (idle kernel))) (sym is)
         (inr (mounts due before after left, broke told bytes whose)))
 
     -- it has come to its end
-    ended_by : (bytes : List ℕ) (e : Ending) → Walks bytes bound old.source (status_of e) (seen before after) after shown_now (idle kernel)
-        → TextWalked bytes bound old.source (status_of e) (seen before after) after shown_now (idle kernel)
+    ended_by : (bytes : List ℕ) (e : Ending) → Walks bytes bound old.source (status_of e) (seen before after) after shown_now (blaming blamed (idle kernel))
+        → TextWalked bytes bound old.source (status_of e) (seen before after) after shown_now (blaming blamed (idle kernel))
     ended_by bytes outcome.done h = (mounts due before after left, h)
     ended_by bytes (outcome.halted line) h = (mounts due before after left, h)
     ended_by bytes (outcome.failed why line) h = (mounts due before after left, h)
@@ -293,7 +297,7 @@ module _ (unit : ProgramUnit) (bound : ℕ) (before after : Outside) (kernel : K
 
     module _ (new : Drawn) where
       walks : (e : WalkEnd) → IsOver e → WhereTold (told_by before) (told_by after) (leaves.HasWalked unit bound old e new) → (bytes : List ℕ)
-          → IsUnit bytes unit → Walks bytes bound old.source (status_of (ending_of e)) (seen before after) after shown_now (idle kernel)
+          → IsUnit bytes unit → Walks bytes bound old.source (status_of (ending_of e)) (seen before after) after shown_now (blaming blamed (idle kernel))
       walks e over told bytes is = record {
         ending = ending_of e;
         ends = ends_so e;
@@ -306,14 +310,14 @@ module _ (unit : ProgramUnit) (bound : ℕ) (before after : Outside) (kernel : K
       }
 
       over_so : (e : WalkEnd) (s : Status) → IsOver e → Some s ≡ end_status e
-          → WhereTold (told_by before) (told_by after) (leaves.HasWalked unit bound old e new) → RanWalk unit bound old.source s due before after (idle kernel)
+          → WhereTold (told_by before) (told_by after) (leaves.HasWalked unit bound old e new) → RanWalk unit bound old.source s due before after (blaming blamed (idle kernel))
       over_so e s over is told =
-          ran_so s (λ bytes whose. subst (λ t. TextWalked bytes bound old.source t (seen before after) after shown_now (idle kernel))
+          ran_so s (λ bytes whose. subst (λ t. TextWalked bytes bound old.source t (seen before after) after shown_now (blaming blamed (idle kernel)))
           (sym (status_is e s over is)) (ended_by bytes (ending_of e) (walks e over told bytes whose)))
 
       pub walked_so : (e : WalkEnd) (s : Status) → (e ≡ end.Fault → ⊥) → Some s ≡ end_status e
           → WhereTold (told_by before) (told_by after) (leaves.HasWalked unit bound old e new)
-          → RanWalk unit bound old.source s due before after (idle kernel)
+          → RanWalk unit bound old.source s due before after (blaming blamed (idle kernel))
       walked_so end.NoMemory s unfailed is told = wants_so s (ap (λ x. unwrap_or x s) is) (stood end.NoMemory new (inr refl) told)
       walked_so end.Fault s unfailed is told = absurd (unfailed refl)
       walked_so end.Done s unfailed is told = over_so end.Done s ((λ e. cc), (λ e. cc)) is told

@@ -4,6 +4,7 @@ use Rattle.std.specs.Prelude.{⊤}
 use Rattle.std.specs.FinMap as map
 use Rattle.edi_told.specs.Told.{WhereTold}
 use Rattle.edi_host.specs.Contents.{Contents}
+use Rattle.edi_calls.specs.declared.ends.Outside as failing
 use Rattle.edi_calls.specs.Choice.{Choices}
 use Rattle.edi_lex.specs.Limit as texts
 use Rattle.edi_texts.specs.Texts.{IsRefused, IsUnit}
@@ -14,7 +15,7 @@ use Rattle.edi_words.specs.Words as words
 use Rattle.edi_words.specs.Words.{ChoicesFrom}
 use Rattle.edi_statuses.specs.declared.status.Status.{Status}
 use Rattle.edi_statuses.specs.declared.status.Status.TheVariants as status
-use Rattle.edi_statuses.specs.Outside.{Outside, IsSomeFile, seen, still_told, KernelLeft, idle}
+use Rattle.edi_statuses.specs.Outside.{Outside, IsSomeFile, seen, still_told, KernelLeft, blaming, idle}
 use Rattle.edi_statuses.specs.Counts.{Counts, HasCause}
 use Rattle.edi_statuses.specs.EachObject.{FitsCount}
 use Rattle.edi_statuses.specs.Steps.{AfterStep, goes, stops, Fetches, ReadsChoices, Mounts}
@@ -45,7 +46,8 @@ itself_told : (o : Option Contents) → WhereTold o o (λ a b. ⊤)
 itself_told None = tt
 itself_told (Some a) = tt
 
-module _ (file name : List ℕ) (turns : ℕ) (before : Outside) (kernel : KernelLeft) where
+module _ (file name : List ℕ) (turns : ℕ) (before : Outside) (kernel : KernelLeft)
+    (blamed : Option failing.Outside) where
   abbrev command : words.Command
   command = words.walk file name turns
 
@@ -66,28 +68,28 @@ module _ (file name : List ℕ) (turns : ℕ) (before : Outside) (kernel : Kerne
     now = with_files before new
 
     abbrev MeansNow : Status → Type 0
-    MeansNow s = MeansOf s command (seen before now) now [] (idle kernel)
+    MeansNow s = MeansOf s command (seen before now) now [] (blaming blamed (idle kernel))
 
     refused : (s : Status) → IsRefusal s → Steps (seen before now) (stops s) → MeansNow s
-    refused status.Absent early h = inl (h, nothing before new (idle kernel) refl same)
-    refused (status.BadChoices n) early h = inl (h, nothing before new (idle kernel) refl same)
-    refused (status.Refused kind line) early h = inl (h, nothing before new (idle kernel) refl same)
-    refused (status.BadCode broken) early h = inl (h, nothing before new (idle kernel) refl same)
+    refused status.Absent early h = inl (h, nothing before new (blaming blamed (idle kernel)) refl same)
+    refused (status.BadChoices n) early h = inl (h, nothing before new (blaming blamed (idle kernel)) refl same)
+    refused (status.Refused kind line) early h = inl (h, nothing before new (blaming blamed (idle kernel)) refl same)
+    refused (status.BadCode broken) early h = inl (h, nothing before new (blaming blamed (idle kernel)) refl same)
     refused _ early h = absurd early
 
     stopped_means : (s : Status) → Stopped (seen before now) s → MeansNow s
-    stopped_means s (inl none) = subst MeansNow (sym none) (inl (nothing before new (idle kernel) refl same))
+    stopped_means s (inl none) = subst MeansNow (sym none) (inl (nothing before new (blaming blamed (idle kernel)) refl same))
     stopped_means s (inr (inl failed)) =
         subst MeansNow (sym failed.0)
-        (record { uses = refl; far = inl (still (λ a b. b ≡ a) before.files new same, failed.1, not_begun before new (idle kernel) refl) })
+        (record { uses = refl; far = inl (still (λ a b. b ≡ a) before.files new same, failed.1, not_begun before new (blaming blamed (idle kernel)) refl) })
     stopped_means s (inr (inr stopped)) = refused s stopped.0 stopped.1
 
     pub came_early : (s t : Status) (due : Bool) → t ≡ s → due ≡ false → Stopped (seen before now) s
-        → Came t due (Some command) before now (idle kernel)
+        → Came t due (Some command) before now (blaming blamed (idle kernel))
     came_early s t due is silent h =
-        subst (λ d. Came t d (Some command) before now (idle kernel)) (sym silent)
-        (subst (λ x. Came x false (Some command) before now (idle kernel)) (sym is)
-        (came_of command s false before now (idle kernel) [] (stopped_means s h) (shows_nothing before.shown before.shown refl) refl
+        subst (λ d. Came t d (Some command) before now (blaming blamed (idle kernel))) (sym silent)
+        (subst (λ x. Came x false (Some command) before now (blaming blamed (idle kernel))) (sym is)
+        (came_of command s false before now (blaming blamed (idle kernel)) [] (stopped_means s h) (shows_nothing before.shown before.shown refl) refl
         (each_same _ before now refl refl refl)))
 
   -- ---- the files, one call after another
@@ -167,8 +169,8 @@ module _ (file name : List ℕ) (turns : ℕ) (before : Outside) (kernel : Kerne
           unmounted : (s : Status) → Mounts x (stops s) → Steps x (stops s)
           unmounted s m = inr (all, text_last, inr (choices, choices_last, inr (unit_of unit, is_unit, inl m)))
 
-          walk_means : (s : Status) (shown : List ℕ) → TextWalked all turns choices s x after shown (idle kernel)
-              → MeansOf s command x after shown (idle kernel)
+          walk_means : (s : Status) (shown : List ℕ) → TextWalked all turns choices s x after shown (blaming blamed (idle kernel))
+              → MeansOf s command x after shown (blaming blamed (idle kernel))
           walk_means status.Words shown h = never_words h.1.ending h.1.status_is
           walk_means status.NoMemory shown (inl h) = inl h
           walk_means status.NoMemory shown (inr h) = inr ((all, choices), went h.0, h.1)
@@ -180,12 +182,12 @@ module _ (file name : List ℕ) (turns : ℕ) (before : Outside) (kernel : Kerne
           walk_means (status.BadImage broken) shown h = inl (unmounted (status.BadImage broken) h.0, h.1)
           walk_means s shown h = inr ((all, choices), went h.0, h.1)
 
-          pub walk_came : (s : Status) (due : Bool) → RanWalk (unit_of unit) turns choices s due (with_files before new) after (idle kernel)
-              → Came s due (Some command) before after (idle kernel)
+          pub walk_came : (s : Status) (due : Bool) → RanWalk (unit_of unit) turns choices s due (with_files before new) after (blaming blamed (idle kernel))
+              → Came s due (Some command) before after (blaming blamed (idle kernel))
           walk_came s due r =
-              came_of command s due before after (idle kernel) r.shown
+              came_of command s due before after (blaming blamed (idle kernel)) r.shown
               (walk_means s r.shown
-              (subst (λ found. TextWalked all turns choices s (record x { files = found }) after r.shown (idle kernel)) files_same (r.ran all is_unit))) r.shows
+              (subst (λ found. TextWalked all turns choices s (record x { files = found }) after r.shown (blaming blamed (idle kernel))) files_same (r.ran all is_unit))) r.shows
               r.due_is (record { drive = λ stays. r.each.drive refl; input = r.each.input; printer = r.each.printer })
             where
               files_same : still_told new after.files ≡ still_told before.files after.files

@@ -77,7 +77,7 @@ module _ (w : Watchable) (points : List Watched) (bound : ℕ) (out : List ℕ) 
     shown = [];
     ran = λ bytes whose.
         let x : Outside = seen before after in
-        let broken : Type 0 = BrokeRun (mount_status why) (text bytes) bound choices x after [] in
+        let broken : Type 0 = BrokeRun (mount_status why) kernel.failed (text bytes) bound choices x after [] in
         let whole_ : Type 0 = RanWhole (text bytes) bound choices x after [] kernel in
         let comes : Status → Type 0 = λ end. Runs (text bytes) bound choices None end x after [] kernel in
         let comes' : Status → Type 0 = λ end. Watches bytes points bound choices out name end x after [] kernel in
@@ -95,21 +95,21 @@ module _ (w : Watchable) (points : List Watched) (bound : ℕ) (out : List ℕ) 
     shown_now = shown_in due before after
 
     broke_watched : (bytes : List ℕ) (failed : failing.Outside) (kernel : Lent) → SameFiles (seen before after) after
-        → BrokeRun (object_status failed) (text bytes) bound old.source (seen before after) after shown_now
+        → BrokeRun (object_status failed) kernel.failed (text bytes) bound old.source (seen before after) after shown_now
         → TextWatched bytes points bound old.source out name (object_status failed) (seen before after) after shown_now kernel
     broke_watched bytes object.Drive kernel files broke = (files, inr (mounts due before after left, broke))
     broke_watched bytes object.Input kernel files broke = (files, mounts due before after left, broke)
     broke_watched bytes object.Terminal kernel files broke = (files, mounts due before after left, broke)
     broke_watched bytes object.Printer kernel files broke = (files, mounts due before after left, broke)
 
-    pub failed_so : (s : Status) (failed : failing.Outside) (kernel : Lent) → s ≡ object_status failed → after.files ≡ before.files
-        → ((v : IsWhole w) → WhereTold (told_by before) (told_by after) (StandsAtCall (parts_of v.unit) bound old failed))
+    pub failed_so : (s : Status) (failed : failing.Outside) (kernel : Lent) → kernel.failed ≡ Some failed → s ≡ object_status failed
+        → after.files ≡ before.files → ((v : IsWhole w) → WhereTold (told_by before) (told_by after) (StandsAtCall (parts_of v.unit) bound old failed))
         → RanWatched w points bound old.source out name s due before after kernel
-    failed_so s failed kernel is files at = record {
+    failed_so s failed kernel named is files at = record {
       shown = shown_now;
       ran = λ bytes whose. subst (λ t. TextWatched bytes points bound old.source out name t (seen before after) after shown_now kernel) (sym is)
           (broke_watched bytes failed kernel (same_told before.files after.files files)
-          (broke_run (parts_of whose.whole.unit) bound old none due before after left failed (at whose.whole) (text bytes) (has_code bytes w whose)));
+          (broke_run (parts_of whose.whole.unit) bound old none due before after left failed kernel.failed named (at whose.whole) (text bytes) (has_code bytes w whose)));
       shows = left_shows due before after left;
       due_is = left_due due before after left;
       each = left_each due before after left;

@@ -41,7 +41,7 @@ ending_status ending.Fault = None
 abbrev pub CodeRan : Runnable → (bound : ℕ) → Choices → (record_file : Option (List ℕ)) → Status → Outside → Outside → (shown : List ℕ)
     → Lent → Type 0
 CodeRan program bound choices name s before after shown kernel =
-    OnMounted name (BrokeRun s program bound choices before after shown) (RanWhole program bound choices before after shown kernel)
+    OnMounted name (BrokeRun s kernel.failed program bound choices before after shown) (RanWhole program bound choices before after shown kernel)
     (λ end. Runs program bound choices name end before after shown kernel) s before after shown kernel
 
 -- So it is of every program that this code was made of; a line feed is due before the line of the status, or not. What

@@ -1,6 +1,6 @@
--- Words of contracts. What is left where a code is run on a drive that is mounted for it, and the record of its choices and its timeline are kept; and
--- the steps of the command that does so.
-use Rattle.std.specs.Prelude.{◌≡◌, ◌⊎◌, ℕ, Bool, List, ◌++◌, Option, None, Result, Ok, Err}
+-- Words of contracts. What is left where a code is run on a drive that is mounted for it, and the record of its choices and its timeline are kept, or the
+-- record alone; and the steps of the command that keeps a timeline.
+use Rattle.std.specs.Prelude.{◌≡◌, ◌⊎◌, ℕ, Bool, List, ◌++◌, Option, Some, None, Result, Ok, Err}
 use Rattle.edi_host.specs.declared.files.KeepEnd.{KeepEnd}
 use Rattle.edi_host.specs.declared.files.KeepEnd.TheVariants as keep
 use Rattle.edi_calls.specs.Choice.{Choices}
@@ -24,6 +24,7 @@ use Rattle.edi_statuses.specs.Commands.{IsNothing}
 use Rattle.edi_statuses.specs.Broken.{HasNotBegun, names_in}
 use Rattle.edi_statuses.specs.Timelines.{TimedInPart, TimedLost, Times, timable, timeline_names}
 use Rattle.edi_commands.specs.steps.Loaded.{LoadStep}
+use Rattle.edi_commands.specs.run.CodeRan.{CodeRan}
 use Rattle.edi_commands.specs.declared.run.files.Form.{Form}
 use Rattle.edi_commands.specs.declared.run.files.Form.TheVariants as form
 
@@ -80,15 +81,25 @@ OnTimed out name broken wants lost comes s before after shown kernel = Mounts be
 abbrev pub ProgramTimed : Runnable → (bound : ℕ) → Choices → (out : List ℕ) → (record_file : Option (List ℕ)) → Status → Outside → Outside
     → (shown : List ℕ) → Lent → Type 0
 ProgramTimed program bound choices out name s before after shown kernel =
-    OnTimed out name (BrokeRun s program bound choices before after shown) (TimedInPart program bound choices out name before after shown kernel)
+    OnTimed out name (BrokeRun s kernel.failed program bound choices before after shown) (TimedInPart program bound choices out name before after shown kernel)
     (TimedLost program bound choices out name before after shown kernel) (λ end. Times program bound choices out name end before after shown kernel) s
     before after shown kernel
 
+-- it is run, and its timeline is kept if that has a name
+abbrev pub ProgramRan : (timeline : Option (List ℕ)) → Runnable → (bound : ℕ) → Choices → (record_file : Option (List ℕ)) → Status → Outside → Outside
+    → (shown : List ℕ) → Lent → Type 0
+ProgramRan None program bound choices name = CodeRan program bound choices name
+ProgramRan (Some out) program bound choices name = ProgramTimed program bound choices out name
+
 -- And so of every program that this code is of; a line feed is due before the line of the status, or not.
-pub record RanTimed (parts : CodeParts) (bound : ℕ) (choices : Choices) (out : List ℕ) (name : Option (List ℕ)) (s : Status) (due : Bool)
+pub record RanWith (timeline : Option (List ℕ)) (parts : CodeParts) (bound : ℕ) (choices : Choices) (name : Option (List ℕ)) (s : Status) (due : Bool)
     (before after : Outside) (kernel : Lent) : Type 0 where
   pub shown : List ℕ
-  pub ran : (program : Runnable) → IsOf (timable program) parts → ProgramTimed program bound choices out name s (seen before after) after shown kernel
+  pub ran : (program : Runnable) → IsOf (timable program) parts → ProgramRan timeline program bound choices name s (seen before after) after shown kernel
   pub shows : Shows before after shown
   pub due_is : due ≡ is_due shown
   pub each : LeavesEach None before after
+
+abbrev pub RanTimed : CodeParts → (bound : ℕ) → Choices → (out : List ℕ) → (record_file : Option (List ℕ)) → Status → (due : Bool) → Outside → Outside
+    → Lent → Type 0
+RanTimed parts bound choices out = RanWith (Some out) parts bound choices

@@ -57,7 +57,7 @@ OnWatched out name broken whole logged lost comes s before after shown kernel = 
 abbrev pub TextWatched : (bytes : List ℕ) → List Watched → (bound : ℕ) → Choices → (out : List ℕ) → (record_file : Option (List ℕ)) → Status
     → Outside → Outside → (shown : List ℕ) → Lent → Type 0
 TextWatched bytes points bound choices out name s before after shown kernel =
-    OnWatched out name (BrokeRun s (text bytes) bound choices before after shown) (RanWhole (text bytes) bound choices before after shown kernel)
+    OnWatched out name (BrokeRun s kernel.failed (text bytes) bound choices before after shown) (RanWhole (text bytes) bound choices before after shown kernel)
     (KeepsLog bytes points bound choices out name before after) (LosesRecord bytes points bound choices out name before after)
     (λ end. Watches bytes points bound choices out name end before after shown kernel) s before after shown kernel
 

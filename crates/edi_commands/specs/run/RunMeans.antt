@@ -24,11 +24,11 @@ RunMeans there asks steps program choices bound name status.FileFault before aft
     ⊎ (SameBut (names_in name) before after × AtRecord name steps (λ a. RanWhole (program a) bound (choices a) before after shown kernel))
 RunMeans there asks steps program choices bound name status.DriveFault before after shown kernel =
     SameFiles before after
-    × ((asks × HasNotBegun before after shown kernel) ⊎ HasBegun steps (λ a. BrokeRun status.DriveFault (program a) bound (choices a) before after shown))
+    × ((asks × HasNotBegun before after shown kernel) ⊎ HasBegun steps (λ a. BrokeRun status.DriveFault kernel.failed (program a) bound (choices a) before after shown))
 RunMeans there asks steps program choices bound name status.InputFault before after shown kernel =
-    SameFiles before after × HasBegun steps (λ a. BrokeRun status.InputFault (program a) bound (choices a) before after shown)
+    SameFiles before after × HasBegun steps (λ a. BrokeRun status.InputFault kernel.failed (program a) bound (choices a) before after shown)
 RunMeans there asks steps program choices bound name status.OutputFault before after shown kernel =
-    SameFiles before after × HasBegun steps (λ a. BrokeRun status.OutputFault (program a) bound (choices a) before after shown)
+    SameFiles before after × HasBegun steps (λ a. BrokeRun status.OutputFault kernel.failed (program a) bound (choices a) before after shown)
 RunMeans there asks steps program choices bound name s before after shown kernel =
     Does steps (λ a. Runs (program a) bound (choices a) name) s before after shown kernel
 

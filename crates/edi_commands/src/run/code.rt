@@ -6,6 +6,7 @@ ghost use Rattle.edi_statuses.specs.Outside.{lent, outside_of};
 ghost use Rattle.edi_statuses.specs.Counts.{counts_of, HasCause, NoneFalls};
 ghost use Rattle.edi_statuses.specs.EachObject.{RunStays, handed, is_at_drive};
 ghost use Rattle.edi_statuses.specs.Executions.{object_status};
+ghost use Rattle.edi_commands.specs.run.Blaming.{Blaming};
 ghost use Rattle.edi_commands.specs.run.CodeRan.{ending_status, RanCode};
 ghost use Rattle.edi_commands.specs.run.OnMounted.{DriveAsked};
 
@@ -62,9 +63,11 @@ pub(crate) fn run_code<F: Files, D: Drive, S: Source, T: Sink, P: Sink>(
     kernel: &mut Kernel,
 ) -> Ended
     requires none_drawn { choices.old.drawn ≡ 0 }
-    ensures ran { RanCode code.now turns choices.old.source (option_map (λ name. name.now) record_file.entry) result.status result.due
+    // An object that has failed in the run is blamed.
+    ensures ran { Blaming result.status (T.faults terminal.old) (T.faults terminal.new) (P.faults printer.old) (P.faults printer.new)
+        (RanCode code.now turns choices.old.source (option_map (λ name. name.now) record_file.entry) result.status result.due
         (outside_of F.contents D.contents S.left T.taken P.taken files.old drive.old input.old terminal.old printer.old)
-        (outside_of F.contents D.contents S.left T.taken P.taken files.new drive.new input.new terminal.new printer.new)
+        (outside_of F.contents D.contents S.left T.taken P.taken files.new drive.new input.new terminal.new printer.new))
         (lent kernel.old.store kernel.old.used kernel.new.store kernel.new.used) }
     ensures tells { WhereTold (F.contents files.old) (F.contents files.new) (λ old new. ⊤) }
     ensures cause { HasCause result.status

@@ -1,24 +1,22 @@
-//! `demo N`: the program of the demonstration.
+//! `demo N`: the program of the demonstration, with a timeline or without one.
 
 ghost use Rattle.std.specs.Prelude.{◌≡◌, ◌≤◌, ◌++◌, IfOk, ⊤, None, false, true, option_map};
 ghost use Rattle.edi_told.specs.Faults.{CountRose};
 ghost use Rattle.edi_told.specs.Told.{WhereTold};
 ghost use Rattle.edi_lex.specs.Symbols.{symbols_of};
 ghost use Rattle.edi_utils.specs.Demo.{demo_line};
-ghost use Rattle.edi_words.specs.Words.{demo as demo_words};
 ghost use Rattle.edi_words.specs.View.{options_of};
 ghost use Rattle.edi_statuses.specs.Commands.{count_in};
 ghost use Rattle.edi_statuses.specs.Lines.{feed};
-ghost use Rattle.edi_statuses.specs.EachObject.{is_before_drive, names_file};
+ghost use Rattle.edi_statuses.specs.EachObject.{is_before_drive, uses_files};
 ghost use Rattle.edi_statuses.specs.Outside.{lent};
 ghost use Rattle.edi_statuses.specs.Showing.{ShowsBytes};
-ghost use Rattle.edi_commands.specs.run.Demonstrated.{CameAlone, DemoStep, HasCauseAlone, RanAlone, is_ok};
+ghost use Rattle.edi_commands.specs.run.Blaming.{Blaming};
+ghost use Rattle.edi_commands.specs.run.Demonstrated.{CameAlone, DemoStep, HasCauseAlone, RanAlone, demo_with, is_ok};
 
-use crate::run::code::run_code;
-use crate::run::files::refusal_status;
+use crate::run::timing::{run_with, timed_text};
 use crate::steps::{read_from, stopped};
 use arrayvec::ArrayString;
-use edi_compile::compile;
 use edi_host::{Files, Sink, SteadyDrive, SteadySource};
 use edi_kernel::Kernel;
 use edi_lex::{LexFault, scan};
@@ -58,18 +56,19 @@ fn demo_code(alloc: Global, n: u32) -> Result<Demo, Status>
 {
     let text = demo(alloc, n)?;
     let symbols = count_symbols(alloc, &text)?;
-    match compile(alloc, &text) {
+    match timed_text(alloc, &text) {
         Ok(code) => Ok(Demo { code, symbols }),
-        Err(refusal) => Err(refusal_status(refusal)),
+        Err(status) => Err(status),
     }
 }
 
-/// Runs the code without a disk and on an empty input of its own, and keeps the record of the choices that it drew, if there is to
-/// be one.
+/// Runs the code without a disk and on an empty input of its own, and keeps the record of the choices that it drew and its timeline, each if
+/// there is to be one.
 fn run_alone<F: Files, T: Sink, P: Sink>(
     alloc: Global,
     code: &Code,
     turns: u32,
+    timeline: Option<&str>,
     record_file: Option<&str>,
     choices: &mut Choices,
     files: &mut F,
@@ -78,8 +77,10 @@ fn run_alone<F: Files, T: Sink, P: Sink>(
     kernel: &mut Kernel,
 ) -> Ended
     requires none_drawn { choices.old.drawn ≡ 0 }
-    ensures ran { RanAlone code.now turns choices.old.source (option_map (λ name. name.now) record_file.entry) result.status result.due
-        (F.contents files.old) (F.contents files.new) (T.taken terminal.old) (T.taken terminal.new) (P.taken printer.old) (P.taken printer.new)
+    ensures ran { Blaming result.status (T.faults terminal.old) (T.faults terminal.new) (P.faults printer.old) (P.faults printer.new)
+        (RanAlone (option_map (λ name. name.now) timeline.entry) code.now turns choices.old.source
+        (option_map (λ name. name.now) record_file.entry) result.status result.due
+        (F.contents files.old) (F.contents files.new) (T.taken terminal.old) (T.taken terminal.new) (P.taken printer.old) (P.taken printer.new))
         (lent kernel.old.store kernel.old.used kernel.new.store kernel.new.used) }
     ensures tells { WhereTold (F.contents files.old) (F.contents files.new) (λ old new. ⊤) }
     ensures cause { HasCauseAlone result.status (F.faults files.old) (F.faults files.new) (T.faults terminal.old) (T.faults terminal.new)
@@ -87,7 +88,7 @@ fn run_alone<F: Files, T: Sink, P: Sink>(
     ensures later_files { F.faults files.old ≤ F.faults files.new }
     ensures later_terminal { T.faults terminal.old ≤ T.faults terminal.new }
     ensures later_printer { P.faults printer.old ≤ P.faults printer.new }
-    ensures untouched { record_file.entry ≡ None → files.new ≡ files.old }
+    ensures untouched { timeline.entry ≡ None → record_file.entry ≡ None → files.new ≡ files.old }
     ensures asked { is_before_drive result.status ≡ false }
 {
     let Ok(mut disk) = SteadyDrive::new(alloc, &[]) else {
@@ -96,10 +97,11 @@ fn run_alone<F: Files, T: Sink, P: Sink>(
     let Ok(mut input) = SteadySource::new(alloc, &[]) else {
         return stopped(Status::NoMemory);
     };
-    run_code(
+    run_with(
         alloc,
         code,
         turns,
+        timeline,
         record_file,
         choices,
         files,
@@ -151,12 +153,14 @@ fn is_ok(status: Status) -> bool
 }
 
 /// `demo N`: reads the choices, compiles the text of the demonstration with `n` procedures, 1 to 1000, runs it without a disk and on
-/// an empty input, keeps the record, and, where the program has come to its end, shows the line `demo N symbols S turns T`.
+/// an empty input, keeps the record, and, where the program has come to its end, shows the line `demo N symbols S turns T`. With a name for it
+/// the timeline is kept too, after the record and before the line is shown.
 ///
 /// The drive and the input are left alone, whatever they are. All else is as for `run`.
 pub fn demonstrate<F: Files, T: Sink, P: Sink>(
     alloc: Global,
     n: u32,
+    timeline: Option<&str>,
     options: Options<'_>,
     files: &mut F,
     terminal: &mut T,
@@ -165,16 +169,18 @@ pub fn demonstrate<F: Files, T: Sink, P: Sink>(
 ) -> Ended
     requires some { 1 ≤ n }
     requires many { n ≤ 1000 }
-    ensures came { CameAlone (demo_words n (options_of options.entry)) result.status result.due
-        (F.contents files.old) (F.contents files.new) (T.taken terminal.old) (T.taken terminal.new) (P.taken printer.old) (P.taken printer.new)
+    ensures came { Blaming result.status (T.faults terminal.old) (T.faults terminal.new) (P.faults printer.old) (P.faults printer.new)
+        (CameAlone (demo_with n (option_map (λ name. name.now) timeline.entry) (options_of options.entry)) result.status result.due
+        (F.contents files.old) (F.contents files.new) (T.taken terminal.old) (T.taken terminal.new) (P.taken printer.old) (P.taken printer.new))
         (lent kernel.old.store kernel.old.used kernel.new.store kernel.new.used) }
     ensures cause { HasCauseAlone result.status (F.faults files.old) (F.faults files.new) (T.faults terminal.old) (T.faults terminal.new)
         (P.faults printer.old) (P.faults printer.new) }
     ensures later_files { F.faults files.old ≤ F.faults files.new }
     ensures later_terminal { T.faults terminal.old ≤ T.faults terminal.new }
     ensures later_printer { P.faults printer.old ≤ P.faults printer.new }
-    // Where the options name no file, the files are left alone.
-    ensures no_files { names_file (options_of options.entry) ≡ false → files.new ≡ files.old }
+    // Where no file is named, the files are left alone.
+    ensures no_files { uses_files (demo_with n (option_map (λ name. name.now) timeline.entry) (options_of options.entry)) ≡ false
+        → files.new ≡ files.old }
     // Where the command stops before it runs anything, no object but the files is touched.
     ensures early { is_before_drive result.status ≡ true
         → (terminal.new ≡ terminal.old) × (printer.new ≡ printer.old) × (kernel.new ≡ kernel.old) }
@@ -191,6 +197,7 @@ pub fn demonstrate<F: Files, T: Sink, P: Sink>(
         alloc,
         &made.code,
         options.turns,
+        timeline,
         options.record_file,
         &mut choices,
         files,

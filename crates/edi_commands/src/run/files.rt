@@ -6,6 +6,7 @@ ghost use Rattle.edi_statuses.specs.EachObject.{DevicesStay, FitsCount, RunStays
 ghost use Rattle.edi_statuses.specs.Outside.{lent, outside_of};
 ghost use Rattle.edi_statuses.specs.Counts.{counts_of, HasCause, NoneFalls};
 ghost use Rattle.edi_statuses.specs.Decided.{Came};
+ghost use Rattle.edi_commands.specs.run.Blaming.{Blaming};
 ghost use Rattle.edi_commands.specs.run.CodeRan.{refusal_status};
 ghost use Rattle.edi_commands.specs.run.FileSteps.{CodeStep, CompileStep, command_with, limit_of};
 
@@ -87,9 +88,11 @@ pub fn run_file<F: Files, D: Drive, S: Source, T: Sink, P: Sink>(
     printer: &mut P,
     kernel: &mut Kernel,
 ) -> Ended
-    ensures came { Came result.status result.due (Some (command_with form file.now (options_of options.entry)))
+    // An object that has failed in the run is blamed.
+    ensures came { Blaming result.status (T.faults terminal.old) (T.faults terminal.new) (P.faults printer.old) (P.faults printer.new)
+        (Came result.status result.due (Some (command_with form file.now (options_of options.entry)))
         (outside_of F.contents D.contents S.left T.taken P.taken files.old drive.old input.old terminal.old printer.old)
-        (outside_of F.contents D.contents S.left T.taken P.taken files.new drive.new input.new terminal.new printer.new)
+        (outside_of F.contents D.contents S.left T.taken P.taken files.new drive.new input.new terminal.new printer.new))
         (lent kernel.old.store kernel.old.used kernel.new.store kernel.new.used) }
     ensures cause { HasCause result.status
         (counts_of F.faults D.faults S.faults T.faults P.faults files.old drive.old input.old terminal.old printer.old)

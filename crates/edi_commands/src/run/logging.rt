@@ -9,6 +9,7 @@ ghost use Rattle.edi_runs.specs.watch.Watchable.{program_in};
 ghost use Rattle.edi_statuses.specs.Outside.{lent, outside_of, still_told};
 ghost use Rattle.edi_statuses.specs.Counts.{counts_of, HasCause, NoneFalls};
 ghost use Rattle.edi_statuses.specs.EachObject.{RunStays, handed, is_at_drive};
+ghost use Rattle.edi_commands.specs.run.Blaming.{Blaming};
 ghost use Rattle.edi_commands.specs.steps.OnFiles.{OnlyReadsFiles, files_only};
 ghost use Rattle.edi_commands.specs.run.OnMounted.{DriveAsked};
 ghost use Rattle.edi_commands.specs.run.OnWatched.{LogEnd, RanWatched};
@@ -104,10 +105,11 @@ pub(crate) fn watch_program<F: Files, D: Drive, S: Source, T: Sink, P: Sink>(
     requires none_drawn { choices.old.drawn ≡ 0 }
     requires sound { Sound (program_in watched.now) }
     requires points { ArePoints (program_in watched.now) points.now }
-    ensures ran { RanWatched watched.now (watched_in points.now) turns choices.old.source out.now (option_map (λ name. name.now) record_file.entry)
+    ensures ran { Blaming result.status (T.faults terminal.old) (T.faults terminal.new) (P.faults printer.old) (P.faults printer.new)
+        (RanWatched watched.now (watched_in points.now) turns choices.old.source out.now (option_map (λ name. name.now) record_file.entry)
         result.status result.due
         (outside_of F.contents D.contents S.left T.taken P.taken files.old drive.old input.old terminal.old printer.old)
-        (outside_of F.contents D.contents S.left T.taken P.taken files.new drive.new input.new terminal.new printer.new)
+        (outside_of F.contents D.contents S.left T.taken P.taken files.new drive.new input.new terminal.new printer.new))
         (lent kernel.old.store kernel.old.used kernel.new.store kernel.new.used) }
     ensures tells { WhereTold (F.contents files.old) (F.contents files.new) (λ old new. ⊤) }
     ensures cause { HasCause result.status

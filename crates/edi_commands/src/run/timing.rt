@@ -1,16 +1,17 @@
-//! A run with a timeline: `run`, `replay` and `exec` with `--timeline OUT`.
+//! A run with a timeline: `run`, `replay` and `exec` with `--timeline OUT`, and what they have in common with `demo`.
 
-ghost use Rattle.std.specs.Prelude.{◌≡◌, ⊤, Some, true, option_map};
+ghost use Rattle.std.specs.Prelude.{◌≡◌, ⊤, Some, None, true, option_map};
 ghost use Rattle.edi_told.specs.Told.{WhereTold};
 ghost use Rattle.edi_words.specs.View.{options_of};
 ghost use Rattle.edi_statuses.specs.Outside.{lent, outside_of};
 ghost use Rattle.edi_statuses.specs.Counts.{counts_of, HasCause, NoneFalls};
 ghost use Rattle.edi_statuses.specs.Decided.{Came};
 ghost use Rattle.edi_statuses.specs.EachObject.{DevicesStay, FitsCount, RunStays, handed, is_at_drive, is_before_drive};
+ghost use Rattle.edi_commands.specs.run.Blaming.{Blaming};
 ghost use Rattle.edi_commands.specs.run.OnMounted.{DriveAsked};
-ghost use Rattle.edi_commands.specs.run.OnTimed.{RanTimed, ReadsTimed, TimedStep, timed_with};
+ghost use Rattle.edi_commands.specs.run.OnTimed.{RanTimed, RanWith, ReadsTimed, TimedStep, timed_with};
 
-use crate::run::code::{ending_status, object_status};
+use crate::run::code::{ending_status, object_status, run_code};
 use crate::run::files::{Form, limit_of};
 use crate::run::timelines::{keep_timed, timed_status};
 use crate::steps::{fetch, load_code, mount_status, read_from, stopped};
@@ -42,9 +43,10 @@ fn time_code<F: Files, D: Drive, S: Source, T: Sink, P: Sink>(
     kernel: &mut Kernel,
 ) -> Ended
     requires none_drawn { choices.old.drawn ≡ 0 }
-    ensures ran { RanTimed code.now turns choices.old.source out.now (option_map (λ name. name.now) record_file.entry) result.status result.due
+    ensures ran { Blaming result.status (T.faults terminal.old) (T.faults terminal.new) (P.faults printer.old) (P.faults printer.new)
+        (RanTimed code.now turns choices.old.source out.now (option_map (λ name. name.now) record_file.entry) result.status result.due
         (outside_of F.contents D.contents S.left T.taken P.taken files.old drive.old input.old terminal.old printer.old)
-        (outside_of F.contents D.contents S.left T.taken P.taken files.new drive.new input.new terminal.new printer.new)
+        (outside_of F.contents D.contents S.left T.taken P.taken files.new drive.new input.new terminal.new printer.new))
         (lent kernel.old.store kernel.old.used kernel.new.store kernel.new.used) }
     ensures tells { WhereTold (F.contents files.old) (F.contents files.new) (λ old new. ⊤) }
     ensures cause { HasCause result.status
@@ -91,8 +93,75 @@ fn time_code<F: Files, D: Drive, S: Source, T: Sink, P: Sink>(
     }
 }
 
+/// Runs the code as `run_code` does; or as `time_code` does, if there is a name for its timeline.
+pub(crate) fn run_with<F: Files, D: Drive, S: Source, T: Sink, P: Sink>(
+    alloc: Global,
+    code: &Code,
+    turns: u32,
+    timeline: Option<&str>,
+    record_file: Option<&str>,
+    choices: &mut Choices,
+    files: &mut F,
+    drive: &mut D,
+    input: &mut S,
+    terminal: &mut T,
+    printer: &mut P,
+    kernel: &mut Kernel,
+) -> Ended
+    requires none_drawn { choices.old.drawn ≡ 0 }
+    ensures ran { Blaming result.status (T.faults terminal.old) (T.faults terminal.new) (P.faults printer.old) (P.faults printer.new)
+        (RanWith (option_map (λ name. name.now) timeline.entry) code.now turns choices.old.source
+        (option_map (λ name. name.now) record_file.entry) result.status result.due
+        (outside_of F.contents D.contents S.left T.taken P.taken files.old drive.old input.old terminal.old printer.old)
+        (outside_of F.contents D.contents S.left T.taken P.taken files.new drive.new input.new terminal.new printer.new))
+        (lent kernel.old.store kernel.old.used kernel.new.store kernel.new.used) }
+    ensures tells { WhereTold (F.contents files.old) (F.contents files.new) (λ old new. ⊤) }
+    ensures cause { HasCause result.status
+        (counts_of F.faults D.faults S.faults T.faults P.faults files.old drive.old input.old terminal.old printer.old)
+        (counts_of F.faults D.faults S.faults T.faults P.faults files.new drive.new input.new terminal.new printer.new) }
+    ensures later { NoneFalls
+        (counts_of F.faults D.faults S.faults T.faults P.faults files.old drive.old input.old terminal.old printer.old)
+        (counts_of F.faults D.faults S.faults T.faults P.faults files.new drive.new input.new terminal.new printer.new) }
+    ensures untouched { timeline.entry ≡ None → record_file.entry ≡ None → files.new ≡ files.old }
+    ensures size { D.count drive.new ≡ D.count drive.old }
+    ensures asked { DriveAsked result.status (D.count drive.old) }
+    ensures unmounted { is_at_drive result.status ≡ true
+        → RunStays (handed files.old drive.old input.old terminal.old printer.old kernel.old)
+        (handed files.new drive.new input.new terminal.new printer.new kernel.new) }
+{
+    match timeline {
+        None => run_code(
+            alloc,
+            code,
+            turns,
+            record_file,
+            choices,
+            files,
+            drive,
+            input,
+            terminal,
+            printer,
+            kernel,
+        ),
+        Some(out) => time_code(
+            alloc,
+            code,
+            turns,
+            out,
+            record_file,
+            choices,
+            files,
+            drive,
+            input,
+            terminal,
+            printer,
+            kernel,
+        ),
+    }
+}
+
 /// The code of a text, or why the command stops there.
-fn timed_text(alloc: Global, bytes: &[u8]) -> Result<Code, Status>
+pub(crate) fn timed_text(alloc: Global, bytes: &[u8]) -> Result<Code, Status>
     ensures reads { ReadsTimed bytes.now result }
 {
     let unit = match front(alloc, bytes) {
@@ -131,9 +200,10 @@ pub fn time_file<F: Files, D: Drive, S: Source, T: Sink, P: Sink>(
     printer: &mut P,
     kernel: &mut Kernel,
 ) -> Ended
-    ensures came { Came result.status result.due (Some (timed_with form file.now out.now (options_of options.entry)))
+    ensures came { Blaming result.status (T.faults terminal.old) (T.faults terminal.new) (P.faults printer.old) (P.faults printer.new)
+        (Came result.status result.due (Some (timed_with form file.now out.now (options_of options.entry)))
         (outside_of F.contents D.contents S.left T.taken P.taken files.old drive.old input.old terminal.old printer.old)
-        (outside_of F.contents D.contents S.left T.taken P.taken files.new drive.new input.new terminal.new printer.new)
+        (outside_of F.contents D.contents S.left T.taken P.taken files.new drive.new input.new terminal.new printer.new))
         (lent kernel.old.store kernel.old.used kernel.new.store kernel.new.used) }
     ensures cause { HasCause result.status
         (counts_of F.faults D.faults S.faults T.faults P.faults files.old drive.old input.old terminal.old printer.old)

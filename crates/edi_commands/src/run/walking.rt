@@ -8,6 +8,7 @@ ghost use Rattle.edi_statuses.specs.EachObject.{DevicesStay, FitsCount, handed, 
 ghost use Rattle.edi_statuses.specs.Outside.{KernelLeft, idle, outside_of, outside_with};
 ghost use Rattle.edi_statuses.specs.Counts.{counts_of, counts_with, HasCause, NoneFalls};
 ghost use Rattle.edi_statuses.specs.Decided.{Came};
+ghost use Rattle.edi_commands.specs.run.Blaming.{Blaming};
 ghost use Rattle.edi_commands.specs.run.OnMounted.{DriveAsked};
 ghost use Rattle.edi_commands.specs.run.OnWalked.{end_status, RanWalk, UnitStep};
 
@@ -65,9 +66,11 @@ fn walk_unit<D: Drive, S: Source, T: Sink, P: Sink>(
     printer: &mut P,
 ) -> Ended
     requires none_drawn { choices.old.drawn ≡ 0 }
-    ensures ran { (files : Option Contents) (kernel : KernelLeft) → RanWalk (unit_of unit.now) turns choices.old.source result.status result.due
+    ensures ran { (files : Option Contents) (kernel : KernelLeft)
+        → Blaming result.status (T.faults terminal.old) (T.faults terminal.new) (P.faults printer.old) (P.faults printer.new)
+        (RanWalk (unit_of unit.now) turns choices.old.source result.status result.due
         (outside_with files (D.contents drive.old) (S.left input.old) (T.taken terminal.old) (P.taken printer.old))
-        (outside_with files (D.contents drive.new) (S.left input.new) (T.taken terminal.new) (P.taken printer.new)) (idle kernel) }
+        (outside_with files (D.contents drive.new) (S.left input.new) (T.taken terminal.new) (P.taken printer.new))) (idle kernel) }
     ensures cause { (had has : ℕ) → HasCause result.status
         (counts_with had (D.faults drive.old) (S.faults input.old) (T.faults terminal.old) (P.faults printer.old))
         (counts_with has (D.faults drive.new) (S.faults input.new) (T.faults terminal.new) (P.faults printer.new)) }
@@ -120,9 +123,12 @@ pub fn walk_file<F: Files, D: Drive, S: Source, T: Sink, P: Sink>(
     terminal: &mut T,
     printer: &mut P,
 ) -> Ended
-    ensures came { (kernel : KernelLeft) → Came result.status result.due (Some (walk_words file.now choices.now turns))
+    // An object that has failed in the walk is blamed.
+    ensures came { (kernel : KernelLeft)
+        → Blaming result.status (T.faults terminal.old) (T.faults terminal.new) (P.faults printer.old) (P.faults printer.new)
+        (Came result.status result.due (Some (walk_words file.now choices.now turns))
         (outside_of F.contents D.contents S.left T.taken P.taken files.old drive.old input.old terminal.old printer.old)
-        (outside_of F.contents D.contents S.left T.taken P.taken files.new drive.new input.new terminal.new printer.new) (idle kernel) }
+        (outside_of F.contents D.contents S.left T.taken P.taken files.new drive.new input.new terminal.new printer.new)) (idle kernel) }
     ensures cause { HasCause result.status
         (counts_of F.faults D.faults S.faults T.faults P.faults files.old drive.old input.old terminal.old printer.old)
         (counts_of F.faults D.faults S.faults T.faults P.faults files.new drive.new input.new terminal.new printer.new) }

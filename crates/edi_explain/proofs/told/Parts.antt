@@ -33,23 +33,23 @@ module _ (text : List ℕ) (marks : List Mark) (last index : ℕ) (may : ℕ →
   of_parts here before held =
       place_text text index last here
       ++ (instead_text here may
-      ++ (held_lines (innermost held) ++ note_line (note_of here before (seen_by (line_bytes text (line_of last here)) here before held may))))
+      ++ (held_lines (innermost held) ++ note_line (note_of marks here before (seen_by (line_bytes text (line_of last here)) here before held may))))
 
-  pub put_parts : {B E : Type 0} (r : Result B E) (here before : Option Mark) (held inner : List Held) (seen : Seen) (line out one two three all : List ℕ)
-      → here ≡ slice_get marks index → before ≡ before_of marks index → held ≡ opened (take index marks)
+  pub put_parts : {B E : Type 0} (r : Result B E) (known : List Mark) (here before : Option Mark) (held inner : List Held) (seen : Seen) (line out one two three all : List ℕ)
+      → known ≡ marks → here ≡ slice_get marks index → before ≡ before_of marks index → held ≡ opened (take index marks)
       → line ≡ line_bytes text (line_of last here) → seen ≡ seen_by line here before held may → inner ≡ innermost held
       → one ≡ out ++ place_text text index last here → two ≡ one ++ instead_text here seen.may → three ≡ two ++ held_lines inner
-      → OnOk r (all ≡ three ++ note_line (note_of here before seen)) → OnOk r (all ≡ out ++ wrong_text text marks last index may)
-  put_parts r here before held inner seen line out one two three all is_here is_before is_held is_line is_seen is_inner f s t l =
+      → OnOk r (all ≡ three ++ note_line (note_of known here before seen)) → OnOk r (all ≡ out ++ wrong_text text marks last index may)
+  put_parts r known here before held inner seen line out one two three all is_known is_here is_before is_held is_line is_seen is_inner f s t l =
       let see : seen ≡ seen_by (line_bytes text (line_of last here)) here before held may = is_seen ∙ ap (λ l. seen_by l here before held may) is_line in
-      let first : place_text text index last here ++ (instead_text here seen.may ++ (held_lines inner ++ note_line (note_of here before seen)))
+      let first : place_text text index last here ++ (instead_text here seen.may ++ (held_lines inner ++ note_line (note_of known here before seen)))
       ≡ of_parts here before held = λ i.
       place_text text index last here
-      ++ (instead_text here (see i).may ++ (held_lines (is_inner i) ++ note_line (note_of here before (see i)))) in
+      ++ (instead_text here (see i).may ++ (held_lines (is_inner i) ++ note_line (note_of (is_known i) here before (see i)))) in
       let second : of_parts here before held ≡ wrong_text text marks last index may =
       λ i. of_parts (is_here i) (is_before i) (is_held i) in
       put_as r out all _ _ (first ∙ second) (four_put r out one two three all (place_text text index last here) (instead_text here seen.may)
-      (held_lines inner) (note_line (note_of here before seen)) f s t l)
+      (held_lines inner) (note_line (note_of known here before seen)) f s t l)
 
 -- so of a place at which no piece stands
 pub character_put : {B E : Type 0} (r : Result B E) (out one two all text : List ℕ) (line place b : ℕ) → place ≡ stray_of text

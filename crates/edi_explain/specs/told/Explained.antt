@@ -1,5 +1,5 @@
 -- Definition. WHAT `explain` SHOWS of a text, by its first fault.
-use Rattle.std.specs.Prelude.{◌≡◌, ◌⊎◌, ℕ, ◌-◌, ◌==◌, ◌||◌, Bool, List, [], ◌∷◌, ◌++◌, length, take, drop, Option, Some, None, Result, Ok, Err}
+use Rattle.std.specs.Prelude.{◌≡◌, ◌⊎◌, ℕ, ◌-◌, ◌==◌, ◌||◌, nat_lt, Bool, List, [], ◌∷◌, ◌++◌, length, take, drop, Option, Some, None, Result, Ok, Err}
 use Rattle.std.specs.Prelude.{slice_get, slice_index_or, if◌then◌else◌, codes}
 use Rattle.std.specs.Fmt.{decimal}
 use Rattle.std.specs.List.{list_any}
@@ -19,13 +19,13 @@ use Rattle.edi_explain.specs.declared.expected.waiting.Held.{Held}
 use Rattle.edi_explain.specs.expected.Opened.{opened}
 use Rattle.edi_explain.specs.expected.Reaches.{May}
 use Rattle.edi_explain.specs.places.Places.{place_of}
-use Rattle.edi_explain.specs.told.Names.{Found, before_of, declared_from, only_name}
+use Rattle.edi_explain.specs.told.Names.{Found, before_of, declared_from, marked_name}
 use Rattle.edi_explain.specs.told.Words.{kind_name, here_text}
 use Rattle.edi_explain.specs.told.Words.{name_text as name_of_letters}
 use Rattle.edi_explain.specs.told.Groups.{may_lines}
 use Rattle.edi_explain.specs.told.Source.{pointed_line, whole_line, end_line, line_bytes}
 use Rattle.edi_explain.specs.told.Stray.{stray_of}
-use Rattle.edi_explain.specs.told.Notes.{Seen, note_of, note_line}
+use Rattle.edi_explain.specs.told.Notes.{Seen, lost_note, note_of, note_line}
 use Rattle.edi_explain.specs.told.Advice.{advice_of}
 
 -- ---- a text that is accepted
@@ -49,10 +49,12 @@ stray_note b =
     else if b == 35 then codes "not equal is written '<>'; a comment stands between quotation marks."
     else if b == 37 then codes "what a division leaves is written 'mod'."
     else if b == 38 || b == 124 then codes "'and' and 'or' join conditions, as in (x > 0) and (y > 0)."
+    else if b == 34 then codes "a comment has letters without accents: bytes 32 to 126, tabs and line ends."
     else if b == 39 then codes "an apostrophe ends a string; ''' is the string of one apostrophe."
     else if b == 47 then codes "a division is written 'div', and what it leaves 'mod'; a comment stands between quotation marks."
     else if b == 95 then codes "a name begins with a letter."
     else if b == 123 || b == 125 then codes "a comment stands between quotation marks; statements stand between 'do' and 'end'."
+    else if nat_lt 127 b then codes "a text has letters without accents, and no byte order mark before the first one: save it as ASCII."
     else []
 
 abbrev pub stray_lines : ℕ → List ℕ
@@ -128,7 +130,7 @@ wrong_text text marks last index may =
     place_text text index last here
     ++ (instead_text here may
     ++ (held_lines (innermost held)
-    ++ note_line (note_of here before (seen_by (line_bytes text (line_of last here)) here before held may))))
+    ++ note_line (note_of marks here before (seen_by (line_bytes text (line_of last here)) here before held may))))
 
 -- What is shown of a text whose symbols have a syntax fault: exactly those kinds are named that may stand there.
 pub record IsSyntaxText (text : List ℕ) (known : List Mark × ℕ) (shown : List ℕ) : Type 0 where
@@ -140,19 +142,20 @@ pub record IsSyntaxText (text : List ℕ) (known : List Mark × ℕ) (shown : Li
 
 -- ---- static faults
 
-abbrev pub later_text : Option ℕ → List ℕ
-later_text None = []
-later_text (Some line) = codes "a procedure of this name is declared further down, on line " ++ (decimal line ++ codes "\n")
+-- where a procedure of the name is declared further down, or else its note
+abbrev pub later_text : List ℕ → Option ℕ → List ℕ
+later_text letters None = note_line (lost_note letters)
+later_text letters (Some line) = codes "a procedure of this name is declared further down, on line " ++ (decimal line ++ codes "\n")
 
--- the line with the caret at the one name that can be undeclared, and where a procedure of that name is declared after it; or the line alone
+-- the line with the caret at the name that is marked, and where a procedure of that name is declared after it, or its note; or the line alone
 abbrev pub name_text : List ℕ → List Mark → (line : ℕ) → Found → List ℕ
 name_text text marks line None = whole_line text line
 name_text text marks line (Some one) =
     pointed_line text line (place_of text one.0).0
-    ++ (name_of_letters one.1 ++ (codes " seems to mean nothing here\n" ++ later_text (declared_from one.1 0 0 (drop one.0 marks))))
+    ++ (name_of_letters one.1 ++ (codes " seems to mean nothing here\n" ++ later_text one.1 (declared_from one.1 0 0 (drop one.0 marks))))
 
 abbrev pub static_line : List ℕ → List Mark → RefusalKind → (line : ℕ) → List ℕ
-static_line text marks kind.UndeclaredName line = name_text text marks line (only_name marks line)
+static_line text marks kind.UndeclaredName line = name_text text marks line (marked_name marks line)
 static_line text marks why line = whole_line text line
 
 -- the line of the construct that breaks a static rule

@@ -1,5 +1,6 @@
--- Definition. THE UNDECLARED NAME of a line, where only one name of the line can be it: one that is no standard name, is not declared at its place, and
--- is no call of the system that the heading of the program names before it. Each other name of a line means something there.
+-- Definition. THE UNDECLARED NAME of a line: the one name of it that can be undeclared, or else the first one that is declared nowhere in the text. A name
+-- can be undeclared that is no standard name, is not declared at its place, and is no call of the system that the heading of the program names before it.
+-- Each other name of a line means something there.
 use Rattle.std.specs.Prelude.{ℕ, zero, suc, ◌+◌, ◌-◌, ◌==◌, Bool, true, false, not, ◌&&◌, ◌||◌, List, [], ◌∷◌, length, take, Option, Some, None}
 use Rattle.std.specs.Prelude.{slice_get, if◌then◌else◌, codes}
 use Rattle.std.specs.Str.{bytes_eq}
@@ -8,7 +9,7 @@ use Rattle.edi_lex.specs.declared.symbol.Symbol.TheVariants as is
 use Rattle.edi_lex.specs.declared.symbol.Mark.{Mark}
 use Rattle.edi_grammar.specs.Kinds as kind
 use Rattle.edi_grammar.specs.Kind.{kind_of, kind_at}
-use Rattle.edi_explain.specs.told.Groups.{is_among}
+use Rattle.edi_explain.specs.told.Groups.{declaration, is_among}
 use Rattle.edi_explain.specs.told.Words.{is_text_of}
 
 abbrev pub standard_names : List (List ℕ)
@@ -95,25 +96,78 @@ used_at marks line index = used_by marks line index (slice_get marks index)
 abbrev pub Found : Type 0
 Found = Option (ℕ × List ℕ)
 
--- with what the next symbol is: none where it is a second one
-abbrev pub joined : (index : ℕ) → Found → Option (List ℕ) → Option Found
-joined index found None = Some found
-joined index None (Some letters) = Some (Some (index, letters))
-joined index (Some one) (Some letters) = None
+abbrev pub or_later : (index : ℕ) → Option (List ℕ) → Found → Found
+or_later index None later = later
+or_later index (Some letters) later = Some (index, letters)
 
-abbrev pub if_one : Option Found → (Found → Found) → Found
-if_one None go = None
-if_one (Some found) go = go found
+-- the first such name of the line, from this index on, among so many symbols
+abbrev pub next_from : List Mark → (line index many : ℕ) → Found
+next_from marks line index zero = None
+next_from marks line index (suc many) = or_later index (used_at marks line index) (next_from marks line (index + 1) many)
 
--- from this index on, so many symbols
-abbrev pub only_from : List Mark → (line index many : ℕ) → Found → Found
-only_from marks line index zero found = found
-only_from marks line index (suc many) found =
-    if_one (joined index found (used_at marks line index)) (λ next. only_from marks line (suc index) many next)
+abbrev pub next_name : List Mark → (line index : ℕ) → Found
+next_name marks line index = next_from marks line index (length marks - index)
 
--- the name of the line that can be undeclared, where just one symbol is one, with its index
-abbrev pub only_name : List Mark → (line : ℕ) → Found
-only_name marks line = only_from marks line 0 (length marks) None
+-- ---- a name that is declared nowhere in the text
+
+-- whether declarations stand after a symbol of this kind: from one that begins a declaration to the next `begin`
+abbrev pub declares_after : (declares : Bool) → (k : ℕ) → Bool
+declares_after declares k = not (k == kind.Begin) && (declares || is_among k declaration)
+
+-- among declarations each name may be declared, but for those after `:` and `=`
+abbrev pub may_declare : (declares : Bool) → (last : ℕ) → Bool
+may_declare declares last = declares && not (last == kind.Colon || last == kind.Equal)
+
+-- whether such a place has the name
+abbrev pub is_placed : List ℕ → (declares : Bool) → (last : ℕ) → List Mark → Bool
+is_placed letters declares last [] = false
+is_placed letters declares last (m ∷ marks) =
+    if may_declare declares last && is_name letters (name_in m.symbol) then true
+    else is_placed letters (declares_after declares (kind_of m.symbol)) (kind_of m.symbol) marks
+
+-- whether the name may be declared somewhere in the text, which begins with declarations; if not, it means nothing anywhere
+abbrev pub may_mean : List ℕ → List Mark → Bool
+may_mean letters marks = is_placed letters true 0 marks
+
+-- ---- the name that is marked
+
+-- as many names of a line are looked up in the whole text
+abbrev pub most_names : ℕ
+most_names = 16
+
+abbrev pub unless_it_may : List Mark → Found → (rest : ℕ → Found) → Found
+unless_it_may marks None rest = None
+unless_it_may marks (Some one) rest = if may_mean one.1 marks then rest (one.0 + 1) else Some one
+
+-- the first name from this index on that is declared nowhere, among so many that can be undeclared
+abbrev pub lost_from : List Mark → (line index names : ℕ) → Found
+lost_from marks line index zero = None
+lost_from marks line index (suc names) =
+    unless_it_may marks (next_name marks line index) (λ rest. lost_from marks line rest names)
+
+abbrev pub lost_name : List Mark → (line : ℕ) → Found
+lost_name marks line = lost_from marks line 0 most_names
+
+-- the first one where there is no second one, else another one
+abbrev pub if_alone : Found → (second other : Found) → Found
+if_alone first None other = first
+if_alone first (Some one) other = other
+
+abbrev pub with_second : List Mark → (line : ℕ) → Found → Found
+with_second marks line None = None
+with_second marks line (Some one) = if_alone (Some one) (next_name marks line (one.0 + 1)) (lost_name marks line)
+
+-- THE NAME THAT IS MARKED, with its index: the one name of the line that can be undeclared, or, where more than one can, the first that is declared
+-- nowhere
+abbrev pub marked_name : List Mark → (line : ℕ) → Found
+marked_name marks line = with_second marks line (next_name marks line 0)
+
+-- ---- a name that is declared by the symbol before it
+
+abbrev pub is_introduced : List ℕ → (last : ℕ) → List Mark → Bool
+is_introduced letters last [] = false
+is_introduced letters last (m ∷ marks) =
+    if is_among last declarers && is_name letters (name_in m.symbol) then true else is_introduced letters (kind_of m.symbol) marks
 
 -- ---- a procedure of that name further down
 

@@ -8,6 +8,7 @@ use Rattle.edi_lex.specs.declared.symbol.Symbol.TheVariants as is
 use Rattle.edi_lex.specs.declared.symbol.Mark.{Mark}
 use Rattle.edi_grammar.specs.Kinds as kind
 use Rattle.edi_explain.specs.told.Groups.{is_among, statement, declaration, comparison}
+use Rattle.edi_explain.specs.told.Names.{is_introduced}
 use Rattle.edi_explain.specs.told.Words.{is_text_of}
 
 -- ---- words that other languages have and this one has not
@@ -30,20 +31,49 @@ word_notes =
     ∷ (codes "type", codes "'type' is no word of the language: a type is declared by 'array', 'enum', 'record' or 'set' and its name.")
     ∷ (codes "of", codes "'of' is no word of the language: an array is declared as array t [1:10] (int).")
     ∷ (codes "let", codes "'let' is no word of the language: variables are declared as var x: int, before 'begin', without a semicolon after the last.")
+    ∷ (codes "synchronized", codes "'synchronized' is no word of the language: 'when true do ... end' waits for nothing, and no other 'when' runs meanwhile.")
+    ∷ (codes "wait", codes "'wait' is no word of the language: a process waits at when x > 0 do ... end until its condition is true.")
+    ∷ (codes "assert", codes "'assert' is no word of the language: a program that finds a mistake stops by 'halt', as in if x < 0 do halt end.")
+    ∷ (codes "string", codes "'string' is no type of the language: a string is an array, as in array line [1:80] (char) and, after it, var s: line.")
     ∷ []
 
 abbrev pub note_beside : List (List ℕ × List ℕ) → List ℕ → Option (List ℕ)
 note_beside [] word = None
 note_beside (row ∷ rows) word = if bytes_eq word row.0 then Some row.1 else note_beside rows word
 
--- the note of a symbol that is such a word
-abbrev pub symbol_note : Symbol → Option (List ℕ)
-symbol_note (is.Name letters) = note_beside word_notes letters
-symbol_note symbol = None
+-- the first of them that is one
+abbrev pub or_else : Option (List ℕ) → List ℕ → List ℕ
+or_else (Some note) rest = note
+or_else None rest = rest
 
-abbrev pub mark_note : Option Mark → Option (List ℕ)
-mark_note None = None
-mark_note (Some m) = symbol_note m.symbol
+-- such a word means what the text says where it is declared in it
+abbrev pub word_note : (marks : List Mark) → List ℕ → Option (List ℕ)
+word_note marks word = if is_introduced word 0 marks then None else note_beside word_notes word
+
+-- the note of a symbol that is such a word, in a text of these symbols
+abbrev pub symbol_note : (marks : List Mark) → Symbol → Option (List ℕ)
+symbol_note marks (is.Name letters) = word_note marks letters
+symbol_note marks symbol = None
+
+abbrev pub mark_note : (marks : List Mark) → Option Mark → Option (List ℕ)
+mark_note marks None = None
+mark_note marks (Some m) = symbol_note marks m.symbol
+
+-- ---- names that mean nothing
+
+-- beside each of these calls of the system, what it does and how the heading names it
+abbrev pub call_notes : List (List ℕ × List ℕ)
+call_notes =
+    (codes "display", codes "display(c) shows the character c, where the heading names it: proc main(proc display(c: char)).")
+    ∷ (codes "print", codes "print(c) puts the character c on the printer, where the heading names it: proc main(proc print(c: char)).")
+    ∷ (codes "accept", codes "accept(c) takes a character of the input, where the heading names it: proc main(proc accept(var c: char)).")
+    ∷ (codes "write", codes "write(c) puts the character c at the end of a file, where the heading names it: proc main(proc write(c: char)).")
+    ∷ (codes "read", codes "read(c) takes a character of a file, where the heading names it: proc main(proc read(var c: char)).")
+    ∷ []
+
+-- THE NOTE of a name that means nothing: that of a word of other languages, or of a call of the system; empty where it is neither
+abbrev pub lost_note : List ℕ → List ℕ
+lost_note word = or_else (note_beside word_notes word) (or_else (note_beside call_notes word) [])
 
 -- ---- rows
 
@@ -136,6 +166,8 @@ note_rows =
     ∷ record (asking words (kind.Name ∷ []) (codes "this is a word of the language, so it cannot be a name.")) { last = namers }
     ∷ record (asking [] [] (codes "after 'else' comes a condition, without 'if': 'else x > 0 do' is a further case, and 'else true do' takes all other cases."))
     { last = kind.Else ∷ [] }
+    ∷ record (asking (kind.Do ∷ []) []
+    (codes "a condition stands before 'do', as in when x > 0 do ... end; 'when true do' waits for nothing.")) { last = kind.If ∷ kind.When ∷ kind.While ∷ [] }
     ∷ asking (kind.Becomes ∷ []) (kind.Do ∷ [])
     (codes "a condition stands here, up to its 'do', and '=' compares two values; after 'else' comes a condition too: 'else true do'.")
     ∷ record (asking (kind.Becomes ∷ []) (kind.Equal ∷ []) (codes "a ')' or a ']' is missing before this one, or '=' is meant."))
@@ -164,7 +196,13 @@ note_rows =
     ∷ asking (kind.Numeral ∷ kind.Char ∷ kind.Text ∷ []) (kind.Open ∷ kind.Becomes ∷ []) (codes "the arguments of a call stand in parentheses.")
     ∷ asking (kind.Plus ∷ kind.Minus ∷ []) (kind.Becomes ∷ []) (codes "a variable is changed by ':=', as in x := x + 1.")
     ∷ asking (kind.Colon ∷ []) (kind.Becomes ∷ []) (codes "':=' is one symbol; variables are declared before 'begin'.")
+    ∷ record (asking (kind.Name ∷ []) (kind.Open ∷ kind.Becomes ∷ [])
+    (codes "a semicolon stands between two statements, and the arguments of a call stand in parentheses.")) { last = kind.Name ∷ [] }
     ∷ asking statement (kind.Semicolon ∷ kind.End ∷ []) (codes "a semicolon stands between two statements.")
+    ∷ asking (kind.Begin ∷ []) (kind.End ∷ [])
+    (codes "an 'end' is missing before this 'begin', or it is a 'begin' too many: only a procedure and a module have one.")
+    ∷ asking (kind.End ∷ []) (kind.Begin ∷ [])
+    (codes "here come declarations or a 'begin': an 'end' too many stands here or before, or a 'begin' is missing.")
     ∷ record (asking (kind.Name ∷ []) (kind.Comma ∷ kind.Colon ∷ []) (codes "the name comes first and then its type, as in x: int; a comma stands between two names."))
     { last = kind.Name ∷ [] }
     ∷ record (asking (kind.Equal ∷ kind.Becomes ∷ []) (kind.Begin ∷ kind.Semicolon ∷ []) (codes "a declaration gives no value: write var x: int, and x := 1 after 'begin'."))
@@ -221,14 +259,10 @@ type_before before seen =
 
 -- ---- the note
 
--- the first of them that is one
-abbrev pub or_else : Option (List ℕ) → List ℕ → List ℕ
-or_else (Some note) rest = note
-or_else None rest = rest
-
--- THE NOTE at what stands there and what stands before it: none where it is empty
-abbrev pub note_of : (here before : Option Mark) → Seen → List ℕ
-note_of here before seen = or_else (mark_note here) (or_else (mark_note before) (or_else (type_before before seen) (first_fit note_rows seen)))
+-- THE NOTE at what stands there and what stands before it, in a text of these symbols: none where it is empty
+abbrev pub note_of : (marks : List Mark) → (here before : Option Mark) → Seen → List ℕ
+note_of marks here before seen =
+    or_else (mark_note marks here) (or_else (mark_note marks before) (or_else (type_before before seen) (first_fit note_rows seen)))
 
 abbrev pub note_line : List ℕ → List ℕ
 note_line [] = []

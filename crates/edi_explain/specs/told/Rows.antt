@@ -11,11 +11,14 @@ use Rattle.edi_explain.specs.told.Groups.{group_line, may_lines}
 use Rattle.edi_explain.specs.told.Words.{here_text, name_text}
 use Rattle.edi_explain.specs.told.Source.{pointed_line, under_byte, whole_line}
 use Rattle.edi_explain.specs.told.Stray.{stray_from, stray_of}
-use Rattle.edi_explain.specs.told.Names.{declared_from, only_name}
-use Rattle.edi_explain.specs.told.Notes.{Seen, note_of}
+use Rattle.edi_explain.specs.told.Names.{declared_from, marked_name}
+use Rattle.edi_explain.specs.told.Notes.{Seen, lost_note, note_of, word_note}
+
+abbrev on : (line : ℕ) → Symbol → Mark
+on line symbol = record { symbol = symbol; line = line }
 
 abbrev mark : Symbol → Mark
-mark symbol = record { symbol = symbol; line = 1 }
+mark symbol = on 1 symbol
 
 -- just these kinds may stand
 abbrev just : List ℕ → ℕ → Bool
@@ -129,33 +132,63 @@ abbrev seen : (found last inside : ℕ) → (may : List ℕ) → Seen
 seen found last inside may = record { found = found; last = last; inside = inside; may = just may; quoted = false }
 
 -- x = 5
-pub row_assigned : note_of (Some (mark is.Equal)) None (seen kind.Equal kind.Name kind.Begin (14 ∷ 43 ∷ 45 ∷ 46 ∷ 47 ∷ 49 ∷ []))
+pub row_assigned : note_of [] (Some (mark is.Equal)) None (seen kind.Equal kind.Name kind.Begin (14 ∷ 43 ∷ 45 ∷ 46 ∷ 47 ∷ 49 ∷ []))
     ≡ codes "'=' compares two values; ':=' assigns one."
 row_assigned = refl
 
 -- if x = 0 then
-pub row_then : note_of (Some (mark (is.Name (codes "then")))) None (seen kind.Name kind.Numeral kind.If (6 ∷ 11 ∷ 12 ∷ 19 ∷ 22 ∷ 39 ∷ 40 ∷ 41 ∷ []))
+pub row_then : note_of [] (Some (mark (is.Name (codes "then")))) None (seen kind.Name kind.Numeral kind.If (6 ∷ 11 ∷ 12 ∷ 19 ∷ 22 ∷ 39 ∷ 40 ∷ 41 ∷ []))
     ≡ codes "'then' is no word of the language: after a condition comes 'do'."
 row_then = refl
 
 -- a; end
-pub row_semicolon : note_of (Some (mark is.End)) (Some (mark is.Semicolon)) (seen kind.End kind.Semicolon kind.Begin (1 ∷ 9 ∷ 16 ∷ 28 ∷ 29 ∷ 31 ∷ 32 ∷ []))
+pub row_semicolon : note_of [] (Some (mark is.End)) (Some (mark is.Semicolon)) (seen kind.End kind.Semicolon kind.Begin (1 ∷ 9 ∷ 16 ∷ 28 ∷ 29 ∷ 31 ∷ 32 ∷ []))
     ≡ codes "one semicolon stands between two statements; none stands before 'end', 'else' or 'also'."
 row_semicolon = refl
 
--- int i; among statements: a semicolon is missing after any other name
-pub row_type_before : note_of (Some (mark (is.Name (codes "i")))) (Some (mark (is.Name (codes "int")))) (seen kind.Name kind.Name kind.Begin (14 ∷ 43 ∷ 45 ∷ 46 ∷ 47 ∷ 49 ∷ []))
+-- int i; among statements: after any other name a semicolon is missing, or a parenthesis
+pub row_type_before : note_of [] (Some (mark (is.Name (codes "i")))) (Some (mark (is.Name (codes "int")))) (seen kind.Name kind.Name kind.Begin (14 ∷ 43 ∷ 45 ∷ 46 ∷ 47 ∷ 49 ∷ []))
     ≡ codes "variables are declared as var x: int, before 'begin', without a semicolon after the last."
 row_type_before = refl
 
-pub row_name_before : note_of (Some (mark (is.Name (codes "i")))) (Some (mark (is.Name (codes "p")))) (seen kind.Name kind.Name kind.Begin (14 ∷ 43 ∷ 45 ∷ 46 ∷ 47 ∷ 49 ∷ []))
-    ≡ codes "a semicolon stands between two statements."
+pub row_name_before : note_of [] (Some (mark (is.Name (codes "i")))) (Some (mark (is.Name (codes "p")))) (seen kind.Name kind.Name kind.Begin (14 ∷ 43 ∷ 45 ∷ 46 ∷ 47 ∷ 49 ∷ []))
+    ≡ codes "a semicolon stands between two statements, and the arguments of a call stand in parentheses."
 row_name_before = refl
 
 -- cobegin p also
-pub row_branch : note_of (Some (mark is.Also)) (Some (mark (is.Name (codes "p")))) (seen kind.Also kind.Name kind.Cobegin (12 ∷ 47 ∷ []))
+pub row_branch : note_of [] (Some (mark is.Also)) (Some (mark (is.Name (codes "p")))) (seen kind.Also kind.Name kind.Cobegin (12 ∷ 47 ∷ []))
     ≡ codes "each branch begins with a constant and 'do', as in cobegin 1 do p also 2 do q end."
 row_branch = refl
+
+-- when do
+pub row_condition : note_of [] (Some (mark is.Do)) (Some (mark is.When)) (seen kind.Do kind.When kind.When (1 ∷ 2 ∷ 3 ∷ 4 ∷ 21 ∷ 29 ∷ 39 ∷ 40 ∷ 47 ∷ []))
+    ≡ codes "a condition stands before 'do', as in when x > 0 do ... end; 'when true do' waits for nothing."
+row_condition = refl
+
+-- while true do skip begin
+pub row_missing_end : note_of [] (Some (mark is.Begin)) (Some (mark is.Skip)) (seen kind.Begin kind.Skip kind.While (13 ∷ 14 ∷ 45 ∷ []))
+    ≡ codes "an 'end' is missing before this 'begin', or it is a 'begin' too many: only a procedure and a module have one."
+row_missing_end = refl
+
+-- proc p begin skip end end, in another procedure
+pub row_end_too_many : note_of [] (Some (mark is.End)) (Some (mark is.End)) (seen kind.End kind.End 0 (7 ∷ 8 ∷ 10 ∷ 15 ∷ 20 ∷ 23 ∷ 24 ∷ 25 ∷ 26 ∷ 27 ∷ 30 ∷ []))
+    ≡ codes "here come declarations or a 'begin': an 'end' too many stands here or before, or a 'begin' is missing."
+row_end_too_many = refl
+
+-- wait x := 1, in a text that has no procedure of this name, and in one that has
+pub row_foreign : word_note (mark (is.Name (codes "wait")) ∷ mark (is.Name (codes "x")) ∷ []) (codes "wait")
+    ≡ Some (codes "'wait' is no word of the language: a process waits at when x > 0 do ... end until its condition is true.")
+row_foreign = refl
+
+pub row_own : word_note (mark is.Proc ∷ mark (is.Name (codes "wait")) ∷ []) (codes "wait") ≡ None
+row_own = refl
+
+pub row_call : lost_note (codes "print")
+    ≡ codes "print(c) puts the character c on the printer, where the heading names it: proc main(proc print(c: char))."
+row_call = refl
+
+pub row_no_note : lost_note (codes "sum") ≡ []
+row_no_note = refl
 
 -- ---- where a procedure is declared further down
 
@@ -167,32 +200,50 @@ row_further = refl
 -- ---- the undeclared name
 
 -- y := 1
-pub row_one_name : only_name (mark (is.Name (codes "y")) ∷ mark is.Becomes ∷ mark (is.Numeral (pos 1)) ∷ []) 1 ≡ Some (0, codes "y")
+pub row_one_name : marked_name (mark (is.Name (codes "y")) ∷ mark is.Becomes ∷ mark (is.Numeral (pos 1)) ∷ []) 1 ≡ Some (0, codes "y")
 row_one_name = refl
 
--- y := y: the first can mean something, as in begin y := 1 end begin y := 2 end
-pub row_twice : only_name (mark (is.Name (codes "y")) ∷ mark is.Becomes ∷ mark (is.Name (codes "y")) ∷ []) 1 ≡ None
+-- var y: int begin y := y: the text declares it, so the first can mean something, as in begin y := 1 end begin y := 2 end
+abbrev var_y : List Mark
+var_y = on 1 is.Var ∷ on 1 (is.Name (codes "y")) ∷ on 1 is.Colon ∷ on 1 (is.Name (codes "int")) ∷ on 1 is.Begin ∷ []
+
+pub row_twice : marked_name (var_y ++ (on 2 (is.Name (codes "y")) ∷ on 2 is.Becomes ∷ on 2 (is.Name (codes "y")) ∷ [])) 2 ≡ None
 row_twice = refl
 
--- x := y: either can be it
-pub row_two_names : only_name (mark (is.Name (codes "x")) ∷ mark is.Becomes ∷ mark (is.Name (codes "y")) ∷ []) 1 ≡ None
-row_two_names = refl
+-- x := y and y := x: either can be it, and x is declared nowhere
+pub row_lost_first : marked_name (var_y ++ (on 2 (is.Name (codes "x")) ∷ on 2 is.Becomes ∷ on 2 (is.Name (codes "y")) ∷ [])) 2 ≡ Some (5, codes "x")
+row_lost_first = refl
+
+pub row_lost_second : marked_name (var_y ++ (on 2 (is.Name (codes "y")) ∷ on 2 is.Becomes ∷ on 2 (is.Name (codes "x")) ∷ [])) 2 ≡ Some (7, codes "x")
+row_lost_second = refl
+
+-- var x: integer; z: real: the names after `:` are no declarations, and the first of the two is marked
+pub row_two_types : marked_name (mark is.Var ∷ mark (is.Name (codes "x")) ∷ mark is.Colon ∷ mark (is.Name (codes "integer")) ∷ mark is.Semicolon
+    ∷ mark (is.Name (codes "z")) ∷ mark is.Colon ∷ mark (is.Name (codes "real")) ∷ []) 1 ≡ Some (3, codes "integer")
+row_two_types = refl
+
+-- 16 names that are declared, and then one that is not
+pub row_late : marked_name (var_y ++ (replicate 16 (on 2 (is.Name (codes "y"))) ++ on 2 (is.Name (codes "x")) ∷ [])) 2 ≡ None
+row_late = refl
+
+pub row_in_time : marked_name (var_y ++ (replicate 15 (on 2 (is.Name (codes "y"))) ++ on 2 (is.Name (codes "x")) ∷ [])) 2 ≡ Some (20, codes "x")
+row_in_time = refl
 
 -- var x: integer
-pub row_type : only_name (mark is.Var ∷ mark (is.Name (codes "x")) ∷ mark is.Colon ∷ mark (is.Name (codes "integer")) ∷ []) 1 ≡ Some (3, codes "integer")
+pub row_type : marked_name (mark is.Var ∷ mark (is.Name (codes "x")) ∷ mark is.Colon ∷ mark (is.Name (codes "integer")) ∷ []) 1 ≡ Some (3, codes "integer")
 row_type = refl
 
 -- proc p(proc d) d(y): the heading names d
-pub row_heading : only_name (mark is.Proc ∷ mark (is.Name (codes "p")) ∷ mark is.Open ∷ mark is.Proc ∷ mark (is.Name (codes "d")) ∷ mark is.Close
+pub row_heading : marked_name (mark is.Proc ∷ mark (is.Name (codes "p")) ∷ mark is.Open ∷ mark is.Proc ∷ mark (is.Name (codes "d")) ∷ mark is.Close
     ∷ mark (is.Name (codes "d")) ∷ mark is.Open ∷ mark (is.Name (codes "y")) ∷ mark is.Close ∷ []) 1 ≡ Some (8, codes "y")
 row_heading = refl
 
 -- const a = d proc p(proc d) d: before the heading it can be d
-pub row_before_heading : only_name (mark is.Const ∷ mark (is.Name (codes "a")) ∷ mark is.Equal ∷ mark (is.Name (codes "d")) ∷ mark is.Proc
+pub row_before_heading : marked_name (mark is.Const ∷ mark (is.Name (codes "a")) ∷ mark is.Equal ∷ mark (is.Name (codes "d")) ∷ mark is.Proc
     ∷ mark (is.Name (codes "p")) ∷ mark is.Open ∷ mark is.Proc ∷ mark (is.Name (codes "d")) ∷ mark is.Close ∷ mark (is.Name (codes "d")) ∷ []) 1
     ≡ Some (3, codes "d")
 row_before_heading = refl
 
--- x.d: the field can be it, whatever the heading names
-pub row_field : only_name (mark (is.Name (codes "x")) ∷ mark is.Period ∷ mark (is.Name (codes "int")) ∷ []) 1 ≡ None
+-- y.int: the field can be it, whatever else its name means
+pub row_field : marked_name (var_y ++ (on 2 (is.Name (codes "y")) ∷ on 2 is.Period ∷ on 2 (is.Name (codes "int")) ∷ [])) 2 ≡ Some (7, codes "int")
 row_field = refl

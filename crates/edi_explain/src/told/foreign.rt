@@ -1,10 +1,10 @@
-//! Words of other languages, which are names here, and the standard types.
+//! Words of other languages, which are names here, calls of the system, and the standard types.
 
 /// The standard types.
 pub(crate) static ELEMENTARY_TYPES: [&str; 3] = ["int", "char", "bool"];
 
 /// Words that are names here, and their notes.
-pub(crate) static WORDS: [(&str, &str); 15] = [
+pub(crate) static WORDS: [(&str, &str); 19] = [
     (
         "then",
         "'then' is no word of the language: after a condition comes 'do'.",
@@ -64,5 +64,45 @@ pub(crate) static WORDS: [(&str, &str); 15] = [
     (
         "let",
         "'let' is no word of the language: variables are declared as var x: int, before 'begin', without a semicolon after the last.",
+    ),
+    (
+        "synchronized",
+        "'synchronized' is no word of the language: 'when true do ... end' waits for nothing, and no other 'when' runs meanwhile.",
+    ),
+    (
+        "wait",
+        "'wait' is no word of the language: a process waits at when x > 0 do ... end until its condition is true.",
+    ),
+    (
+        "assert",
+        "'assert' is no word of the language: a program that finds a mistake stops by 'halt', as in if x < 0 do halt end.",
+    ),
+    (
+        "string",
+        "'string' is no type of the language: a string is an array, as in array line [1:80] (char) and, after it, var s: line.",
+    ),
+];
+
+/// Calls of the system, and their notes.
+pub(crate) static CALLS: [(&str, &str); 5] = [
+    (
+        "display",
+        "display(c) shows the character c, where the heading names it: proc main(proc display(c: char)).",
+    ),
+    (
+        "print",
+        "print(c) puts the character c on the printer, where the heading names it: proc main(proc print(c: char)).",
+    ),
+    (
+        "accept",
+        "accept(c) takes a character of the input, where the heading names it: proc main(proc accept(var c: char)).",
+    ),
+    (
+        "write",
+        "write(c) puts the character c at the end of a file, where the heading names it: proc main(proc write(c: char)).",
+    ),
+    (
+        "read",
+        "read(c) takes a character of a file, where the heading names it: proc main(proc read(var c: char)).",
     ),
 ];

@@ -8,22 +8,68 @@ ghost use Rattle.edi_explain.specs.told.Words.{kind_name as kind_text};
 
 use crate::expected::Expected;
 use crate::told::words::kind_name;
+use edi_phrases::kind;
 use std::alloc::{AllocError, Global};
 
 // The kinds with which a statement begins.
-static STATEMENT: [u8; 7] = [1, 9, 16, 28, 29, 31, 32];
+static STATEMENT: [u8; 7] = [
+    kind::NAME,
+    kind::COBEGIN,
+    kind::IF,
+    kind::SKIP,
+    kind::VAL,
+    kind::WHEN,
+    kind::WHILE,
+];
 
 // The kinds with which an expression begins.
-static EXPRESSION: [u8; 9] = [1, 2, 3, 4, 21, 29, 39, 40, 47];
+static EXPRESSION: [u8; 9] = [
+    kind::NAME,
+    kind::NUMERAL,
+    kind::CHAR,
+    kind::TEXT,
+    kind::NOT,
+    kind::VAL,
+    kind::PLUS,
+    kind::MINUS,
+    kind::OPEN,
+];
 
-// The kinds with which a declaration begins.
-static DECLARATION: [u8; 10] = [7, 10, 15, 20, 23, 24, 25, 26, 27, 30];
+/// The kinds with which a declaration begins.
+pub(crate) static DECLARATION: [u8; 10] = [
+    kind::ARRAY,
+    kind::CONST,
+    kind::ENUM,
+    kind::MODULE,
+    kind::POST,
+    kind::PRE,
+    kind::PROC,
+    kind::RECORD,
+    kind::SET,
+    kind::VAR,
+];
 
 // The kinds of operators between operands.
-static OPERATOR: [u8; 7] = [41, 11, 19, 6, 39, 40, 22];
+static OPERATOR: [u8; 7] = [
+    kind::STAR,
+    kind::DIV,
+    kind::MOD,
+    kind::AND,
+    kind::PLUS,
+    kind::MINUS,
+    kind::OR,
+];
 
 // The kinds of comparisons.
-static COMPARISON: [u8; 7] = [33, 34, 35, 36, 37, 38, 17];
+static COMPARISON: [u8; 7] = [
+    kind::EQUAL,
+    kind::NOT_EQUAL,
+    kind::LESS,
+    kind::AT_MOST,
+    kind::GREATER,
+    kind::AT_LEAST,
+    kind::IN,
+];
 
 static ALL_KINDS: [u8; 51] = [
     0, 1, 2, 3, 4, 5, 6, 7, 8, 9, 10, 11, 12, 13, 14, 15, 16, 17, 18, 19, 20, 21, 22, 23, 24, 25,

@@ -30,8 +30,12 @@ fn stray_text(b: u8) -> &'static str
 fn stray_note(b: u8) -> &'static str
     ensures exact { result.now ≡ spec.stray_note b }
 {
+    if 127 < b {
+        return "a text has letters without accents, and no byte order mark before the first one: save it as ASCII.";
+    }
     match b {
         33 => "not equal is written '<>', and 'not' stands before a condition.",
+        34 => "a comment has letters without accents: bytes 32 to 126, tabs and line ends.",
         35 => "not equal is written '<>'; a comment stands between quotation marks.",
         37 => "what a division leaves is written 'mod'.",
         38 | 124 => "'and' and 'or' join conditions, as in (x > 0) and (y > 0).",

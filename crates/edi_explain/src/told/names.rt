@@ -1,22 +1,34 @@
-//! The undeclared name of a line, where only one name of the line can be it.
+//! The undeclared name of a line: the only one that can be it, or the first that is declared nowhere.
 
 ghost use Rattle.std.specs.Prelude.{◌≡◌, ◌≤◌, ◌<◌, option_copied, option_map, drop, length, slice_get, take, Some};
 ghost use Rattle.edi_explain.specs.told.Names as spec;
 ghost use Rattle.edi_explain.specs.told.Tables.{found_of};
 
-use crate::told::groups::is_among;
+use crate::told::groups::{DECLARATION, is_among};
 use crate::told::numbers::kind_at;
 use crate::told::words::is_text_of;
 use edi_lex::{Mark, Symbol};
+use edi_phrases::kind;
 
 // The standard names.
 static STANDARD: [&str; 6] = ["int", "char", "bool", "false", "true", "halt"];
 
 // The kinds of symbols after which a name is declared.
-static DECLARERS: [u8; 7] = [7, 10, 15, 25, 26, 27, 30];
+static DECLARERS: [u8; 7] = [
+    kind::ARRAY,
+    kind::CONST,
+    kind::ENUM,
+    kind::PROC,
+    kind::RECORD,
+    kind::SET,
+    kind::VAR,
+];
 
 // As many symbols as are looked at for the heading of the program.
 const MOST_HEADING: usize = 256;
+
+// As many names of a line are looked up in the whole text.
+const MOST_NAMES: usize = 16;
 
 /// The symbol of this index.
 pub(crate) fn mark_at(marks: &[Mark], index: usize) -> Option<&Mark>
@@ -65,7 +77,9 @@ fn marks_from(marks: &[Mark], count: usize) -> &[Mark]
 fn is_declared(last: u8, next: u8) -> bool
     ensures exact { result ≡ spec.is_declared last next }
 {
-    is_among(last, &DECLARERS) || (next == 42 && last != 49) || (last == 45 && next == 33)
+    is_among(last, &DECLARERS)
+        || (next == kind::COLON && last != kind::OPEN_BRACKET)
+        || (last == kind::SEMICOLON && next == kind::EQUAL)
 }
 
 // Whether a symbol is this name.
@@ -84,8 +98,8 @@ fn opened_by(depth: usize, kind: u8) -> usize
     ensures exact { result ≡ spec.opened_by depth kind }
 {
     match kind {
-        47 => depth + 1,
-        48 => depth.saturating_sub(1),
+        kind::OPEN => depth + 1,
+        kind::CLOSE => depth.saturating_sub(1),
         _ => depth,
     }
 }
@@ -101,7 +115,7 @@ fn is_parameter(letters: &[u8], heading: &[Mark]) -> bool
         if depth == 0 {
             return false;
         }
-        if depth == 1 && last == 25 && is_name(letters, mark) {
+        if depth == 1 && last == kind::PROC && is_name(letters, mark) {
             return true;
         }
         last = kind_at(Some(mark));
@@ -117,7 +131,7 @@ fn heading_of(marks: &[Mark]) -> &[Mark]
 {
     let mut rest = marks;
     while let [mark, after @ ..] = rest {
-        if kind_at(Some(mark)) == 25 {
+        if kind_at(Some(mark)) == kind::PROC {
             return after_open(after);
         }
         rest = after;
@@ -132,7 +146,7 @@ fn after_open(marks: &[Mark]) -> &[Mark]
 {
     match marks {
         [_name, second, rest @ ..] => {
-            if kind_at(Some(second)) == 47 {
+            if kind_at(Some(second)) == kind::OPEN {
                 rest
             } else {
                 &[]
@@ -153,7 +167,7 @@ fn is_in_heading(letters: &[u8], marks: &[Mark]) -> bool
 fn can_be_after(last: u8, next: u8, before: &[Mark], letters: &[u8]) -> bool
     ensures exact { result ≡ spec.can_be_after last next before.now letters.now }
 {
-    last == 46
+    last == kind::PERIOD
         || (!is_declared(last, next)
             && !is_text_of(letters, &STANDARD)
             && !is_in_heading(letters, before))
@@ -205,38 +219,123 @@ fn if_can_be<'a>(marks: &[Mark], index: usize, letters: &'a [u8]) -> Option<&'a 
     None
 }
 
-// A name that was found, or none, with what the next symbol is; None where that is a second one.
-fn joined<'a>(
-    number: u32,
-    found: Option<(u32, &'a [u8])>,
-    used: Option<&'a [u8]>,
-) -> Option<Option<(u32, &'a [u8])>>
-    ensures exact { option_map (λ f. found_of f) result ≡ spec.joined number (found_of found.entry) (option_map (λ text. text.now) used.entry) }
+// The number of an index of symbols.
+fn number_of(index: usize) -> u32
+    requires few { index ≤ 262144 }
+    ensures exact { result ≡ index }
 {
-    let Some(letters) = used else {
-        return Some(found);
-    };
-    match found {
-        Some(_) => None,
-        None => Some(Some((number, letters))),
+    index as u32
+}
+
+// The first name of the line from this index on that can be undeclared, with the number of symbols before it.
+fn next_name(marks: &[Mark], line: u16, from: usize) -> Option<(u32, &[u8])>
+    requires few { length marks.now ≤ 262144 }
+    ensures exact { found_of result ≡ spec.next_name marks.now line from }
+{
+    for index in from..marks.len() {
+        if let Some(letters) = used_at(marks, line, index) {
+            return Some((number_of(index), letters));
+        }
+    }
+    None
+}
+
+// ---- a name that is declared nowhere in the text
+
+// Whether declarations stand after a symbol of this kind.
+fn declares_after(declares: bool, kind: u8) -> bool
+    ensures exact { result ≡ spec.declares_after declares kind }
+{
+    kind != kind::BEGIN && (declares || is_among(kind, &DECLARATION))
+}
+
+// Whether a name after a symbol of this kind may be declared.
+fn may_declare(declares: bool, last: u8) -> bool
+    ensures exact { result ≡ spec.may_declare declares last }
+{
+    declares && !(last == kind::COLON || last == kind::EQUAL)
+}
+
+// Whether a name may be declared somewhere in these marks, which begin a text.
+fn may_mean(letters: &[u8], marks: &[Mark]) -> bool
+    ensures exact { result ≡ spec.may_mean letters.now marks.now }
+{
+    let mut declares = true;
+    let mut last: u8 = 0;
+    for mark in marks {
+        if may_declare(declares, last) && is_name(letters, mark) {
+            return true;
+        }
+        last = kind_at(Some(mark));
+        declares = declares_after(declares, last);
+    }
+    false
+}
+
+// The first name of the line that is declared nowhere, among the first 16 that can be undeclared.
+fn lost_name(marks: &[Mark], line: u16) -> Option<(u32, &[u8])>
+    requires few { length marks.now ≤ 262144 }
+    ensures exact { found_of result ≡ spec.lost_name marks.now line }
+{
+    let mut index: usize = 0;
+    let mut names: usize = MOST_NAMES;
+    while 0 < names {
+        let Some((number, letters)) = next_name(marks, line, index) else {
+            return None;
+        };
+        if !may_mean(letters, marks) {
+            return Some((number, letters));
+        }
+        index = number as usize + 1;
+        names -= 1;
+    }
+    None
+}
+
+// ---- the name that is marked
+
+// Another name where the line has a second one after so many symbols, else this one.
+fn with_second<'a>(
+    marks: &'a [Mark],
+    line: u16,
+    number: u32,
+    letters: &'a [u8],
+) -> Option<(u32, &'a [u8])>
+    requires few { length marks.now ≤ 262144 }
+    ensures exact { found_of result ≡ spec.with_second marks.now line (Some (number, letters.now)) }
+{
+    match next_name(marks, line, number as usize + 1) {
+        Some(_) => lost_name(marks, line),
+        None => Some((number, letters)),
     }
 }
 
-/// The name of the line that can be undeclared, if just one symbol is one, with the number of symbols before it.
-pub(crate) fn only_name(marks: &[Mark], line: u16) -> Option<(u32, &[u8])>
+/// The name of the line that is marked, with the number of symbols before it: the one that can be undeclared, or, where more than one can,
+/// the first that is declared nowhere.
+pub(crate) fn marked_name(marks: &[Mark], line: u16) -> Option<(u32, &[u8])>
     requires few { length marks.now ≤ 262144 }
-    ensures exact { found_of result ≡ spec.only_name marks.now line }
+    ensures exact { found_of result ≡ spec.marked_name marks.now line }
 {
-    let mut found: Option<(u32, &[u8])> = None;
-    let mut number: u32 = 0;
-    for index in 0..marks.len() {
-        let Some(next) = joined(number, found, used_at(marks, line, index)) else {
-            return None;
-        };
-        found = next;
-        number += 1;
+    match next_name(marks, line, 0) {
+        Some((number, letters)) => with_second(marks, line, number, letters),
+        None => None,
     }
-    found
+}
+
+// ---- elsewhere in the text
+
+/// Whether a name stands after a symbol that declares it.
+pub(crate) fn is_introduced(letters: &[u8], marks: &[Mark]) -> bool
+    ensures exact { result ≡ spec.is_introduced letters.now 0 marks.now }
+{
+    let mut last: u8 = 0;
+    for mark in marks {
+        if is_among(last, &DECLARERS) && is_name(letters, mark) {
+            return true;
+        }
+        last = kind_at(Some(mark));
+    }
+    false
 }
 
 /// The line on which a procedure of this name is declared behind so many symbols, if one is.
@@ -247,7 +346,7 @@ pub(crate) fn declared_after(marks: &[Mark], index: usize, letters: &[u8]) -> Op
     let mut depth: usize = 0;
     let mut last: u8 = 0;
     for mark in marks_from(marks, index) {
-        if depth == 0 && last == 25 && is_name(letters, mark) {
+        if depth == 0 && last == kind::PROC && is_name(letters, mark) {
             return Some(mark.line);
         }
         last = kind_at(Some(mark));

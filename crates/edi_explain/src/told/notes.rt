@@ -5,11 +5,13 @@ ghost use Rattle.edi_explain.specs.told.Notes as spec;
 ghost use Rattle.edi_explain.specs.told.Tables.{pairs_of, row_of, rows_of, seen_of};
 
 use crate::expected::Expected;
-use crate::told::foreign::{ELEMENTARY_TYPES, WORDS};
+use crate::told::foreign::{CALLS, ELEMENTARY_TYPES, WORDS};
 use crate::told::groups::{all_may, any_may, is_among, may};
+use crate::told::names::is_introduced;
 use crate::told::table::{ROWS, Row};
 use crate::told::words::is_text_of;
 use edi_lex::{Mark, Symbol};
+use edi_phrases::kind;
 use std::alloc::AllocError;
 
 /// What is seen at a fault: the kind of what stands there, that of the symbol before it and that of the innermost symbol that is open,
@@ -37,24 +39,54 @@ fn note_beside(table: &[(&'static str, &'static str)], word: &[u8]) -> Option<&'
     None
 }
 
+// The note of a word of other languages, where a text of these symbols does not declare it.
+fn word_note(marks: &[Mark], word: &[u8]) -> Option<&'static str>
+    ensures exact { option_map (λ text. text.now) result ≡ spec.word_note marks.now word.now }
+{
+    if is_introduced(word, marks) {
+        return None;
+    }
+    note_beside(&WORDS, word)
+}
+
 // The note of a symbol that is such a word.
-fn symbol_note(symbol: &Symbol) -> Option<&'static str>
-    ensures exact { option_map (λ text. text.now) result ≡ spec.symbol_note symbol.now }
+fn symbol_note(marks: &[Mark], symbol: &Symbol) -> Option<&'static str>
+    ensures exact { option_map (λ text. text.now) result ≡ spec.symbol_note marks.now symbol.now }
 {
     match symbol {
-        Symbol::Name(letters) => note_beside(&WORDS, letters.as_slice()),
+        Symbol::Name(letters) => word_note(marks, letters.as_slice()),
         _ => None,
     }
 }
 
 // That of what stands at a place.
-fn mark_note(here: Option<&Mark>) -> Option<&'static str>
-    ensures exact { option_map (λ text. text.now) result ≡ spec.mark_note (option_copied here.entry) }
+fn mark_note(marks: &[Mark], here: Option<&Mark>) -> Option<&'static str>
+    ensures exact { option_map (λ text. text.now) result ≡ spec.mark_note marks.now (option_copied here.entry) }
 {
     match here {
-        Some(mark) => symbol_note(&mark.symbol),
+        Some(mark) => symbol_note(marks, &mark.symbol),
         None => None,
     }
+}
+
+// The note of a call of the system; nothing where there is none.
+fn call_note(word: &[u8]) -> &'static str
+    ensures exact { result.now ≡ spec.or_else (spec.note_beside spec.call_notes word.now) [] }
+{
+    if let Some(note) = note_beside(&CALLS, word) {
+        return note;
+    }
+    ""
+}
+
+/// The note of a name that means nothing; nothing where there is none.
+pub(crate) fn lost_note(word: &[u8]) -> &'static str
+    ensures exact { result.now ≡ spec.lost_note word.now }
+{
+    if let Some(note) = note_beside(&WORDS, word) {
+        return note;
+    }
+    call_note(word)
 }
 
 // ---- rows
@@ -121,7 +153,7 @@ fn is_type_mark(before: Option<&Mark>) -> bool
 fn type_before(before: Option<&Mark>, seen: &Seen) -> Option<&'static str>
     ensures exact { option_map (λ text. text.now) result ≡ spec.type_before (option_copied before.entry) (seen_of seen.now) }
 {
-    if seen.found == 1 && may(&seen.may, 43) && is_type_mark(before) {
+    if seen.found == kind::NAME && may(&seen.may, kind::BECOMES) && is_type_mark(before) {
         return Some(
             "variables are declared as var x: int, before 'begin', without a semicolon after the last.",
         );
@@ -142,13 +174,13 @@ fn row_note(before: Option<&Mark>, seen: &Seen) -> &'static str
 }
 
 // The note at what stands there and what stands before it; nothing where there is none.
-fn note_of(here: Option<&Mark>, before: Option<&Mark>, seen: &Seen) -> &'static str
-    ensures exact { result.now ≡ spec.note_of (option_copied here.entry) (option_copied before.entry) (seen_of seen.now) }
+fn note_of(marks: &[Mark], here: Option<&Mark>, before: Option<&Mark>, seen: &Seen) -> &'static str
+    ensures exact { result.now ≡ spec.note_of marks.now (option_copied here.entry) (option_copied before.entry) (seen_of seen.now) }
 {
-    if let Some(note) = mark_note(here) {
+    if let Some(note) = mark_note(marks, here) {
         return note;
     }
-    if let Some(note) = mark_note(before) {
+    if let Some(note) = mark_note(marks, before) {
         return note;
     }
     row_note(before, seen)
@@ -157,14 +189,15 @@ fn note_of(here: Option<&Mark>, before: Option<&Mark>, seen: &Seen) -> &'static 
 /// Puts the line of the note behind bytes, if there is one.
 pub(crate) fn put_note(
     out: &mut Vec<u8>,
+    marks: &[Mark],
     here: Option<&Mark>,
     before: Option<&Mark>,
     seen: &Seen,
 ) -> Result<(), AllocError>
     ensures { OnOk result (out.new.items ≡ out.old.items
-        ++ spec.note_line (spec.note_of (option_copied here.entry) (option_copied before.entry) (seen_of seen.now))) }
+        ++ spec.note_line (spec.note_of marks.now (option_copied here.entry) (option_copied before.entry) (seen_of seen.now))) }
 {
-    put_note_line(out, note_of(here, before, seen).as_bytes())
+    put_note_line(out, note_of(marks, here, before, seen).as_bytes())
 }
 
 /// Puts a note behind bytes, on a line of its own; an empty one is none.

@@ -1,5 +1,7 @@
 //! The table of notes.
 
+use edi_phrases::kind;
+
 /// A row of the table of notes: where it fits, and its note.
 #[derive(Clone, Copy)]
 pub(crate) struct Row {
@@ -24,324 +26,487 @@ const ANYWHERE: Row = Row {
 };
 
 /// The rows, of which the first one that fits counts.
-pub(crate) static ROWS: [Row; 50] = [
+pub(crate) static ROWS: [Row; 54] = [
     Row {
-        may: &[2, 3],
+        may: &[kind::NUMERAL, kind::CHAR],
         quoted: true,
         note: "a character or a string stands between apostrophes; quotation marks hold a comment.",
         ..ANYWHERE
     },
     Row {
-        inside: &[9],
-        may: &[12],
+        inside: &[kind::COBEGIN],
+        may: &[kind::DO],
         note: "each branch begins with a constant and 'do', as in cobegin 1 do p also 2 do q end.",
         ..ANYWHERE
     },
     Row {
-        last: &[9, 5],
+        last: &[kind::COBEGIN, kind::ALSO],
         note: "each branch begins with a constant and 'do', as in cobegin 1 do p also 2 do q end.",
         ..ANYWHERE
     },
     Row {
-        found: &[2, 3],
-        last: &[45],
-        inside: &[9],
+        found: &[kind::NUMERAL, kind::CHAR],
+        last: &[kind::SEMICOLON],
+        inside: &[kind::COBEGIN],
         note: "'also' stands between two branches, in place of a semicolon.",
         ..ANYWHERE
     },
     Row {
-        found: &[12],
-        inside: &[9],
-        may: &[5],
+        found: &[kind::DO],
+        inside: &[kind::COBEGIN],
+        may: &[kind::ALSO],
         note: "'also' stands between two branches, in place of a semicolon.",
         ..ANYWHERE
     },
     Row {
-        found: &[1],
-        last: &[20],
+        found: &[kind::NAME],
+        last: &[kind::MODULE],
         note: "a module has no name: its declarations come at once.",
         ..ANYWHERE
     },
     Row {
         found: &[
-            5, 6, 7, 8, 9, 10, 11, 12, 13, 14, 15, 16, 17, 18, 19, 20, 21, 22, 23, 24, 25, 26, 27,
-            28, 29, 30, 31, 32,
+            kind::ALSO,
+            kind::AND,
+            kind::ARRAY,
+            kind::BEGIN,
+            kind::COBEGIN,
+            kind::CONST,
+            kind::DIV,
+            kind::DO,
+            kind::ELSE,
+            kind::END,
+            kind::ENUM,
+            kind::IF,
+            kind::IN,
+            kind::LIB,
+            kind::MOD,
+            kind::MODULE,
+            kind::NOT,
+            kind::OR,
+            kind::POST,
+            kind::PRE,
+            kind::PROC,
+            kind::RECORD,
+            kind::SET,
+            kind::SKIP,
+            kind::VAL,
+            kind::VAR,
+            kind::WHEN,
+            kind::WHILE,
         ],
-        last: &[7, 10, 15, 25, 26, 27, 30],
-        may: &[1],
+        last: &[
+            kind::ARRAY,
+            kind::CONST,
+            kind::ENUM,
+            kind::PROC,
+            kind::RECORD,
+            kind::SET,
+            kind::VAR,
+        ],
+        may: &[kind::NAME],
         note: "this is a word of the language, so it cannot be a name.",
         ..ANYWHERE
     },
     Row {
-        last: &[13],
+        last: &[kind::ELSE],
         note: "after 'else' comes a condition, without 'if': 'else x > 0 do' is a further case, and 'else true do' takes all other cases.",
         ..ANYWHERE
     },
     Row {
-        found: &[43],
-        may: &[12],
+        found: &[kind::DO],
+        last: &[kind::IF, kind::WHEN, kind::WHILE],
+        note: "a condition stands before 'do', as in when x > 0 do ... end; 'when true do' waits for nothing.",
+        ..ANYWHERE
+    },
+    Row {
+        found: &[kind::BECOMES],
+        may: &[kind::DO],
         note: "a condition stands here, up to its 'do', and '=' compares two values; after 'else' comes a condition too: 'else true do'.",
         ..ANYWHERE
     },
     Row {
-        found: &[43],
-        inside: &[47, 49],
-        may: &[33],
+        found: &[kind::BECOMES],
+        inside: &[kind::OPEN, kind::OPEN_BRACKET],
+        may: &[kind::EQUAL],
         note: "a ')' or a ']' is missing before this one, or '=' is meant.",
         ..ANYWHERE
     },
     Row {
-        found: &[43],
-        may: &[33],
+        found: &[kind::BECOMES],
+        may: &[kind::EQUAL],
         note: "':=' assigns a value to a variable; '=' compares two values, and gives a constant its value.",
         ..ANYWHERE
     },
     Row {
-        found: &[33],
-        may: &[43],
+        found: &[kind::EQUAL],
+        may: &[kind::BECOMES],
         note: "'=' compares two values; ':=' assigns one.",
         ..ANYWHERE
     },
     Row {
-        found: &[33, 35, 37],
-        last: &[33, 35, 37],
+        found: &[kind::EQUAL, kind::LESS, kind::GREATER],
+        last: &[kind::EQUAL, kind::LESS, kind::GREATER],
         note: "the comparisons are '=', '<>', '<', '<=', '>' and '>='.",
         ..ANYWHERE
     },
     Row {
-        found: &[8],
-        may: &[28],
+        found: &[kind::BEGIN],
+        may: &[kind::SKIP],
         note: "here come statements, without a 'begin': only a procedure and a module have one.",
         ..ANYWHERE
     },
     Row {
-        found: &[45, 0, 5, 13, 14],
-        last: &[8, 12],
-        may: &[28],
+        found: &[
+            kind::SEMICOLON,
+            kind::END_OF_TEXT,
+            kind::ALSO,
+            kind::ELSE,
+            kind::END,
+        ],
+        last: &[kind::BEGIN, kind::DO],
+        may: &[kind::SKIP],
         note: "a list of statements is never empty; 'skip' does nothing.",
         ..ANYWHERE
     },
     Row {
-        found: &[45, 0, 5, 13, 14],
-        last: &[45],
-        may: &[28],
+        found: &[
+            kind::SEMICOLON,
+            kind::END_OF_TEXT,
+            kind::ALSO,
+            kind::ELSE,
+            kind::END,
+        ],
+        last: &[kind::SEMICOLON],
+        may: &[kind::SKIP],
         note: "one semicolon stands between two statements; none stands before 'end', 'else' or 'also'.",
         ..ANYWHERE
     },
     Row {
-        found: &[8, 48, 7, 10, 15, 20, 23, 24, 25, 26, 27, 30],
-        last: &[45],
-        may: &[1],
-        not_these: &[28],
+        found: &[
+            kind::BEGIN,
+            kind::CLOSE,
+            kind::ARRAY,
+            kind::CONST,
+            kind::ENUM,
+            kind::MODULE,
+            kind::POST,
+            kind::PRE,
+            kind::PROC,
+            kind::RECORD,
+            kind::SET,
+            kind::VAR,
+        ],
+        last: &[kind::SEMICOLON],
+        may: &[kind::NAME],
+        not_these: &[kind::SKIP],
         note: "a semicolon stands between two groups of names; none stands after the last one.",
         ..ANYWHERE
     },
     Row {
-        found: &[45],
-        may: &[8],
+        found: &[kind::SEMICOLON],
+        may: &[kind::BEGIN],
         note: "no semicolon stands after a heading, a declaration or a procedure.",
         ..ANYWHERE
     },
     Row {
-        found: &[46],
-        last: &[2],
-        not_these: &[42],
+        found: &[kind::PERIOD],
+        last: &[kind::NUMERAL],
+        not_these: &[kind::COLON],
         note: "a number is whole: it has no part after a period.",
         ..ANYWHERE
     },
     Row {
-        found: &[49],
-        last: &[1],
-        may: &[45],
+        found: &[kind::OPEN_BRACKET],
+        last: &[kind::NAME],
+        may: &[kind::SEMICOLON],
         note: "an array has a type of its own: array t [1:10] (int) and, after it, var x: t.",
         ..ANYWHERE
     },
     Row {
-        found: &[44],
-        inside: &[49],
-        may: &[50],
+        found: &[kind::COMMA],
+        inside: &[kind::OPEN_BRACKET],
+        may: &[kind::CLOSE_BRACKET],
         note: "a pair of brackets holds one index: a[i][j], not a[i, j].",
         ..ANYWHERE
     },
     Row {
-        found: &[33, 34, 35, 36, 37, 38, 17],
-        may: &[12],
+        found: &[
+            kind::EQUAL,
+            kind::NOT_EQUAL,
+            kind::LESS,
+            kind::AT_MOST,
+            kind::GREATER,
+            kind::AT_LEAST,
+            kind::IN,
+        ],
+        may: &[kind::DO],
         note: "a condition has one comparison outside parentheses, as in (x > 0) and (x < 9).",
         ..ANYWHERE
     },
     Row {
-        found: &[45, 0, 5, 13, 14],
-        may: &[12],
+        found: &[
+            kind::SEMICOLON,
+            kind::END_OF_TEXT,
+            kind::ALSO,
+            kind::ELSE,
+            kind::END,
+        ],
+        may: &[kind::DO],
         note: "after a condition comes 'do'; after 'else' comes a condition too: 'else true do' takes all other cases.",
         ..ANYWHERE
     },
     Row {
-        may: &[12],
+        may: &[kind::DO],
         note: "after a condition comes 'do', and no 'begin'.",
         ..ANYWHERE
     },
     Row {
-        found: &[2, 3, 4],
-        may: &[47, 43],
+        found: &[kind::NUMERAL, kind::CHAR, kind::TEXT],
+        may: &[kind::OPEN, kind::BECOMES],
         note: "the arguments of a call stand in parentheses.",
         ..ANYWHERE
     },
     Row {
-        found: &[39, 40],
-        may: &[43],
+        found: &[kind::PLUS, kind::MINUS],
+        may: &[kind::BECOMES],
         note: "a variable is changed by ':=', as in x := x + 1.",
         ..ANYWHERE
     },
     Row {
-        found: &[42],
-        may: &[43],
+        found: &[kind::COLON],
+        may: &[kind::BECOMES],
         note: "':=' is one symbol; variables are declared before 'begin'.",
         ..ANYWHERE
     },
     Row {
-        found: &[1, 9, 16, 28, 29, 31, 32],
-        may: &[45, 14],
+        found: &[kind::NAME],
+        last: &[kind::NAME],
+        may: &[kind::OPEN, kind::BECOMES],
+        note: "a semicolon stands between two statements, and the arguments of a call stand in parentheses.",
+        ..ANYWHERE
+    },
+    Row {
+        found: &[
+            kind::NAME,
+            kind::COBEGIN,
+            kind::IF,
+            kind::SKIP,
+            kind::VAL,
+            kind::WHEN,
+            kind::WHILE,
+        ],
+        may: &[kind::SEMICOLON, kind::END],
         note: "a semicolon stands between two statements.",
         ..ANYWHERE
     },
     Row {
-        found: &[1],
-        last: &[1],
-        may: &[44, 42],
+        found: &[kind::BEGIN],
+        may: &[kind::END],
+        note: "an 'end' is missing before this 'begin', or it is a 'begin' too many: only a procedure and a module have one.",
+        ..ANYWHERE
+    },
+    Row {
+        found: &[kind::END],
+        may: &[kind::BEGIN],
+        note: "here come declarations or a 'begin': an 'end' too many stands here or before, or a 'begin' is missing.",
+        ..ANYWHERE
+    },
+    Row {
+        found: &[kind::NAME],
+        last: &[kind::NAME],
+        may: &[kind::COMMA, kind::COLON],
         note: "the name comes first and then its type, as in x: int; a comma stands between two names.",
         ..ANYWHERE
     },
     Row {
-        found: &[33, 43],
-        may: &[8, 45],
-        not_these: &[47],
+        found: &[kind::EQUAL, kind::BECOMES],
+        may: &[kind::BEGIN, kind::SEMICOLON],
+        not_these: &[kind::OPEN],
         note: "a declaration gives no value: write var x: int, and x := 1 after 'begin'.",
         ..ANYWHERE
     },
     Row {
-        found: &[39, 40],
-        may: &[2],
-        not_these: &[21],
+        found: &[kind::PLUS, kind::MINUS],
+        may: &[kind::NUMERAL],
+        not_these: &[kind::NOT],
         note: "a constant has no sign: declare it without one, and write the sign where it is used, as in x := -c.",
         ..ANYWHERE
     },
     Row {
-        found: &[39, 40],
-        may: &[2, 21],
+        found: &[kind::PLUS, kind::MINUS],
+        may: &[kind::NUMERAL, kind::NOT],
         note: "a sign stands before the first operand alone, as in 2 * (-1).",
         ..ANYWHERE
     },
     Row {
-        may: &[47],
-        not_these: &[1, 8, 12, 39, 42, 43, 45, 48, 50],
+        may: &[kind::OPEN],
+        not_these: &[
+            kind::NAME,
+            kind::BEGIN,
+            kind::DO,
+            kind::PLUS,
+            kind::COLON,
+            kind::BECOMES,
+            kind::SEMICOLON,
+            kind::CLOSE,
+            kind::CLOSE_BRACKET,
+        ],
         note: "after the name of a type come parentheses: array t [1:10] (int), enum e (a, b), record r (a: int; b: char) or set s (int).",
         ..ANYWHERE
     },
     Row {
-        may: &[49],
-        not_these: &[47, 1, 8, 12, 39, 42, 43, 45, 48, 50],
+        may: &[kind::OPEN_BRACKET],
+        not_these: &[
+            kind::OPEN,
+            kind::NAME,
+            kind::BEGIN,
+            kind::DO,
+            kind::PLUS,
+            kind::COLON,
+            kind::BECOMES,
+            kind::SEMICOLON,
+            kind::CLOSE,
+            kind::CLOSE_BRACKET,
+        ],
         note: "after the name of a type come parentheses: array t [1:10] (int), enum e (a, b), record r (a: int; b: char) or set s (int).",
         ..ANYWHERE
     },
     Row {
-        last: &[7, 15, 26, 27],
-        may: &[1],
+        last: &[kind::ARRAY, kind::ENUM, kind::RECORD, kind::SET],
+        may: &[kind::NAME],
         note: "after the name of a type come parentheses: array t [1:10] (int), enum e (a, b), record r (a: int; b: char) or set s (int).",
         ..ANYWHERE
     },
     Row {
-        found: &[1],
-        may: &[45],
-        not_these: &[14],
+        found: &[kind::NAME],
+        may: &[kind::SEMICOLON],
+        not_these: &[kind::END],
         note: "a semicolon stands between two groups of names; statements stand after 'begin'.",
         ..ANYWHERE
     },
     Row {
-        found: &[44],
-        may: &[45],
-        not_these: &[14],
+        found: &[kind::COMMA],
+        may: &[kind::SEMICOLON],
+        not_these: &[kind::END],
         note: "a semicolon stands between two groups of names, as in a: int; b: char.",
         ..ANYWHERE
     },
     Row {
-        found: &[45],
-        inside: &[47, 49],
-        may: &[44],
-        not_these: &[42],
+        found: &[kind::SEMICOLON],
+        inside: &[kind::OPEN, kind::OPEN_BRACKET],
+        may: &[kind::COMMA],
+        not_these: &[kind::COLON],
         note: "a comma stands between two arguments, and ')' after the last one.",
         ..ANYWHERE
     },
     Row {
-        found: &[48],
-        last: &[47],
+        found: &[kind::CLOSE],
+        last: &[kind::OPEN],
         note: "a heading or a call without parameters has no parentheses.",
         ..ANYWHERE
     },
     Row {
-        found: &[13, 5],
-        last: &[14],
+        found: &[kind::ELSE, kind::ALSO],
+        last: &[kind::END],
         note: "one 'end' stands after the last branch, and none before 'else' or 'also'.",
         ..ANYWHERE
     },
     Row {
-        found: &[7, 10, 15, 20, 23, 24, 25, 26, 27, 30],
-        inside: &[8, 9, 16, 31, 32],
+        found: &[
+            kind::ARRAY,
+            kind::CONST,
+            kind::ENUM,
+            kind::MODULE,
+            kind::POST,
+            kind::PRE,
+            kind::PROC,
+            kind::RECORD,
+            kind::SET,
+            kind::VAR,
+        ],
+        inside: &[
+            kind::BEGIN,
+            kind::COBEGIN,
+            kind::IF,
+            kind::WHEN,
+            kind::WHILE,
+        ],
         note: "declarations stand before the 'begin' of their procedure, without a semicolon after the last; or an 'end' is missing here.",
         ..ANYWHERE
     },
     Row {
-        found: &[0],
-        may: &[14],
+        found: &[kind::END_OF_TEXT],
+        may: &[kind::END],
         note: "each 'begin', 'if', 'while', 'when' and 'cobegin' has an 'end' of its own; count them from the last one.",
         ..ANYWHERE
     },
     Row {
-        found: &[7, 10, 15, 20, 23, 24, 25, 26, 27, 30],
-        may: &[0],
+        found: &[
+            kind::ARRAY,
+            kind::CONST,
+            kind::ENUM,
+            kind::MODULE,
+            kind::POST,
+            kind::PRE,
+            kind::PROC,
+            kind::RECORD,
+            kind::SET,
+            kind::VAR,
+        ],
+        may: &[kind::END_OF_TEXT],
         note: "the program is one procedure, which has ended here; the other procedures stand in it, before its 'begin'.",
         ..ANYWHERE
     },
     Row {
-        may: &[0],
+        may: &[kind::END_OF_TEXT],
         note: "the program has ended here: an 'end' too many stands before, or something stands after it.",
         ..ANYWHERE
     },
     Row {
-        found: &[42],
-        may: &[33],
-        not_these: &[39],
+        found: &[kind::COLON],
+        may: &[kind::EQUAL],
+        not_these: &[kind::PLUS],
         note: "a constant has no type of its own, as in const c = 1.",
         ..ANYWHERE
     },
     Row {
-        found: &[7, 15, 26, 27],
-        last: &[42],
-        may: &[1],
+        found: &[kind::ARRAY, kind::ENUM, kind::RECORD, kind::SET],
+        last: &[kind::COLON],
+        may: &[kind::NAME],
         note: "here stands the name of a type that is declared before, as in array t [1:10] (int).",
         ..ANYWHERE
     },
     Row {
-        inside: &[49],
-        may: &[42],
+        inside: &[kind::OPEN_BRACKET],
+        may: &[kind::COLON],
         note: "the bounds of an array stand as in [1:10].",
         ..ANYWHERE
     },
     Row {
-        found: &[1, 9, 16, 28, 29, 31, 32],
-        inside: &[0],
-        may: &[8, 30],
+        found: &[
+            kind::NAME,
+            kind::COBEGIN,
+            kind::IF,
+            kind::SKIP,
+            kind::VAL,
+            kind::WHEN,
+            kind::WHILE,
+        ],
+        inside: &[kind::END_OF_TEXT],
+        may: &[kind::BEGIN, kind::VAR],
         note: "variables stand after 'var', as in var x: int; statements stand after 'begin'.",
         ..ANYWHERE
     },
     Row {
-        may: &[43],
+        may: &[kind::BECOMES],
         note: "a statement that begins with a name is an assignment, as in x := 1, or a call, as in p(x).",
         ..ANYWHERE
     },
     Row {
-        last: &[0],
-        may: &[25],
-        not_these: &[8],
+        last: &[kind::END_OF_TEXT],
+        may: &[kind::PROC],
+        not_these: &[kind::BEGIN],
         note: "a program begins with its constants and types and then with its procedure, as in proc main.",
         ..ANYWHERE
     },

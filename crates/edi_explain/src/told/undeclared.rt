@@ -2,10 +2,11 @@
 
 ghost use Rattle.std.specs.Prelude.{◌≡◌, ◌≤◌, ◌++◌, Some, OnOk, length};
 ghost use Rattle.edi_explain.specs.told.Explained as spec;
-ghost use Rattle.edi_explain.specs.told.Names.{only_name as only_of};
+ghost use Rattle.edi_explain.specs.told.Names.{marked_name as marked_of};
 ghost use Rattle.edi_explain.specs.told.Scanned.{HasSymbols};
 
-use crate::told::names::{declared_after, only_name};
+use crate::told::names::{declared_after, marked_name};
+use crate::told::notes::{lost_note, put_note_line};
 use crate::told::source::{put_pointed, put_whole};
 use crate::told::words::put_name;
 use crate::told::wrong::place;
@@ -14,7 +15,7 @@ use edi_texts::RefusalKind;
 use itoa::Buffer;
 use std::alloc::AllocError;
 
-// Puts behind bytes the line of the one name that can be undeclared.
+// Puts behind bytes the line of the name that is marked.
 fn put_undeclared(
     out: &mut Vec<u8>,
     text: &[u8],
@@ -30,16 +31,16 @@ fn put_undeclared(
     put_pointed(out, text, line, place(text, index))?;
     put_name(out, letters)?;
     out.extend_from_slice(b" seems to mean nothing here\n")?;
-    put_later(out, declared_after(marks, index as usize, letters))?;
+    put_later(out, letters, declared_after(marks, index as usize, letters))?;
     Ok(())
 }
 
-// Puts behind bytes where a procedure of the name is declared further down.
-fn put_later(out: &mut Vec<u8>, line: Option<u16>) -> Result<(), AllocError>
-    ensures { OnOk result (out.new.items ≡ out.old.items ++ spec.later_text line) }
+// Puts behind bytes where a procedure of the name is declared further down, or else its note.
+fn put_later(out: &mut Vec<u8>, letters: &[u8], line: Option<u16>) -> Result<(), AllocError>
+    ensures { OnOk result (out.new.items ≡ out.old.items ++ spec.later_text letters.now line) }
 {
     let Some(line) = line else {
-        return Ok(());
+        return put_note_line(out, lost_note(letters).as_bytes());
     };
     let mut buffer = Buffer::new();
     out.extend_from_slice(b"a procedure of this name is declared further down, on line ")?;
@@ -57,9 +58,9 @@ fn put_name_line(
 ) -> Result<(), AllocError>
     requires scanned { HasSymbols text.now }
     requires few { length marks.now ≤ 262144 }
-    ensures { OnOk result (out.new.items ≡ out.old.items ++ spec.name_text text.now marks.now line (only_of marks.now line)) }
+    ensures { OnOk result (out.new.items ≡ out.old.items ++ spec.name_text text.now marks.now line (marked_of marks.now line)) }
 {
-    match only_name(marks, line) {
+    match marked_name(marks, line) {
         Some((index, letters)) => put_undeclared(out, text, marks, line, index, letters),
         None => put_whole(out, text, line),
     }

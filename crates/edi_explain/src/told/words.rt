@@ -4,9 +4,9 @@ ghost use Rattle.std.specs.Prelude.{◌≡◌, ◌++◌, [], OnOk, option_copied
 ghost use Rattle.edi_explain.specs.told.Tables.{texts_of};
 ghost use Rattle.edi_explain.specs.told.Words as spec;
 
-use crate::told::numbers::kind_of;
 use crate::told::source::front_of;
 use edi_lex::{Mark, Symbol};
+use edi_phrases::{kind, kind_of};
 use std::alloc::AllocError;
 
 /// The names of the kinds by their numbers.
@@ -133,6 +133,6 @@ pub(crate) fn put_here(out: &mut Vec<u8>, here: Option<&Mark>) -> Result<(), All
 {
     match here {
         Some(mark) => put_symbol(out, &mark.symbol),
-        None => put_kind(out, 0),
+        None => put_kind(out, kind::END_OF_TEXT),
     }
 }

@@ -187,7 +187,7 @@ pub(crate) fn put_wrong(
     put_place(out, text, index, symbols.last, here)?;
     put_instead(alloc, out, here, &seen.may)?;
     put_all_held(out, innermost(&held))?;
-    put_note(out, here, before, &seen)
+    put_note(out, marks, here, before, &seen)
 }
 
 /// The index of a syntax fault, in symbols.

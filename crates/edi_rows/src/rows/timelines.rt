@@ -3,8 +3,8 @@
 use crate::rows::play::play_behind;
 use crate::rows::programs::RACE;
 
-/// The timelines of some runs: of two branches, of the same code, of other choices, of a standstill, and of a run that its bound ends. Of a picture
-/// only that it is there.
+/// The timelines of some runs: of two branches, of the same code, of other choices, of a standstill, of a run that its bound ends, and of a
+/// demonstration, whose last line no stint has shown. Of a picture only that it is there.
 const LINES: &str = "
 call 0 run race --timeline t
 shows ab
@@ -36,6 +36,11 @@ call 17 run waits --timeline w --record r
 shows standstill/
 holds w.txt 1 turns 1 2 process main from begin arrives 4/2 turns 3 3 process main from 4 standstill/
 holds r
+
+call 0 demo 1 --record q --timeline d
+shows demo 1 symbols 32 turns 11/
+holds d.txt 1 turns 1 2 process main from begin forks 2/2 turns 3 4 process 1.1 from begin arrives 4 6/3 turns 5 6 process 1.2 from begin arrives 4 7/4 turns 7 8 process 1.1 from 4 6 ends/5 turns 9 10 process 1.2 from 4 7 ends/6 turns 11 11 process main from join done/
+holds q 0/0/0/
 ";
 
 /// Words that are refused, and programs that are not run: no timeline is kept.
@@ -46,7 +51,7 @@ call 1 run race --timeline t --timeline t
 shows bad words/
 call 1 watch race race log --timeline t
 shows bad words/
-call 1 demo 3 --timeline t
+call 1 demo 0 --timeline t
 shows bad words/
 call 1 replay race race --record r --timeline t
 shows bad words/
@@ -59,7 +64,7 @@ none t.svg
 none r
 ";
 
-/// The files fail: at the record, at the lines, at the picture; and the terminal, in the run.
+/// The files fail: at the record, at the lines, at the picture; and the terminal, in the run, and after the files of a demonstration are kept.
 const FAULTS: &str = "
 files 2
 | proc main(proc display(value: char))
@@ -91,6 +96,10 @@ call 6 run race --record v --timeline w
 shows ab/file fault/
 holds v 0/0/0/
 none w.svg
+files 2
+call 6 demo 1 --timeline z
+shows file fault/
+none z.svg
 files 0
 terminal 0 0
 | proc main(proc display(value: char))
@@ -102,6 +111,8 @@ call 9 run race --record x --timeline y
 none x
 none y.txt
 none y.svg
+call 9 demo 1 --timeline z
+holds z.txt 1 turns 1 2 process main from begin forks 2/2 turns 3 4 process 1.1 from begin arrives 4 6/3 turns 5 6 process 1.2 from begin arrives 4 7/4 turns 7 8 process 1.1 from 4 6 ends/5 turns 9 10 process 1.2 from 4 7 ends/6 turns 11 11 process main from join done/
 ";
 
 #[test]

@@ -15,7 +15,8 @@ use Rattle.edi_statuses.specs.Always.{HasBlocks, IsInRange, IsStopped, MayEnd, S
 use Rattle.edi_statuses.proofs.always.Steps.{ComesTo, boot_some, choices_some, exec_some, fetches_some, get_some, list_some, old_steps_some, put_some, ready_some, run_some}
 use Rattle.edi_statuses.proofs.always.Steps.{text_some, watch_some}
 use Rattle.edi_statuses.proofs.always.Plain.{compile_may, explore_may, get_may, list_may, new_disk_may}
-use Rattle.edi_statuses.proofs.always.Programs.{demo_may, exec_may, replay_may, run_may, walk_may, watch_may}
+use Rattle.edi_statuses.proofs.always.Programs.{exec_may, replay_may, run_may, walk_may, watch_may}
+use Rattle.edi_statuses.proofs.always.Demonstrations.{demo_may, time_demo_may}
 use Rattle.edi_statuses.proofs.always.Timelines.{time_code_may, time_may}
 use Rattle.edi_statuses.proofs.always.OldDisks.{old_disk_may}
 use Rattle.edi_statuses.proofs.always.Puts.{put_may}
@@ -71,6 +72,8 @@ module _ (files : Contents) (d : Devices) (kernel : KernelLeft) where
       step_of (words.time file out o) (RunSteps (told_outside files d) file o.choices) (run_some files d file o.choices) (λ s h. (h, inl (h, nothing)))
   some_of (words.time_code file out o) =
       step_of (words.time_code file out o) (ExecSteps (told_outside files d) file o.choices) (exec_some files d file o.choices) (λ s h. (h, inl (h, nothing)))
+  some_of (words.time_demo n out o) =
+      step_of (words.time_demo n out o) (DemoSteps (told_outside files d) o.choices) (choices_some files d o.choices) (λ s h. (h, inl (h, nothing)))
 
   open_of : (c : Command) → is_open c ≡ true → IsInRange c → HasBlocks d → MayEnd c files d kernel
   open_of (words.run file o) is range sized = run_may files d kernel sized file o
@@ -91,6 +94,7 @@ module _ (files : Contents) (d : Devices) (kernel : KernelLeft) where
   open_of (words.explore file o) is range sized = explore_may files d kernel file o
   open_of (words.time file out o) is range sized = time_may files d kernel sized file out o
   open_of (words.time_code file out o) is range sized = time_code_may files d kernel sized file out o
+  open_of (words.time_demo n out o) is range sized = time_demo_may files d kernel n o range.0 range.1 out
 
 -- THE LAWS
 pub some_step : SomeStep

@@ -13,8 +13,6 @@ use Rattle.edi_target.specs.Check.{CodeParts}
 use Rattle.edi_texts.specs.Texts.{IsUnit}
 use Rattle.edi_texts.proofs.Executions.{accepted_texts_run}
 use Rattle.edi_unit.specs.Tree.{ProgramUnit}
-use Rattle.edi_utils.specs.Demo.{demo_text}
-use Rattle.edi_utils.proofs.demonstrated.Accepted.{demonstrations_are_accepted}
 use Rattle.edi_walk.specs.Walk.{WalkEnds}
 use Rattle.edi_walk.proofs.Ends.{every_walk_ends}
 use Rattle.edi_runs.specs.watch.Logs.{IsLogOf}
@@ -23,12 +21,12 @@ use Rattle.edi_words.specs.Words.{ChoicesFrom, Command, Options}
 use Rattle.edi_statuses.specs.Outside.{Outside, Devices, Kept, KernelLeft, system_on, with_kept}
 use Rattle.edi_statuses.specs.Steps.{goes, ◌>>=◌, Accepts, FindsPoints, Fetches, Loads, Mounts, ReadsChoices, Ready}
 use Rattle.edi_statuses.specs.Executions.{Runnable, text, code, record_of, status_of}
-use Rattle.edi_statuses.specs.Commands.{Demonstrates, Runs, Watches, RunSteps, ExecSteps, WatchSteps, PointSteps, DemoSteps, size_shown}
+use Rattle.edi_statuses.specs.Commands.{Runs, Watches, RunSteps, ExecSteps, WatchSteps, PointSteps}
 use Rattle.edi_statuses.specs.Walked.{Walks}
 use Rattle.edi_statuses.specs.Decided.{IsDecisive}
 use Rattle.edi_statuses.specs.EachObject.{LeavesEach}
 use Rattle.edi_statuses.specs.Always.{HasBlocks, MayCome, MayEnd, told_outside}
-use Rattle.edi_statuses.proofs.always.Steps.{choices_some, exec_some, run_some, watch_some}
+use Rattle.edi_statuses.proofs.always.Steps.{exec_some, run_some, watch_some}
 use Rattle.edi_statuses.proofs.always.Ends.{does_some, of_table}
 use Rattle.edi_statuses.proofs.always.Executions.{HasGone, IsRun, code_runs, count_at, devices_at, gone_first, gone_keeps, grows_at, shown_by_then}
 use Rattle.edi_statuses.proofs.always.Executions.{shrinks_at, text_runs}
@@ -268,52 +266,6 @@ module _ (c : Command) (files : Contents) (d : Devices) (kernel : KernelLeft) wh
             };
           }
 
-  -- ---- a demonstration, which has no disk and an empty input of its own
-
-  abbrev own : Devices
-  own = record { blocks = []; input = []; shown = d.shown; printed = d.printed }
-
-  abbrev all_shown : (n bound : ℕ) (choices : Choices) → IsRun (text (demo_text n)) bound choices own → List ℕ
-  all_shown n bound choices run =
-      shown_by_then own run.last run.gone ++ size_shown (status_of run.ending) n run.left.used (shown_by_then own run.last run.gone)
-
-  abbrev demo_devices : (n bound : ℕ) (choices : Choices) → IsRun (text (demo_text n)) bound choices own → Devices
-  demo_devices n bound choices run =
-      record { blocks = d.blocks; input = d.input; shown = d.shown ++ all_shown n bound choices run; printed = run.last.printed }
-
-  demo_some : (n bound : ℕ) (choices : Choices) (record_file : Option (List ℕ)) (run : IsRun (text (demo_text n)) bound choices own)
-      → MayCome c (Demonstrates n bound choices record_file) files d kernel
-  demo_some n bound choices record_file run = record {
-    answer = status_of run.ending;
-    decisive = decisive run.ending;
-    files_after = with_kept (record_of record_file choices run.drawn) files;
-    devices_after = demo_devices n bound choices run;
-    sized = λ h. h;
-    shown = all_shown n bound choices run;
-    left = run.left;
-    comes = record {
-      by_program = shown_by_then own run.last run.gone;
-      shown_ = refl;
-      ran = record {
-        disk = run.gone.image.image.blocks;
-        left = run.last.input;
-        is = record {
-          ending = run.ending;
-          drawn = run.drawn;
-          within = run.within;
-          used = run.used;
-          status_is = refl;
-          ran = run.ran (d.shown ++ all_shown n bound choices run);
-          keeps = refl;
-        };
-        blocks = refl;
-        input = refl;
-      };
-    };
-    shows = refl;
-    each = record { drive = λ e valid. valid; input = (0, refl); printer = grows_at own run.last run.gone };
-  }
-
 module _ (files : Contents) (d : Devices) (kernel : KernelLeft) (sized : HasBlocks d) where
   pub run_may : (file : List ℕ) (o : Options) → MayEnd (words.run file o) files d kernel
   run_may file o =
@@ -356,12 +308,3 @@ module _ (files : Contents) (d : Devices) (kernel : KernelLeft) (sized : HasBloc
       watches_some (words.watch file points_file out o) files d kernel a.0 a.2 o.turns a.1 out o.record_file
       (text_runs a.0 ready.0.0.0 ready.0.0.1 o.turns a.1 d sized ready.1)
       (log_some (words.watch file points_file out o) files d kernel a.0 ready.0.0.0 ready.0.0.1 o.turns a.1 a.2))) (λ s after shown k h. h)
-
-pub demo_may : (files : Contents) (d : Devices) (kernel : KernelLeft) (n : ℕ) (o : Options) → 1 ≤ n → n ≤ 1000 → MayEnd (words.demo n o) files d kernel
-demo_may files d kernel n o least most =
-    of_table (words.demo n o) files d kernel _
-    (does_some (words.demo n o) files d kernel (DemoSteps (told_outside files d) o.choices) (λ choices. Demonstrates n o.turns choices o.record_file)
-    (choices_some files d o.choices)
-    (λ choices went. let accepted = demonstrations_are_accepted n least most in
-    demo_some (words.demo n o) files d kernel n o.turns choices o.record_file
-    (text_runs (demo_text n) accepted.unit accepted.unit_is o.turns choices (own (words.demo n o) files d kernel) refl refl))) (λ s after shown k h. h)

@@ -100,38 +100,40 @@ module _ (c : Command) where
       chosen (bytes_eq name (codes "explore")) _ _ (made (λ p. words.explore p.0 p.1) (explored_file operands g) (λ p e. tt))
       (chosen (has_no_exploring g) _ _ (plain_is name operands g) none_is)
 
-  -- a command with a timeline has no number and no title
-  timed_is : (out : Text) (plain : Command) → timed out plain ≡ Some c → IsInRange c
-  timed_is out (words.run file o) h = subst IsInRange (ap (λ x. unwrap_or x (words.time file out o)) h) tt
-  timed_is out (words.exec file o) h = subst IsInRange (ap (λ x. unwrap_or x (words.time_code file out o)) h) tt
-  timed_is out (words.replay file choices turns) h =
+module _ (c : Command) where
+  -- a command with a timeline has the number of the one without it, and no title
+  timed_is : (out : Text) (plain : Command) → IsInRange plain → timed out plain ≡ Some c → IsInRange c
+  timed_is out (words.run file o) range h = subst IsInRange (ap (λ x. unwrap_or x (words.time file out o)) h) tt
+  timed_is out (words.exec file o) range h = subst IsInRange (ap (λ x. unwrap_or x (words.time_code file out o)) h) tt
+  timed_is out (words.replay file choices turns) range h =
       let o : Options = record { turns = turns; choices = words.file choices; record_file = None } in
       subst IsInRange (ap (λ x. unwrap_or x (words.time file out o)) h) tt
-  timed_is out (words.boot o) h = none_is h
-  timed_is out (words.compile file other) h = none_is h
-  timed_is out (words.newdisk blocks old) h = none_is h
-  timed_is out (words.put file title) h = none_is h
-  timed_is out (words.get title file) h = none_is h
-  timed_is out (words.list file) h = none_is h
-  timed_is out (words.demo n o) h = none_is h
-  timed_is out (words.check file) h = none_is h
-  timed_is out (words.explain file) h = none_is h
-  timed_is out (words.walk file choices turns) h = none_is h
-  timed_is out (words.watch file stops log o) h = none_is h
-  timed_is out (words.explore file o) h = none_is h
-  timed_is out (words.time file other o) h = none_is h
-  timed_is out (words.time_code file other o) h = none_is h
+  timed_is out (words.demo n o) range h = subst IsInRange (ap (λ x. unwrap_or x (words.time_demo n out o)) h) range
+  timed_is out (words.boot o) range h = none_is c h
+  timed_is out (words.compile file other) range h = none_is c h
+  timed_is out (words.newdisk blocks old) range h = none_is c h
+  timed_is out (words.put file title) range h = none_is c h
+  timed_is out (words.get title file) range h = none_is c h
+  timed_is out (words.list file) range h = none_is c h
+  timed_is out (words.check file) range h = none_is c h
+  timed_is out (words.explain file) range h = none_is c h
+  timed_is out (words.walk file choices turns) range h = none_is c h
+  timed_is out (words.watch file stops log o) range h = none_is c h
+  timed_is out (words.explore file o) range h = none_is c h
+  timed_is out (words.time file other o) range h = none_is c h
+  timed_is out (words.time_code file other o) range h = none_is c h
+  timed_is out (words.time_demo n other o) range h = none_is c h
 
   named_timed_is : (name : Text) (operands : List Text) (g : Given)
       → option_and_then (λ out. named_timed out name operands g) (one_operand g.timelines) ≡ Some c → IsInRange c
   named_timed_is name operands g h =
       let out = then_some (λ out. named_timed out name operands g) (one_operand g.timelines) c h in
       let plain = then_some (timed out.0) (named name operands g) c out.2 in
-      timed_is out.0 plain.0 plain.2
+      timed_is out.0 plain.0 (named_is plain.0 name operands g plain.1) plain.2
 
   by_operands : (operands : List Text) (g : Given) → command_by operands g ≡ Some c → IsInRange c
-  by_operands [] g h = none_is h
-  by_operands (name ∷ operands) g h = chosen (has_no_timeline g) _ _ (named_is name operands g) (named_timed_is name operands g) h
+  by_operands [] g h = none_is c h
+  by_operands (name ∷ operands) g h = chosen c (has_no_timeline g) _ _ (named_is c name operands g) (named_timed_is name operands g) h
 
 pub words_give_ranges : WordsGiveRanges
 words_give_ranges given c h =

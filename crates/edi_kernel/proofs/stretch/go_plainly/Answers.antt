@@ -4,7 +4,7 @@ use Rattle.edi_machine.specs.declared.ends.TurnKind.TheVariants as kind
 use Rattle.edi_kernel.specs.declared.stretch.Pause.TheVariants as pause
 use Rattle.edi_kernel.specs.declared.stretch.Progress.{Progress}
 use Rattle.edi_kernel.specs.Stretch.{cleared_in, running_in, with_activity, Stretches}
-use Rattle.edi_kernel.proofs.Plain.{frame_on}
+use Rattle.edi_kernel.proofs.Plain.{segment_on}
 use Rattle.edi_kernel.proofs.Stretches.{last, measure_falls, one_more}
 use Rattle.edi_kernel.proofs.stretch.go_plainly.Goals as goal
 
@@ -21,7 +21,7 @@ plain-preserved c =
           (c.plain.invariant.reached live is_first s) (e.exact live is_first s);
       ordered = e.ordered;
       phase = e.phase refl;
-      frame = frame_on c.plain.progress.activity now.progress.activity c.plain.here now.activity e.apart.0 c.plain.invariant.frame e.frame;
+      segment = segment_on c.plain.progress.activity now.progress.activity c.plain.here now.activity e.apart.0 c.plain.invariant.segment e.segment;
       less = omega (arith, e.less, c.plain.invariant.less);
       nearer = omega (
         arith,

@@ -1,29 +1,33 @@
-use Rattle.std.proofs.Common.{◌∙◌, Some, ap, false, option_map, refl, rules, sym, true≢false}
+use Rattle.std.proofs.Common.{◌∙◌, None, Some, ap, false, option_map, refl, rules, sym, true≢false}
 use Rattle.edi_words.specs.Words as words
 use Rattle.edi_words.specs.View.{exploring_of, options_of, view}
 use Rattle.edi_words.specs.declared.commands.Command.{Command}
 use Rattle.edi_words.specs.declared.commands.Command.TheVariants as command
-use Rattle.edi_statuses.specs.EachObject.{command_does}
+use Rattle.edi_statuses.specs.EachObject.{command_does, uses_devices}
 use Rattle.edi_statuses.specs.Explored.{is_exploration}
 use Rattle.edi_statuses.specs.Outside.{kernel_of}
 use Rattle.edi_statuses.proofs.EachLeft.{same_valid, untouched, untouched_alone, untouched_but_input, untouched_but_kernel, untouched_drive}
 use Rattle.edi_statuses.proofs.Silent.{on_files}
 use Rattle.edi_statuses.proofs.Told.{told_so}
-use Rattle.edi_main.proofs.Obeyed.{counts_so, obeyed, obeyed_demo, obeyed_replay, obeyed_so, on_disk, unmounted_last, unmounted_never, unmounted_so}
-use Rattle.edi_main.proofs.Obeyed.{untouched_so}
+use Rattle.edi_main.proofs.Obeyed.{counts_so, obeyed, obeyed_demo, obeyed_replay, obeyed_so, obeyed_timed_demo, on_disk, unmounted_last, unmounted_never}
+use Rattle.edi_main.proofs.Obeyed.{came_else, came_run, never_on_disk, never_on_files, run_so, terminal_rose, unmounted_so, untouched_so}
 use Rattle.edi_main.proofs.top.perform.Goals as goal
 
 pub returns-in-Compile-clause-came : goal.returns-in-Compile-clause-came
 returns-in-Compile-clause-came g c =
-    obeyed c.args.command (command.Compile c.in-Compile.file c.in-Compile.out) c.compile_file.result c.silent.result.status c.silent.result.due _ _ _ c.in-Compile.is c.silent.ensures.status c.silent.ensures.due
-    (on_files (words.compile c.in-Compile.file.now c.in-Compile.out.now) c.compile_file.result false _ _ _ refl c.compile_file.ensures.means)
+    came_else (Some (view c.args.command)) c.silent.result.status c.silent.result.due _ _ _ _ _ _ (ap (λ x. command_does uses_devices (Some (view x))) c.in-Compile.is)
+    (never_on_files c.compile_file.result c.silent.result.status _ _ c.silent.ensures.status c.compile_file.ensures.kind)
+    (obeyed c.args.command (command.Compile c.in-Compile.file c.in-Compile.out) c.compile_file.result c.silent.result.status c.silent.result.due _ _ _ c.in-Compile.is c.silent.ensures.status c.silent.ensures.due
+    (on_files (words.compile c.in-Compile.file.now c.in-Compile.out.now) c.compile_file.result false _ _ _ refl c.compile_file.ensures.means))
 
 pub returns-in-NewDisk-clause-came : goal.returns-in-NewDisk-clause-came
 returns-in-NewDisk-clause-came g c =
-    obeyed c.args.command (command.NewDisk c.in-NewDisk.blocks c.in-NewDisk.old) c.new_by.result c.silent-in-NewDisk.result.status
+    came_else (Some (view c.args.command)) c.silent-in-NewDisk.result.status c.silent-in-NewDisk.result.due _ _ _ _ _ _ (ap (λ x. command_does uses_devices (Some (view x))) c.in-NewDisk.is)
+    (never_on_disk c.new_by.result c.silent-in-NewDisk.result.status _ _ c.silent-in-NewDisk.ensures.status c.new_by.ensures.cause.kind)
+    (obeyed c.args.command (command.NewDisk c.in-NewDisk.blocks c.in-NewDisk.old) c.new_by.result c.silent-in-NewDisk.result.status
     c.silent-in-NewDisk.result.due _ _ _ c.in-NewDisk.is c.silent-in-NewDisk.ensures.status c.silent-in-NewDisk.ensures.due
     (on_disk (words.newdisk c.in-NewDisk.blocks (option_map (λ name. name.now) c.in-NewDisk.old)) c.new_by.result _ _ _ _ c.new_by.ensures.means
-    (λ never. absurd (true≢false never)))
+    (λ never. absurd (true≢false never))))
 
 pub returns-in-NewDisk-clause-size : goal.returns-in-NewDisk-clause-size
 returns-in-NewDisk-clause-size g c =
@@ -31,20 +35,26 @@ returns-in-NewDisk-clause-size g c =
 
 pub returns-in-Put-clause-came : goal.returns-in-Put-clause-came
 returns-in-Put-clause-came g c =
-    obeyed c.args.command (command.Put c.in-Put.file c.in-Put.title) c.put.result c.silent-in-Put.result.status c.silent-in-Put.result.due _ _ _ c.in-Put.is c.silent-in-Put.ensures.status c.silent-in-Put.ensures.due
-    (on_disk (words.put c.in-Put.file.now c.in-Put.title.now) c.put.result _ _ _ _ c.put.ensures.means (λ stays. c.put.ensures.valid))
+    came_else (Some (view c.args.command)) c.silent-in-Put.result.status c.silent-in-Put.result.due _ _ _ _ _ _ (ap (λ x. command_does uses_devices (Some (view x))) c.in-Put.is)
+    (never_on_disk c.put.result c.silent-in-Put.result.status _ _ c.silent-in-Put.ensures.status c.put.ensures.cause.kind)
+    (obeyed c.args.command (command.Put c.in-Put.file c.in-Put.title) c.put.result c.silent-in-Put.result.status c.silent-in-Put.result.due _ _ _ c.in-Put.is c.silent-in-Put.ensures.status c.silent-in-Put.ensures.due
+    (on_disk (words.put c.in-Put.file.now c.in-Put.title.now) c.put.result _ _ _ _ c.put.ensures.means (λ stays. c.put.ensures.valid)))
 
 pub returns-in-Get-clause-came : goal.returns-in-Get-clause-came
 returns-in-Get-clause-came g c =
-    obeyed c.args.command (command.Get c.in-Get.title c.in-Get.file) c.get.result c.silent-in-Get.result.status c.silent-in-Get.result.due _ _ _ c.in-Get.is c.silent-in-Get.ensures.status c.silent-in-Get.ensures.due
+    came_else (Some (view c.args.command)) c.silent-in-Get.result.status c.silent-in-Get.result.due _ _ _ _ _ _ (ap (λ x. command_does uses_devices (Some (view x))) c.in-Get.is)
+    (never_on_disk c.get.result c.silent-in-Get.result.status _ _ c.silent-in-Get.ensures.status c.get.ensures.cause.kind)
+    (obeyed c.args.command (command.Get c.in-Get.title c.in-Get.file) c.get.result c.silent-in-Get.result.status c.silent-in-Get.result.due _ _ _ c.in-Get.is c.silent-in-Get.ensures.status c.silent-in-Get.ensures.due
     (on_disk (words.get c.in-Get.title.now c.in-Get.file.now) c.get.result _ _ _ _ c.get.ensures.means
-    (λ stays. told_so _ _ _ _ same_valid c.get.ensures.same))
+    (λ stays. told_so _ _ _ _ same_valid c.get.ensures.same)))
 
 pub returns-in-List-clause-came : goal.returns-in-List-clause-came
 returns-in-List-clause-came g c =
-    obeyed_so c.args.command (command.List c.in-List.file) c.list.result.status c.list.result.due _ _ _ c.in-List.is
+    came_else (Some (view c.args.command)) c.list.result.status c.list.result.due _ _ _ _ _ _ (ap (λ x. command_does uses_devices (Some (view x))) c.in-List.is)
+    (terminal_rose c.list.result.status _ _ refl (c.list.ensures.cause 0 0 0))
+    (obeyed_so c.args.command (command.List c.in-List.file) c.list.result.status c.list.result.due _ _ _ c.in-List.is
     (c.list.ensures.came (g.D.Drive.contents c.args.drive.now) (g.S.Source.left c.args.input.now) (g.P.Sink.taken c.args.printer.now)
-    (kernel_of c.args.kernel.now.store c.args.kernel.now.used))
+    (kernel_of c.args.kernel.now.store c.args.kernel.now.used)))
 
 pub returns-in-List-clause-cause : goal.returns-in-List-clause-cause
 returns-in-List-clause-cause g c =
@@ -52,16 +62,17 @@ returns-in-List-clause-cause g c =
 
 pub returns-in-Demo-clause-came : goal.returns-in-Demo-clause-came
 returns-in-Demo-clause-came g c =
-    obeyed_demo c.args.command c.in-Demo.n c.from.result c.in-Demo.options c.demonstrate.result.status c.demonstrate.result.due _ _ _ c.in-Demo.is
-    c.from.ensures (c.demonstrate.ensures.came (g.D.Drive.contents c.args.drive.now) (g.S.Source.left c.args.input.now))
+    came_run (Some (view c.args.command)) c.demonstrate.result.status c.demonstrate.result.due _ _ _ _ _ _ (ap (λ x. command_does uses_devices (Some (view x))) c.in-Demo.is) (c.demonstrate.ensures.cause (g.D.Drive.faults c.args.drive.now) (g.S.Source.faults c.args.input.now)) c.demonstrate.ensures.came.0 c.demonstrate.ensures.came.1
+    (obeyed_demo c.args.command c.in-Demo.n c.from.result c.in-Demo.options c.demonstrate.result.status c.demonstrate.result.due _ _ _ c.in-Demo.is
+    c.from.ensures (c.demonstrate.ensures.came.2 (g.D.Drive.contents c.args.drive.now) (g.S.Source.left c.args.input.now)))
 
 pub returns-in-Demo-clause-cause : goal.returns-in-Demo-clause-cause
 returns-in-Demo-clause-cause g c = c.demonstrate.ensures.cause (g.D.Drive.faults c.args.drive.now) (g.S.Source.faults c.args.input.now)
 
 pub returns-in-Walk-clause-came : goal.returns-in-Walk-clause-came
 returns-in-Walk-clause-came g c =
-    obeyed_so c.args.command (command.Walk c.in-Walk.file c.in-Walk.choices c.in-Walk.turns) c.walk_file.result.status c.walk_file.result.due _ _ _
-    c.in-Walk.is (c.walk_file.ensures.came (kernel_of c.args.kernel.now.store c.args.kernel.now.used))
+    run_so c.args.command (command.Walk c.in-Walk.file c.in-Walk.choices c.in-Walk.turns) c.walk_file.result.status c.walk_file.result.due _ _ _ _ _ _
+    c.in-Walk.is refl c.walk_file.ensures.cause (c.walk_file.ensures.came (kernel_of c.args.kernel.now.store c.args.kernel.now.used))
 
 pub returns-in-Walk-clause-size : goal.returns-in-Walk-clause-size
 returns-in-Walk-clause-size g c =
@@ -91,8 +102,9 @@ returns-in-Run-clause-untouched g c =
 
 pub returns-in-Replay-clause-came : goal.returns-in-Replay-clause-came
 returns-in-Replay-clause-came g c =
-    obeyed_replay c.args.command c.in-Replay.file c.in-Replay.choices c.in-Replay.turns c.replaying-options.result c.run_file-in-Replay.result.status
-    c.run_file-in-Replay.result.due _ _ _ c.in-Replay.is c.replaying-options.ensures.exact c.run_file-in-Replay.ensures.came
+    came_run (Some (view c.args.command)) c.run_file-in-Replay.result.status c.run_file-in-Replay.result.due _ _ _ _ _ _ (ap (λ x. command_does uses_devices (Some (view x))) c.in-Replay.is) c.run_file-in-Replay.ensures.cause c.run_file-in-Replay.ensures.came.0 c.run_file-in-Replay.ensures.came.1
+    (obeyed_replay c.args.command c.in-Replay.file c.in-Replay.choices c.in-Replay.turns c.replaying-options.result c.run_file-in-Replay.result.status
+    c.run_file-in-Replay.result.due _ _ _ c.in-Replay.is c.replaying-options.ensures.exact c.run_file-in-Replay.ensures.came.2)
 
 pub returns-in-Replay-clause-size : goal.returns-in-Replay-clause-size
 returns-in-Replay-clause-size g c =
@@ -212,9 +224,11 @@ returns-in-Demo-clause-untouched g c =
 
 pub returns-in-Check-clause-came : goal.returns-in-Check-clause-came
 returns-in-Check-clause-came g c =
-    obeyed_so c.args.command (command.Check c.in-Check.file) c.check.result.status c.check.result.due _ _ _ c.in-Check.is
+    came_else (Some (view c.args.command)) c.check.result.status c.check.result.due _ _ _ _ _ _ (ap (λ x. command_does uses_devices (Some (view x))) c.in-Check.is)
+    (terminal_rose c.check.result.status _ _ refl (c.check.ensures.cause 0 0 0))
+    (obeyed_so c.args.command (command.Check c.in-Check.file) c.check.result.status c.check.result.due _ _ _ c.in-Check.is
     (c.check.ensures.came (g.D.Drive.contents c.args.drive.now) (g.S.Source.left c.args.input.now) (g.P.Sink.taken c.args.printer.now)
-    (kernel_of c.args.kernel.now.store c.args.kernel.now.used))
+    (kernel_of c.args.kernel.now.store c.args.kernel.now.used)))
 
 pub returns-in-Check-clause-cause : goal.returns-in-Check-clause-cause
 returns-in-Check-clause-cause g c =
@@ -227,9 +241,11 @@ returns-in-Check-clause-untouched g c =
 
 pub returns-in-Explain-clause-came : goal.returns-in-Explain-clause-came
 returns-in-Explain-clause-came g c =
-    obeyed_so c.args.command (command.Explain c.in-Explain.file) c.explain_file.result.status c.explain_file.result.due _ _ _ c.in-Explain.is
+    came_else (Some (view c.args.command)) c.explain_file.result.status c.explain_file.result.due _ _ _ _ _ _ (ap (λ x. command_does uses_devices (Some (view x))) c.in-Explain.is)
+    (terminal_rose c.explain_file.result.status _ _ refl (c.explain_file.ensures.cause 0 0 0))
+    (obeyed_so c.args.command (command.Explain c.in-Explain.file) c.explain_file.result.status c.explain_file.result.due _ _ _ c.in-Explain.is
     (c.explain_file.ensures.came (g.D.Drive.contents c.args.drive.now) (g.S.Source.left c.args.input.now) (g.P.Sink.taken c.args.printer.now)
-    (kernel_of c.args.kernel.now.store c.args.kernel.now.used))
+    (kernel_of c.args.kernel.now.store c.args.kernel.now.used)))
 
 pub returns-in-Explain-clause-cause : goal.returns-in-Explain-clause-cause
 returns-in-Explain-clause-cause g c =
@@ -242,8 +258,10 @@ returns-in-Explain-clause-untouched g c =
 
 pub returns-in-Explore-clause-came : goal.returns-in-Explore-clause-came
 returns-in-Explore-clause-came g c =
-    obeyed_so c.args.command (command.Explore c.in-Explore.file c.in-Explore.options) c.explore_file.result.status c.explore_file.result.due _ _ _
-    c.in-Explore.is (c.explore_file.ensures.came (g.D.Drive.contents c.args.drive.now) (g.P.Sink.taken c.args.printer.now))
+    came_else (Some (view c.args.command)) c.explore_file.result.status c.explore_file.result.due _ _ _ _ _ _ (ap (λ x. command_does uses_devices (Some (view x))) c.in-Explore.is)
+    (terminal_rose c.explore_file.result.status _ _ refl (c.explore_file.ensures.cause 0 0))
+    (obeyed_so c.args.command (command.Explore c.in-Explore.file c.in-Explore.options) c.explore_file.result.status c.explore_file.result.due _ _ _
+    c.in-Explore.is (c.explore_file.ensures.came (g.D.Drive.contents c.args.drive.now) (g.P.Sink.taken c.args.printer.now)))
 
 pub returns-in-Explore-clause-cause : goal.returns-in-Explore-clause-cause
 returns-in-Explore-clause-cause g c = c.explore_file.ensures.cause (g.D.Drive.faults c.args.drive.now) (g.P.Sink.faults c.args.printer.now)
@@ -348,3 +366,63 @@ pub returns-in-TimeCode-clause-unmounted : goal.returns-in-TimeCode-clause-unmou
 returns-in-TimeCode-clause-unmounted g c =
     unmounted_so c.args.command (command.TimeCode c.in-TimeCode.file c.in-TimeCode.out c.in-TimeCode.options) c.time_file-in-TimeCode.result.status c.time_file-in-TimeCode.result.status _ _ c.in-TimeCode.is refl
     (unmounted_last (words.time_code c.in-TimeCode.file.now c.in-TimeCode.out.now (options_of c.in-TimeCode.options)) c.time_file-in-TimeCode.result.status _ _ refl c.time_file-in-TimeCode.ensures.unmounted)
+
+pub returns-in-TimeDemo-clause-came : goal.returns-in-TimeDemo-clause-came
+returns-in-TimeDemo-clause-came g c =
+    let came = c.demonstrate-in-TimeDemo.ensures.came in
+    came_run (Some (view c.args.command)) c.demonstrate-in-TimeDemo.result.status c.demonstrate-in-TimeDemo.result.due _ _ _ _ _ _
+    (ap (λ x. command_does uses_devices (Some (view x))) c.in-TimeDemo.is)
+    (c.demonstrate-in-TimeDemo.ensures.cause (g.D.Drive.faults c.args.drive.now) (g.S.Source.faults c.args.input.now)) came.0 came.1
+    (obeyed_timed_demo c.args.command c.in-TimeDemo.n c.from-in-TimeDemo.result c.in-TimeDemo.out c.in-TimeDemo.options
+    c.demonstrate-in-TimeDemo.result.status c.demonstrate-in-TimeDemo.result.due _ _ _ c.in-TimeDemo.is c.from-in-TimeDemo.ensures
+    (came.2 (g.D.Drive.contents c.args.drive.now) (g.S.Source.left c.args.input.now)))
+
+pub returns-in-TimeDemo-clause-cause : goal.returns-in-TimeDemo-clause-cause
+returns-in-TimeDemo-clause-cause g c =
+    c.demonstrate-in-TimeDemo.ensures.cause (g.D.Drive.faults c.args.drive.now) (g.S.Source.faults c.args.input.now)
+
+pub returns-in-TimeDemo-clause-untouched : goal.returns-in-TimeDemo-clause-untouched
+returns-in-TimeDemo-clause-untouched g c =
+    let s = c.demonstrate-in-TimeDemo.result.status in
+    let named : Command = command.TimeDemo c.in-TimeDemo.n c.in-TimeDemo.out c.in-TimeDemo.options in
+    untouched_so c.args.command named s s _ _ c.in-TimeDemo.is refl
+    (untouched_alone _ _ (view named) s refl refl (λ e. e) c.demonstrate-in-TimeDemo.ensures.no_files refl refl
+    (λ early.
+    let none = c.demonstrate-in-TimeDemo.ensures.early early in
+    record { drive = refl; input = refl; terminal = none.0; printer = none.1; kernel = none.2 }))
+
+pub returns-in-TimeDemo-clause-unmounted : goal.returns-in-TimeDemo-clause-unmounted
+returns-in-TimeDemo-clause-unmounted g c =
+    let s = c.demonstrate-in-TimeDemo.result.status in
+    let named : Command = command.TimeDemo c.in-TimeDemo.n c.in-TimeDemo.out c.in-TimeDemo.options in
+    unmounted_so c.args.command named s s _ _ c.in-TimeDemo.is refl (unmounted_never (view named) s _ _ refl refl)
+
+pub returns-in-Run-clause-came : goal.returns-in-Run-clause-came
+returns-in-Run-clause-came g c =
+    run_so c.args.command (command.Run c.in-Run.file c.in-Run.options) c.run_file.result.status c.run_file.result.due _ _ _ _ _ _
+    c.in-Run.is refl c.run_file.ensures.cause c.run_file.ensures.came
+
+pub returns-in-Exec-clause-came : goal.returns-in-Exec-clause-came
+returns-in-Exec-clause-came g c =
+    run_so c.args.command (command.Exec c.in-Exec.file c.in-Exec.options) c.run_file-in-Exec.result.status c.run_file-in-Exec.result.due _ _ _ _ _ _
+    c.in-Exec.is refl c.run_file-in-Exec.ensures.cause c.run_file-in-Exec.ensures.came
+
+pub returns-in-Watch-clause-came : goal.returns-in-Watch-clause-came
+returns-in-Watch-clause-came g c =
+    run_so c.args.command (command.Watch c.in-Watch.file c.in-Watch.stops c.in-Watch.out c.in-Watch.options) c.watch_file.result.status c.watch_file.result.due _ _ _ _ _ _
+    c.in-Watch.is refl c.watch_file.ensures.cause c.watch_file.ensures.came
+
+pub returns-in-Time-clause-came : goal.returns-in-Time-clause-came
+returns-in-Time-clause-came g c =
+    run_so c.args.command (command.Time c.in-Time.file c.in-Time.out c.in-Time.options) c.time_file.result.status c.time_file.result.due _ _ _ _ _ _
+    c.in-Time.is refl c.time_file.ensures.cause c.time_file.ensures.came
+
+pub returns-in-TimeCode-clause-came : goal.returns-in-TimeCode-clause-came
+returns-in-TimeCode-clause-came g c =
+    run_so c.args.command (command.TimeCode c.in-TimeCode.file c.in-TimeCode.out c.in-TimeCode.options) c.time_file-in-TimeCode.result.status c.time_file-in-TimeCode.result.due _ _ _ _ _ _
+    c.in-TimeCode.is refl c.time_file-in-TimeCode.ensures.cause c.time_file-in-TimeCode.ensures.came
+
+pub returns-in-Boot-clause-came : goal.returns-in-Boot-clause-came
+returns-in-Boot-clause-came g c =
+    came_run (Some (view c.args.command)) c.boot.result.status c.boot.result.due _ _ _ _ _ _ (ap (λ x. command_does uses_devices (Some (view x))) c.in-Boot.is) c.boot.ensures.cause None tt
+    (obeyed_so c.args.command (command.Boot c.in-Boot.options) c.boot.result.status c.boot.result.due _ _ _ c.in-Boot.is c.boot.ensures.came)

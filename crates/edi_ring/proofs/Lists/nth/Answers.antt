@@ -1,9 +1,12 @@
-use Rattle.std.proofs.Common.{◌≡◌, sym, ◌∙◌, arith, rules}
+use Rattle.std.proofs.Common.{◌≡◌, sym, ◌∙◌, ap, arith, rules}
+use Rattle.edi_ring.specs.declared.Ends.{Ends}
 use Rattle.edi_ring.proofs.Calls as calls
 use Rattle.edi_ring.proofs.Lists.nth.Goals as goal
 
 pub loop-step-init : goal.loop-step-init
-loop-step-init g c = calls.first_index _ _ _ _ _ _ _ c.self.invariant c.self.view_is c.self.told c.self.told2 c.self.told3 c.self.told4 c.args.list c.requires
+loop-step-init g c =
+    c.number-index.ensures ∙ ap (λ (e : Ends). e.first) c.ends_at.ensures
+    ∙ calls.first_index _ _ _ _ _ _ _ c.self.invariant c.self.view_is c.self.told c.self.told2 c.self.told3 c.self.told4 c.args.list c.requires
 
 pub returns-in_err-node-clause-exact : goal.returns-in_err-node-clause-exact
 returns-in_err-node-clause-exact g c =
@@ -12,19 +15,17 @@ returns-in_err-node-clause-exact g c =
 pub returns-in_err-node-clause-sound : goal.returns-in_err-node-clause-sound
 returns-in_err-node-clause-sound g c = calls.sound _ _ _ _ _ _ _ c.self.invariant c.self.view_is c.self.told c.self.told2 c.self.told3 c.self.told4
 
-pub bounds-self-inside-node : goal.bounds-self-inside-node
-bounds-self-inside-node g c = calls.index_within _ _ _ _ _ _ _ c.self.invariant c.self.view_is c.self.told c.self.told2 c.self.told3 c.self.told4 c.args.list
-    c.loop-step._step c.in_ok-node.node (sym c.loop-step.invariant ∙ c.in_ok-node.was)
-
-pub offset_bounds-self-inside-node : goal.offset_bounds-self-inside-node
-offset_bounds-self-inside-node g c =
-    let lt = calls.index_within _ _ _ _ _ _ _ c.self.invariant c.self.view_is c.self.told c.self.told2 c.self.told3 c.self.told4 c.args.list c.loop-step._step
-    c.in_ok-node.node (sym c.loop-step.invariant ∙ c.in_ok-node.was) in
-    search rules
+pub link_at-requires : goal.link_at-requires
+link_at-requires g c = (
+  search rules,
+  calls.index_within _ _ _ _ _ _ _ c.self.invariant c.self.view_is c.self.told c.self.told2 c.self.told3 c.self.told4 c.args.list
+      c.loop-step._step c.in_ok-node.node (sym c.loop-step.invariant ∙ c.in_ok-node.was),
+)
 
 pub loop-step-preserved : goal.loop-step-preserved
 loop-step-preserved g c =
-    calls.next_index _ _ _ _ _ _ _ c.self.invariant c.self.view_is c.self.told c.self.told2 c.self.told3 c.self.told4 c.args.list c.loop-step._step
+    c.number-index-in-loop-step.ensures ∙ c.link_at.ensures
+    ∙ calls.next_index _ _ _ _ _ _ _ c.self.invariant c.self.view_is c.self.told c.self.told2 c.self.told3 c.self.told4 c.args.list c.loop-step._step
     c.in_ok-node.node c.requires (sym c.loop-step.invariant ∙ c.in_ok-node.was)
 
 pub returns-clause-exact : goal.returns-clause-exact

@@ -1,11 +1,13 @@
 -- The exits of a run of a code.
-use Rattle.std.proofs.Common.{rules, ◌≡◌, ◌∙◌, ◌+◌, ◌<◌, ◌^◌, option_map, arith, refl, sym, subst, ap}
+use Rattle.std.proofs.Common.{rules, ◌≡◌, ◌∙◌, ◌+◌, ◌<◌, ◌^◌, option_map, arith, None, Some, refl, sym, subst, ap}
 use Rattle.edi_kernel.specs.declared.ends.Ending.TheVariants as ending
 use Rattle.edi_statuses.specs.Counts.{Counts, HasCause, counts_of}
 use Rattle.edi_statuses.specs.Executions.{status_of}
 use Rattle.edi_statuses.specs.Outside.{kernel_of}
 use Rattle.edi_commands.specs.steps.NotMounted.{mount_status}
 use Rattle.edi_statuses.specs.Executions.{object_status}
+use Rattle.edi_execute.specs.Objects.{objects}
+use Rattle.edi_commands.proofs.run.Blamed.{blamed_by}
 use Rattle.edi_commands.proofs.run.Asked.{asked_so, ended_asked, failed_asked, record_asked, unmounted_asked}
 use Rattle.edi_commands.proofs.run.Left.{ending_of}
 use Rattle.edi_commands.proofs.run.Counted.{none_falls, record_cause}
@@ -16,17 +18,20 @@ use Rattle.edi_commands.proofs.run.code.run_code.Goals as goal
 
 pub returns-in-Err-clause-ran : goal.returns-in-Err-clause-ran
 returns-in-Err-clause-ran g c =
-    let n = c.in-Err.ensures.nothing_run in
-    unmounted c.args.code.now c.args.turns c.args.choices.now.source (option_map (λ name. name.now) c.args.record_file) c.stopped.result.status
-    c.stopped.result.due _ _ _ c.in-Err.why (c.stopped.ensures.status_is ∙ c.mount_status.ensures.exact) c.stopped.ensures.due
-    (record {
-      files = refl;
-      blocks = c.in-Err.ensures.not_mounted;
-      input = ap g.S.Source.left n.0;
-      shown = ap g.T.Sink.taken n.1;
-      printed = ap g.P.Sink.taken n.2;
-      kernel_same = ap (λ k. kernel_of k.store k.used) n.3;
-    })
+    let n = c.in-Err.ensures.nothing_run in (
+      None,
+      tt,
+      unmounted c.args.code.now c.args.turns c.args.choices.now.source (option_map (λ name. name.now) c.args.record_file) c.stopped.result.status
+          c.stopped.result.due _ _ _ c.in-Err.why (c.stopped.ensures.status_is ∙ c.mount_status.ensures.exact) c.stopped.ensures.due
+          (record {
+            files = refl;
+            blocks = c.in-Err.ensures.not_mounted;
+            input = ap g.S.Source.left n.0;
+            shown = ap g.T.Sink.taken n.1;
+            printed = ap g.P.Sink.taken n.2;
+            kernel_same = ap (λ k. kernel_of k.store k.used) n.3;
+          }),
+    )
 
 pub returns-in-Err-clause-later : goal.returns-in-Err-clause-later
 returns-in-Err-clause-later g c =
@@ -36,12 +41,18 @@ returns-in-Err-clause-later g c =
 pub returns-in-Some-clause-ran : goal.returns-in-Some-clause-ran
 returns-in-Some-clause-ran g c =
     let l = c.in-Ok.ensures.leaves in
-    let few : c.args.choices.now.drawn + c.from.result < 2 ^ 64 = search rules in
-    with_bound c.from.result c.args.turns (search rules) _ _ _ _ _ _ _ _
-    (broke c.args.code.now c.from.result c.args.choices.now c.requires.none_drawn c.in-Ok.ran.due _ _
-    (left_on _ _ _ c.in-Ok.ensures.mounted l.told l.due)
-    (option_map (λ name. name.now) c.args.record_file) c.object_status.result c.in-Some.object _ c.object_status.ensures.exact refl
-    (c.in-Ok.ensures.call c.in-Some.object c.in-Some.is few))
+    let few : c.args.choices.now.drawn + c.from.result < 2 ^ 64 = search rules in (
+      Some c.in-Some.object,
+      blamed_by g.D.Drive.faults g.S.Source.faults g.T.Sink.faults g.P.Sink.faults
+          (objects c.args.drive.now c.args.input.now c.args.terminal.now c.args.printer.now)
+          (objects c.run_on.new.drive c.run_on.new.input c.run_on.new.terminal c.run_on.new.printer) c.object_status.result c.in-Some.object _ c.in-Some.is
+          c.in-Ok.ensures.blame,
+      with_bound c.from.result c.args.turns (search rules) _ _ _ _ _ _ _ _
+          (broke c.args.code.now c.from.result c.args.choices.now c.requires.none_drawn c.in-Ok.ran.due _ _
+          (left_on _ _ _ c.in-Ok.ensures.mounted l.told l.due)
+          (option_map (λ name. name.now) c.args.record_file) c.object_status.result c.in-Some.object _ refl c.object_status.ensures.exact refl
+          (c.in-Ok.ensures.call c.in-Some.object c.in-Some.is few)),
+    )
 
 pub returns-in-Some-clause-later : goal.returns-in-Some-clause-later
 returns-in-Some-clause-later g c =
@@ -52,14 +63,17 @@ pub returns-clause-ran : goal.returns-clause-ran
 returns-clause-ran g c =
     let l = c.in-Ok.ensures.leaves in
     let few : c.args.choices.now.drawn + c.from.result < 2 ^ 64 = search rules in
-    let unfailed : c.in-Ok.ran.ending ≡ ending.Fault → ⊥ = search rules in
-    rw c.end_with_record.ensures.due
-    (with_bound c.from.result c.args.turns (search rules) _ _ _ _ _ _ _ _
-    (ended_so c.args.code.now c.from.result c.args.choices.now c.requires.none_drawn c.in-Ok.ran.due _ _
-    (left_on _ _ _ c.in-Ok.ensures.mounted l.told l.due)
-    c.in-Ok.ran.ending unfailed c.run_on.new.choices (omega (arith, c.run_on.ensures.drawn, c.requires.none_drawn)) _ c.in-Ok.ensures.used (l.runs few)
-    (option_map (λ name. name.now) c.args.record_file) c.ending_status.result c.end_with_record.result.status c.ending_status.ensures.exact
-    c.run_on.ensures.source c.end_with_record.ensures.keeps))
+    let unfailed : c.in-Ok.ran.ending ≡ ending.Fault → ⊥ = search rules in (
+      None,
+      tt,
+      rw c.end_with_record.ensures.due
+          (with_bound c.from.result c.args.turns (search rules) _ _ _ _ _ _ _ _
+          (ended_so c.args.code.now c.from.result c.args.choices.now c.requires.none_drawn c.in-Ok.ran.due _ _
+          (left_on _ _ _ c.in-Ok.ensures.mounted l.told l.due)
+          c.in-Ok.ran.ending unfailed c.run_on.new.choices (omega (arith, c.run_on.ensures.drawn, c.requires.none_drawn)) _ c.in-Ok.ensures.used (l.runs few)
+          (option_map (λ name. name.now) c.args.record_file) c.ending_status.result c.end_with_record.result.status c.ending_status.ensures.exact
+          c.run_on.ensures.source c.end_with_record.ensures.keeps)),
+    )
 
 pub returns-clause-later : goal.returns-clause-later
 returns-clause-later g c =

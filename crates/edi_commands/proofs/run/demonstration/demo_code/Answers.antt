@@ -11,7 +11,6 @@ returns-in-Ok c = record {
 
 pub returns : goal.returns
 returns c = record {
-  made = c.refusal_status.ensures.exact
-      ∙ demo_wants c.args.n c.requires.some c.requires.many c.deref-2.result.now c.in-Err.refusal (c.deref-2.ensures.value ∙ c.in_ok-text.ensures.exact)
-      c.in-Err.ensures.exact;
+  made = demo_wants c.args.n c.requires.some c.requires.many c.deref-2.result.now c.in-Err.status (c.deref-2.ensures.value ∙ c.in_ok-text.ensures.exact)
+      c.in-Err.ensures.reads;
 }

@@ -1,5 +1,5 @@
 -- The exits of a watched run.
-use Rattle.std.proofs.Common.{rules, ◌≡◌, ◌∙◌, ◌+◌, ◌<◌, ◌^◌, option_map, arith, refl, sym, subst, ap}
+use Rattle.std.proofs.Common.{rules, ◌≡◌, ◌∙◌, ◌+◌, ◌<◌, ◌^◌, option_map, arith, None, Some, refl, sym, subst, ap}
 use Rattle.edi_kernel.specs.declared.ends.Ending.TheVariants as ending
 use Rattle.edi_debug.specs.Points.{watched_in}
 use Rattle.edi_statuses.specs.Counts.{Counts, HasCause, counts_of}
@@ -9,6 +9,8 @@ use Rattle.edi_statuses.specs.Outside.{Outside, kernel_of, outside_of}
 use Rattle.edi_statuses.proofs.Silent.{nothing_seen}
 use Rattle.edi_commands.specs.steps.NotMounted.{mount_status}
 use Rattle.edi_statuses.specs.Executions.{object_status}
+use Rattle.edi_execute.specs.Objects.{objects}
+use Rattle.edi_commands.proofs.run.Blamed.{blamed_by}
 use Rattle.edi_commands.proofs.run.Asked.{asked_so, ended_asked, failed_asked, unmounted_asked}
 use Rattle.edi_commands.proofs.run.Left.{ending_of}
 use Rattle.edi_commands.proofs.run.LogKept.{log_asked, log_cause}
@@ -22,10 +24,13 @@ use Rattle.edi_commands.proofs.run.logging.watch_program.Goals as goal
 pub returns-in_default-clause-ran : goal.returns-in_default-clause-ran
 returns-in_default-clause-ran g c =
     let before : Outside = outside_of g.F.Files.contents g.D.Drive.contents g.S.Source.left g.T.Sink.taken g.P.Sink.taken c.args.files.now
-    c.args.drive.now c.args.input.now c.args.terminal.now c.args.printer.now in
-    no_log c.args.watched.now (watched_in c.args.points.now) c.args.turns c.args.out.now (option_map (λ name. name.now) c.args.record_file) before before
-    c.args.choices.now.source c.stopped.result.status c.stopped.result.due _ c.stopped.ensures.status_is c.stopped.ensures.due
-    (nothing_seen before (kernel_of c.args.kernel.now.store c.args.kernel.now.used))
+    c.args.drive.now c.args.input.now c.args.terminal.now c.args.printer.now in (
+      None,
+      tt,
+      no_log c.args.watched.now (watched_in c.args.points.now) c.args.turns c.args.out.now (option_map (λ name. name.now) c.args.record_file) before before
+          c.args.choices.now.source c.stopped.result.status c.stopped.result.due _ c.stopped.ensures.status_is c.stopped.ensures.due
+          (nothing_seen before (kernel_of c.args.kernel.now.store c.args.kernel.now.used)),
+    )
 
 pub returns-in_default-clause-asked : goal.returns-in_default-clause-asked
 returns-in_default-clause-asked g c =
@@ -33,18 +38,21 @@ returns-in_default-clause-asked g c =
 
 pub returns-in-Err-clause-ran : goal.returns-in-Err-clause-ran
 returns-in-Err-clause-ran g c =
-    let n = c.in-Err.ensures.nothing_run in
-    not_mounted c.args.watched.now (watched_in c.args.points.now) c.args.turns c.args.out.now (option_map (λ name. name.now) c.args.record_file) _ _
-    c.args.choices.now.source c.stopped-in-Err.result.status c.stopped-in-Err.result.due _ c.in-Err.why
-    (c.stopped-in-Err.ensures.status_is ∙ c.mount_status.ensures.exact) c.stopped-in-Err.ensures.due
-    (record {
-      files = refl;
-      blocks = c.in-Err.ensures.not_mounted;
-      input = ap g.S.Source.left n.0;
-      shown = ap g.T.Sink.taken n.1;
-      printed = ap g.P.Sink.taken n.2;
-      kernel_same = ap (λ k. kernel_of k.store k.used) n.3;
-    })
+    let n = c.in-Err.ensures.nothing_run in (
+      None,
+      tt,
+      not_mounted c.args.watched.now (watched_in c.args.points.now) c.args.turns c.args.out.now (option_map (λ name. name.now) c.args.record_file) _ _
+          c.args.choices.now.source c.stopped-in-Err.result.status c.stopped-in-Err.result.due _ c.in-Err.why
+          (c.stopped-in-Err.ensures.status_is ∙ c.mount_status.ensures.exact) c.stopped-in-Err.ensures.due
+          (record {
+            files = refl;
+            blocks = c.in-Err.ensures.not_mounted;
+            input = ap g.S.Source.left n.0;
+            shown = ap g.T.Sink.taken n.1;
+            printed = ap g.P.Sink.taken n.2;
+            kernel_same = ap (λ k. kernel_of k.store k.used) n.3;
+          }),
+    )
 
 pub returns-in-Err-clause-later : goal.returns-in-Err-clause-later
 returns-in-Err-clause-later g c =
@@ -53,12 +61,18 @@ returns-in-Err-clause-later g c =
 
 pub returns-in-Some-clause-ran : goal.returns-in-Some-clause-ran
 returns-in-Some-clause-ran g c =
-    let few : c.args.choices.now.drawn + c.from.result < 2 ^ 64 = search rules in
-    with_bound c.from.result c.args.turns (search rules) _ _ _ _ _ _ _ _ _ _
-    (failed_so c.args.watched.now (watched_in c.args.points.now) c.from.result c.args.out.now (option_map (λ name. name.now) c.args.record_file) _ _
-    c.args.choices.now c.requires.none_drawn c.in-Ok-watch_on.ran.due (left_on _ _ _ c.in-Ok-watch_on.ensures.mounted c.in-Ok-watch_on.ensures.told.0 c.in-Ok-watch_on.ensures.told.1)
-    c.object_status.result c.in-Some.object _ c.object_status.ensures.exact refl
-    (λ v. c.in-Ok-watch_on.ensures.call v c.in-Some.object c.in-Some.is few))
+    let few : c.args.choices.now.drawn + c.from.result < 2 ^ 64 = search rules in (
+      Some c.in-Some.object,
+      blamed_by g.D.Drive.faults g.S.Source.faults g.T.Sink.faults g.P.Sink.faults
+          (objects c.args.drive.now c.args.input.now c.args.terminal.now c.args.printer.now)
+          (objects c.watch_on.new.drive c.watch_on.new.input c.watch_on.new.terminal c.watch_on.new.printer) c.object_status.result c.in-Some.object _ c.in-Some.is
+          c.in-Ok-watch_on.ensures.blame,
+      with_bound c.from.result c.args.turns (search rules) _ _ _ _ _ _ _ _ _ _
+          (failed_so c.args.watched.now (watched_in c.args.points.now) c.from.result c.args.out.now (option_map (λ name. name.now) c.args.record_file) _ _
+          c.args.choices.now c.requires.none_drawn c.in-Ok-watch_on.ran.due (left_on _ _ _ c.in-Ok-watch_on.ensures.mounted c.in-Ok-watch_on.ensures.told.0 c.in-Ok-watch_on.ensures.told.1)
+          c.object_status.result c.in-Some.object _ refl c.object_status.ensures.exact refl
+          (λ v. c.in-Ok-watch_on.ensures.call v c.in-Some.object c.in-Some.is few)),
+    )
 
 pub returns-in-Some-clause-later : goal.returns-in-Some-clause-later
 returns-in-Some-clause-later g c =
@@ -69,15 +83,18 @@ pub returns-clause-ran : goal.returns-clause-ran
 returns-clause-ran g c =
     let few : c.args.choices.now.drawn + c.from.result < 2 ^ 64 = search rules in
     let small : c.from.result < 2 ^ 64 = search rules in
-    let unfailed : c.in-Ok-watch_on.ran.ending ≡ ending.Fault → ⊥ = search rules in
-    rw c.end_with_log.ensures.due
-    (with_bound c.from.result c.args.turns (search rules) _ _ _ _ _ _ _ _ _ _
-    (watched_so c.args.watched.now (watched_in c.args.points.now) c.from.result c.args.out.now (option_map (λ name. name.now) c.args.record_file) _ _
-    c.args.choices.now c.requires.none_drawn c.in-Ok-watch_on.ran.due (left_on _ _ _ c.in-Ok-watch_on.ensures.mounted c.in-Ok-watch_on.ensures.told.0 c.in-Ok-watch_on.ensures.told.1)
-    c.in-Ok-watch_on.ran.ending unfailed c.watch_on.new.choices (omega (arith, c.watch_on.ensures.drawn, c.requires.none_drawn)) _ c.in-Ok-watch_on.ensures.used
-    (λ v. (c.in-Ok-watch_on.ensures.leaves v).runs few) c.watch_on.new.log.bytes
-    (λ bytes is. c.in-Ok-watch_on.ensures.logs unfailed c.requires.none_drawn c.in-Ok.ensures.empty small bytes is)
-    c.ending_status.result c.end_with_log.result.status c.ending_status.ensures.exact c.watch_on.ensures.source c.end_with_log.ensures.keeps))
+    let unfailed : c.in-Ok-watch_on.ran.ending ≡ ending.Fault → ⊥ = search rules in (
+      None,
+      tt,
+      rw c.end_with_log.ensures.due
+          (with_bound c.from.result c.args.turns (search rules) _ _ _ _ _ _ _ _ _ _
+          (watched_so c.args.watched.now (watched_in c.args.points.now) c.from.result c.args.out.now (option_map (λ name. name.now) c.args.record_file) _ _
+          c.args.choices.now c.requires.none_drawn c.in-Ok-watch_on.ran.due (left_on _ _ _ c.in-Ok-watch_on.ensures.mounted c.in-Ok-watch_on.ensures.told.0 c.in-Ok-watch_on.ensures.told.1)
+          c.in-Ok-watch_on.ran.ending unfailed c.watch_on.new.choices (omega (arith, c.watch_on.ensures.drawn, c.requires.none_drawn)) _ c.in-Ok-watch_on.ensures.used
+          (λ v. (c.in-Ok-watch_on.ensures.leaves v).runs few) c.watch_on.new.log.bytes
+          (λ bytes is. c.in-Ok-watch_on.ensures.logs unfailed c.requires.none_drawn c.in-Ok.ensures.empty small bytes is)
+          c.ending_status.result c.end_with_log.result.status c.ending_status.ensures.exact c.watch_on.ensures.source c.end_with_log.ensures.keeps)),
+    )
 
 pub returns-clause-later : goal.returns-clause-later
 returns-clause-later g c =

@@ -1,5 +1,5 @@
 -- The exits of a run of a code with a timeline.
-use Rattle.std.proofs.Common.{rules, ◌≡◌, ◌∙◌, ◌+◌, ◌<◌, ◌^◌, option_map, arith, refl, sym, subst, ap}
+use Rattle.std.proofs.Common.{rules, ◌≡◌, ◌∙◌, ◌+◌, ◌<◌, ◌^◌, option_map, arith, None, Some, refl, sym, subst, ap}
 use Rattle.edi_kernel.specs.declared.ends.Ending.TheVariants as ending
 use Rattle.edi_statuses.specs.Counts.{Counts, HasCause, counts_of}
 use Rattle.edi_statuses.specs.Executions.{object_status, status_of}
@@ -8,6 +8,8 @@ use Rattle.edi_statuses.specs.declared.status.Status.TheVariants as status
 use Rattle.edi_statuses.specs.Outside.{Outside, kernel_of, outside_of}
 use Rattle.edi_statuses.proofs.Silent.{nothing_seen}
 use Rattle.edi_commands.specs.steps.NotMounted.{mount_status}
+use Rattle.edi_execute.specs.Objects.{objects}
+use Rattle.edi_commands.proofs.run.Blamed.{blamed_by}
 use Rattle.edi_commands.proofs.run.Asked.{asked_so, ended_asked, failed_asked, unmounted_asked}
 use Rattle.edi_commands.proofs.run.Left.{ending_of}
 use Rattle.edi_commands.proofs.run.Counted.{none_falls}
@@ -20,10 +22,13 @@ use Rattle.edi_commands.proofs.run.timing.time_code.Goals as goal
 pub returns-in_default-clause-ran : goal.returns-in_default-clause-ran
 returns-in_default-clause-ran g c =
     let before : Outside = outside_of g.F.Files.contents g.D.Drive.contents g.S.Source.left g.T.Sink.taken g.P.Sink.taken c.args.files.now
-    c.args.drive.now c.args.input.now c.args.terminal.now c.args.printer.now in
-    no_timeline c.args.code.now c.args.turns c.args.out.now (option_map (λ name. name.now) c.args.record_file) before before
-    c.args.choices.now.source c.stopped.result.status c.stopped.result.due _ c.stopped.ensures.status_is c.stopped.ensures.due
-    (nothing_seen before (kernel_of c.args.kernel.now.store c.args.kernel.now.used))
+    c.args.drive.now c.args.input.now c.args.terminal.now c.args.printer.now in (
+      None,
+      tt,
+      no_timeline c.args.code.now c.args.turns c.args.out.now (option_map (λ name. name.now) c.args.record_file) before before
+          c.args.choices.now.source c.stopped.result.status c.stopped.result.due _ c.stopped.ensures.status_is c.stopped.ensures.due
+          (nothing_seen before (kernel_of c.args.kernel.now.store c.args.kernel.now.used)),
+    )
 
 pub returns-in_default-clause-asked : goal.returns-in_default-clause-asked
 returns-in_default-clause-asked g c =
@@ -31,18 +36,21 @@ returns-in_default-clause-asked g c =
 
 pub returns-in-Err-clause-ran : goal.returns-in-Err-clause-ran
 returns-in-Err-clause-ran g c =
-    let n = c.in-Err.ensures.nothing_run in
-    not_mounted c.args.code.now c.args.turns c.args.out.now (option_map (λ name. name.now) c.args.record_file) _ _
-    c.args.choices.now.source c.stopped-in-Err.result.status c.stopped-in-Err.result.due _ c.in-Err.why
-    (c.stopped-in-Err.ensures.status_is ∙ c.mount_status.ensures.exact) c.stopped-in-Err.ensures.due
-    (record {
-      files = refl;
-      blocks = c.in-Err.ensures.not_mounted;
-      input = ap g.S.Source.left n.0;
-      shown = ap g.T.Sink.taken n.1;
-      printed = ap g.P.Sink.taken n.2;
-      kernel_same = ap (λ k. kernel_of k.store k.used) n.3;
-    })
+    let n = c.in-Err.ensures.nothing_run in (
+      None,
+      tt,
+      not_mounted c.args.code.now c.args.turns c.args.out.now (option_map (λ name. name.now) c.args.record_file) _ _
+          c.args.choices.now.source c.stopped-in-Err.result.status c.stopped-in-Err.result.due _ c.in-Err.why
+          (c.stopped-in-Err.ensures.status_is ∙ c.mount_status.ensures.exact) c.stopped-in-Err.ensures.due
+          (record {
+            files = refl;
+            blocks = c.in-Err.ensures.not_mounted;
+            input = ap g.S.Source.left n.0;
+            shown = ap g.T.Sink.taken n.1;
+            printed = ap g.P.Sink.taken n.2;
+            kernel_same = ap (λ k. kernel_of k.store k.used) n.3;
+          }),
+    )
 
 pub returns-in-Err-clause-later : goal.returns-in-Err-clause-later
 returns-in-Err-clause-later g c =
@@ -52,10 +60,16 @@ returns-in-Err-clause-later g c =
 pub returns-in-Some-clause-ran : goal.returns-in-Some-clause-ran
 returns-in-Some-clause-ran g c =
     let l = c.in-Ok-time_on.ensures.leaves in
-    let few : c.args.choices.now.drawn + c.args.turns < 2 ^ 64 = omega (arith, c.requires.none_drawn) in
-    failed_so c.args.code.now c.args.turns c.args.out.now (option_map (λ name. name.now) c.args.record_file) _ _ c.args.choices.now c.requires.none_drawn
-    c.in-Ok-time_on.ran.due (left_on _ _ _ c.in-Ok-time_on.ensures.mounted l.told l.due) c.object_status.result c.in-Some.object _
-    c.object_status.ensures.exact refl (c.in-Ok-time_on.ensures.call c.in-Some.object c.in-Some.is few)
+    let few : c.args.choices.now.drawn + c.args.turns < 2 ^ 64 = omega (arith, c.requires.none_drawn) in (
+      Some c.in-Some.object,
+      blamed_by g.D.Drive.faults g.S.Source.faults g.T.Sink.faults g.P.Sink.faults
+          (objects c.args.drive.now c.args.input.now c.args.terminal.now c.args.printer.now)
+          (objects c.time_on.new.drive c.time_on.new.input c.time_on.new.terminal c.time_on.new.printer) c.object_status.result c.in-Some.object _ c.in-Some.is
+          c.in-Ok-time_on.ensures.blame,
+      failed_so c.args.code.now c.args.turns c.args.out.now (option_map (λ name. name.now) c.args.record_file) _ _ c.args.choices.now c.requires.none_drawn
+          c.in-Ok-time_on.ran.due (left_on _ _ _ c.in-Ok-time_on.ensures.mounted l.told l.due) c.object_status.result c.in-Some.object _
+          refl c.object_status.ensures.exact refl (c.in-Ok-time_on.ensures.call c.in-Some.object c.in-Some.is few),
+    )
 
 pub returns-in-Some-clause-later : goal.returns-in-Some-clause-later
 returns-in-Some-clause-later g c =
@@ -66,12 +80,15 @@ pub returns-clause-ran : goal.returns-clause-ran
 returns-clause-ran g c =
     let l = c.in-Ok-time_on.ensures.leaves in
     let few : c.args.choices.now.drawn + c.args.turns < 2 ^ 64 = omega (arith, c.requires.none_drawn) in
-    let unfailed : c.in-Ok-time_on.ran.ending ≡ ending.Fault → ⊥ = search rules in
-    timed_so c.args.code.now c.args.turns c.args.out.now (option_map (λ name. name.now) c.args.record_file) _ _ c.args.choices.now c.requires.none_drawn
-    c.in-Ok-time_on.ran.due (left_on _ _ _ c.in-Ok-time_on.ensures.mounted l.told l.due) c.in-Ok-time_on.ran.ending unfailed c.time_on.new.choices
-    (omega (arith, c.time_on.ensures.drawn, c.requires.none_drawn)) _ c.in-Ok-time_on.ensures.used (l.runs few) c.time_on.new.timeline
-    (λ program is. c.in-Ok-time_on.ensures.stints unfailed c.requires.none_drawn (timable program) is) c.keep_timed-end.result c.ending_status-came.result
-    c.timed_status.result c.ending_status-came.ensures.exact c.timed_status.ensures.exact c.time_on.ensures.source c.keep_timed-end.ensures.keeps
+    let unfailed : c.in-Ok-time_on.ran.ending ≡ ending.Fault → ⊥ = search rules in (
+      None,
+      tt,
+      timed_so c.args.code.now c.args.turns c.args.out.now (option_map (λ name. name.now) c.args.record_file) _ _ c.args.choices.now c.requires.none_drawn
+          c.in-Ok-time_on.ran.due (left_on _ _ _ c.in-Ok-time_on.ensures.mounted l.told l.due) c.in-Ok-time_on.ran.ending unfailed c.time_on.new.choices
+          (omega (arith, c.time_on.ensures.drawn, c.requires.none_drawn)) _ c.in-Ok-time_on.ensures.used (l.runs few) c.time_on.new.timeline
+          (λ program is. c.in-Ok-time_on.ensures.stints unfailed c.requires.none_drawn (timable program) is) c.keep_timed-end.result c.ending_status-came.result
+          c.timed_status.result c.ending_status-came.ensures.exact c.timed_status.ensures.exact c.time_on.ensures.source c.keep_timed-end.ensures.keeps,
+    )
 
 pub returns-clause-later : goal.returns-clause-later
 returns-clause-later g c =

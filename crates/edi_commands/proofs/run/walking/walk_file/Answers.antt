@@ -1,5 +1,5 @@
 -- The exits of `walk`.
-use Rattle.std.proofs.Common.{arith, ◌∙◌, ℕ, Vec, Global, refl, sym, ap, subst, take}
+use Rattle.std.proofs.Common.{arith, ◌∙◌, ℕ, None, Vec, Global, refl, sym, ap, subst, take}
 use Rattle.edi_unit.specs.View.{unit_of}
 use Rattle.edi_words.specs.Words as words
 use Rattle.edi_statuses.specs.EachObject.{FitsCount}
@@ -15,11 +15,14 @@ pub returns-in-Err-clause-came : goal.returns-in-Err-clause-came
 returns-in-Err-clause-came g c = λ kernel.
     let before : Outside = outside_of g.F.Files.contents g.D.Drive.contents g.S.Source.left g.T.Sink.taken g.P.Sink.taken c.args.files.now
     c.args.drive.now c.args.input.now c.args.terminal.now c.args.printer.now in
-    let new = g.F.Files.contents c.fetch.new.files in
-    came_early c.args.file.now c.args.choices.now c.args.turns before kernel new c.in-Err.ensures.only.unchanged c.in-Err.status _ _
-    c.stopped.ensures.status_is c.stopped.ensures.due
-    (text_stops c.args.file.now c.args.choices.now c.args.turns before kernel {V = Vec ℕ Global} (λ v. v.items) 262145 new c.in-Err.status
-    c.in-Err.ensures.fetched)
+    let new = g.F.Files.contents c.fetch.new.files in (
+      None,
+      tt,
+      came_early c.args.file.now c.args.choices.now c.args.turns before kernel None new c.in-Err.ensures.only.unchanged c.in-Err.status _ _
+          c.stopped.ensures.status_is c.stopped.ensures.due
+          (text_stops c.args.file.now c.args.choices.now c.args.turns before kernel None {V = Vec ℕ Global} (λ v. v.items) 262145 new c.in-Err.status
+          c.in-Err.ensures.fetched),
+    )
 
 pub returns-in-Err-read_from-clause-came : goal.returns-in-Err-read_from-clause-came
 returns-in-Err-read_from-clause-came g c = λ kernel.
@@ -29,11 +32,14 @@ returns-in-Err-read_from-clause-came g c = λ kernel.
     let mid = g.F.Files.contents c.fetch.new.files in
     let new = g.F.Files.contents c.read_from.new.files in
     let first = c.in-Ok.ensures.only.unchanged in
-    let second = c.in-Err-read_from.ensures.only.unchanged in
-    came_early c.args.file.now c.args.choices.now c.args.turns before kernel new (in_turn before.files mid new first second)
-    c.in-Err-read_from.status _ _ c.stopped-in-Err-read_from.ensures.status_is c.stopped-in-Err-read_from.ensures.due
-    (choices_stop c.args.file.now c.args.choices.now c.args.turns before kernel fetched.0 mid new fetched.1 first second c.in-Err-read_from.status
-    c.in-Err-read_from.ensures.reads)
+    let second = c.in-Err-read_from.ensures.only.unchanged in (
+      None,
+      tt,
+      came_early c.args.file.now c.args.choices.now c.args.turns before kernel None new (in_turn before.files mid new first second)
+          c.in-Err-read_from.status _ _ c.stopped-in-Err-read_from.ensures.status_is c.stopped-in-Err-read_from.ensures.due
+          (choices_stop c.args.file.now c.args.choices.now c.args.turns before kernel None fetched.0 mid new fetched.1 first second c.in-Err-read_from.status
+          c.in-Err-read_from.ensures.reads),
+    )
 
 pub returns-in-Err-unit_of_text-clause-came : goal.returns-in-Err-unit_of_text-clause-came
 returns-in-Err-unit_of_text-clause-came g c = λ kernel.
@@ -43,12 +49,15 @@ returns-in-Err-unit_of_text-clause-came g c = λ kernel.
     let mid = g.F.Files.contents c.fetch.new.files in
     let new = g.F.Files.contents c.read_from.new.files in
     let first = c.in-Ok.ensures.only.unchanged in
-    let second = c.in-Ok-read_from.ensures.only.unchanged in
-    came_early c.args.file.now c.args.choices.now c.args.turns before kernel new (in_turn before.files mid new first second)
-    c.in-Err-unit_of_text.status _ _ c.stopped-in-Err-unit_of_text.ensures.status_is c.stopped-in-Err-unit_of_text.ensures.due
-    (text_refused c.args.file.now c.args.choices.now c.args.turns before kernel fetched.0 mid new fetched.1 first second c.in-Ok-read_from.chosen.source
-    c.in-Ok-read_from.ensures.reads.1 c.deref.result.now (c.deref.ensures.value ∙ fetched.2) c.in-Err-unit_of_text.status
-    c.in-Err-unit_of_text.ensures.reads)
+    let second = c.in-Ok-read_from.ensures.only.unchanged in (
+      None,
+      tt,
+      came_early c.args.file.now c.args.choices.now c.args.turns before kernel None new (in_turn before.files mid new first second)
+          c.in-Err-unit_of_text.status _ _ c.stopped-in-Err-unit_of_text.ensures.status_is c.stopped-in-Err-unit_of_text.ensures.due
+          (text_refused c.args.file.now c.args.choices.now c.args.turns before kernel None fetched.0 mid new fetched.1 first second c.in-Ok-read_from.chosen.source
+          c.in-Ok-read_from.ensures.reads.1 c.deref.result.now (c.deref.ensures.value ∙ fetched.2) c.in-Err-unit_of_text.status
+          c.in-Err-unit_of_text.ensures.reads),
+    )
 
 pub returns-clause-came : goal.returns-clause-came
 returns-clause-came g c = λ kernel.
@@ -56,13 +65,17 @@ returns-clause-came g c = λ kernel.
     c.args.drive.now c.args.input.now c.args.terminal.now c.args.printer.now in
     let after : Outside = outside_of g.F.Files.contents g.D.Drive.contents g.S.Source.left g.T.Sink.taken g.P.Sink.taken c.read_from.new.files
     c.walk_unit.new.drive c.walk_unit.new.input c.walk_unit.new.terminal c.walk_unit.new.printer in
+    let blamed = c.walk_unit.ensures.ran (g.F.Files.contents c.read_from.new.files) kernel in
     let fetched = c.in-Ok.ensures.fetched in
     let mid = g.F.Files.contents c.fetch.new.files in
-    let new = g.F.Files.contents c.read_from.new.files in
-    walk_came c.args.file.now c.args.choices.now c.args.turns before kernel fetched.0 mid new fetched.1 c.in-Ok.ensures.only.unchanged
-    c.in-Ok-read_from.ensures.only.unchanged c.in-Ok-read_from.chosen.source c.in-Ok-read_from.ensures.reads.1 c.deref.result.now
-    (c.deref.ensures.value ∙ fetched.2) c.in-Ok-unit_of_text.unit c.in-Ok-unit_of_text.ensures.reads after refl c.walk_unit.result.status
-    c.walk_unit.result.due (c.walk_unit.ensures.ran new kernel)
+    let new = g.F.Files.contents c.read_from.new.files in (
+      blamed.0,
+      blamed.1,
+      walk_came c.args.file.now c.args.choices.now c.args.turns before kernel blamed.0 fetched.0 mid new fetched.1 c.in-Ok.ensures.only.unchanged
+          c.in-Ok-read_from.ensures.only.unchanged c.in-Ok-read_from.chosen.source c.in-Ok-read_from.ensures.reads.1 c.deref.result.now
+          (c.deref.ensures.value ∙ fetched.2) c.in-Ok-unit_of_text.unit c.in-Ok-unit_of_text.ensures.reads after refl c.walk_unit.result.status
+          c.walk_unit.result.due blamed.2,
+    )
 
 pub returns-in-Err-clause-fits : goal.returns-in-Err-clause-fits
 returns-in-Err-clause-fits g c =

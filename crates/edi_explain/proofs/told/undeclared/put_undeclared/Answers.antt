@@ -13,8 +13,8 @@ returns c =
     let text : List ℕ = c.args.text.now in
     let letters : List ℕ = c.args.letters.now in
     let nothing : List ℕ = codes " seems to mean nothing here\n" in
-    let later : List ℕ = later_text c.declared_after.result in
+    let later : List ℕ = later_text letters c.declared_after.result in
     four out _ _ _ _ (pointed_line text c.args.line c.place.result) (name_text letters) nothing later c.in_ok-put_pointed.ensures
     c.in_ok-put_name.ensures c.in_ok-extend_from_slice.ensures.items c.in_ok-put_later.ensures
     ∙ ap (λ p. out ++ (pointed_line text c.args.line p ++ (name_text letters ++ (nothing ++ later)))) c.place.ensures.exact
-    ∙ ap (λ l. out ++ (pointed_line text c.args.line (place_of text c.args.index).0 ++ (name_text letters ++ (nothing ++ later_text l)))) c.declared_after.ensures.exact
+    ∙ ap (λ l. out ++ (pointed_line text c.args.line (place_of text c.args.index).0 ++ (name_text letters ++ (nothing ++ later_text letters l)))) c.declared_after.ensures.exact

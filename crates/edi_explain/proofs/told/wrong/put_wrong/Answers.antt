@@ -10,7 +10,8 @@ use Rattle.edi_explain.proofs.told.wrong.put_wrong.Goals as goal
 
 pub returns : goal.returns
 returns c =
-    put_parts c.args.text.now c.args.symbols.now.marks c.args.symbols.now.last c.args.index (may_of c.args.expected) c.put_note.result _ _ _ _ _ _ _ _ _ _ _
+    put_parts c.args.text.now c.args.symbols.now.marks c.args.symbols.now.last c.args.index (may_of c.args.expected) c.put_note.result _ _ _ _ _ _ _ _ _ _ _ _
+    c.as_slice-marks.ensures.all
     (c.mark_at-here.ensures.exact ∙ ap (λ m. slice_get m c.args.index) c.as_slice-marks.ensures.all)
     (c.before_of-before.ensures.exact ∙ ap (λ m. before_at m c.args.index) c.as_slice-marks.ensures.all)
     (c.deref.ensures.value ∙ c.in_ok-held.ensures.exact ∙ ap opened c.marks_to.ensures.exact

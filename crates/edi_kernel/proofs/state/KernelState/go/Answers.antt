@@ -1,63 +1,71 @@
 -- A stint of the kernel is one of the machine.
-use Rattle.std.proofs.Common.{◌≡◌, ap, None, subst, sym, ◌∙◌}
+use Rattle.std.proofs.Common.{◌≡◌, ◌-◌, ap, refl, subst, sym, if◌then◌else◌}
+use Rattle.std.specs.Prelude.{◌==◌, Some, length}
 use Rattle.edi_told.proofs.Told.{WhereTold-map}
+use Rattle.edi_machine.specs.Activities.{local_of}
 use Rattle.edi_kernel.specs.declared.state.KernelState.{KernelState}
-use Rattle.edi_kernel.proofs.Going.{mid_of, few_marks, stays_kernel, goes_all, breaks_all}
-use Rattle.edi_kernel.specs.Table.{no_marks, ready_slots}
-use Rattle.edi_kernel.proofs.Placing.{ready_if, stands_same}
+use Rattle.edi_kernel.specs.declared.table.Table.{Table}
+use Rattle.edi_kernel.specs.Kernel.{paused}
+use Rattle.edi_kernel.specs.Stretch.{Allows}
+use Rattle.edi_kernel.specs.Table.{free_slots, ready_slots, unmarked}
+use Rattle.edi_kernel.specs.TableIsMachine.{IsTable, IsTaken}
+use Rattle.edi_kernel.proofs.StintGiven.{taken_at}
+use Rattle.edi_kernel.proofs.Going.{mid_of, stays_kernel, goes_all, breaks_all}
+use Rattle.edi_kernel.proofs.Placing.{stands_same}
 use Rattle.edi_kernel.proofs.state.KernelState.go.Goals as goal
 
-pub unmark_if-requires : goal.unmark_if-requires
-unmark_if-requires g c =
-    subst (λ (k : KernelState). k.table.marks ≡ 0 → k.table.marked ≡ no_marks) (sym c.walk-pause.ensures.same) c.requires.kernel.table.clear
+pub settle-requires-clause-table : goal.settle-requires-clause-table
+settle-requires-clause-table g c =
+    subst IsTable (sym (ap (λ (k : KernelState). k.table) c.walk-pause.ensures.same)) c.requires.kernel.table
 
-pub handle-requires-clause-taken : goal.handle-requires-clause-taken
-handle-requires-clause-taken g c =
-    (mid_of c.args.self.now c.walk-pause.new.self c.unmark_if.new.self c.unwrap-slot.result c.walk-pause.new.progress.cleared c.requires.kernel
-    c.unwrap-slot.ensures (ap (λ (k : KernelState). k.table) c.walk-pause.ensures.same) c.unmark_if.ensures).taken
+pub settle-requires-clause-taken : goal.settle-requires-clause-taken
+settle-requires-clause-taken g c =
+    subst (λ t. IsTaken t c.unwrap-slot.result) (sym (ap (λ (k : KernelState). k.table) c.walk-pause.ensures.same))
+    (taken_at c.args.self.now c.unwrap-slot.result c.requires.kernel c.unwrap-slot.ensures)
 
-pub handle-requires-clause-marks : goal.handle-requires-clause-marks
-handle-requires-clause-marks g c =
-    let m = mid_of c.args.self.now c.walk-pause.new.self c.unmark_if.new.self c.unwrap-slot.result c.walk-pause.new.progress.cleared c.requires.kernel
-    c.unwrap-slot.ensures (ap (λ (k : KernelState). k.table) c.walk-pause.ensures.same) c.unmark_if.ensures in
-    few_marks c.unmark_if.new.self c.unwrap-slot.result m.sound m.taken
+pub settle-requires-clause-allowed : goal.settle-requires-clause-allowed
+settle-requires-clause-allowed g c =
+    subst (λ (t : Table). Allows (Some c.walk-pause.result) c.args.code.now.words (32 - length (free_slots t)) (c.unwrap-slot.result == 0)
+    (local_of c.walk-pause.new.self.store c.walk-pause.new.progress.activity))
+    (sym (ap (λ (k : KernelState). k.table) c.walk-pause.ensures.same)) c.walk-pause.ensures.allowed
 
 pub returns-clause-exact : goal.returns-clause-exact
 returns-clause-exact g c =
     WhereTold-map _ _ _ _
-    (goes_all c.args.code.now.words c.args.self.now (record c.walk-pause.new.self { table = c.unmark_if.new.self; taken = None })
-    c.handle.new.self c.unwrap-slot.result c.args.left c.walk-pause.new.progress.left
-    c.walk-pause.new.progress.activity c.walk-pause.new.progress.cleared c.walk-pause.result c.handle.result _ c.requires.kernel c.unwrap-slot.ensures
-    (mid_of c.args.self.now c.walk-pause.new.self c.unmark_if.new.self c.unwrap-slot.result c.walk-pause.new.progress.cleared c.requires.kernel
-    c.unwrap-slot.ensures (ap (λ (k : KernelState). k.table) c.walk-pause.ensures.same) c.unmark_if.ensures)
-    c.handle.ensures.taken c.walk-pause.ensures.less c.walk-pause.ensures.ordered c.walk-pause.ensures.allowed c.handle.ensures.exact)
+    (goes_all c.args.code.now.words c.args.self.now (paused c.walk-pause.new.progress.cleared c.walk-pause.new.self)
+    c.settle.new.self c.unwrap-slot.result c.args.left c.walk-pause.new.progress.left
+    c.walk-pause.new.progress.activity c.walk-pause.new.progress.cleared c.walk-pause.result c.settle.result _ c.requires.kernel c.unwrap-slot.ensures
+    (mid_of c.args.self.now c.walk-pause.new.self
+    (if c.walk-pause.new.progress.cleared then unmarked c.walk-pause.new.self.table else c.walk-pause.new.self.table) c.unwrap-slot.result
+    c.walk-pause.new.progress.cleared c.requires.kernel c.unwrap-slot.ensures (ap (λ (k : KernelState). k.table) c.walk-pause.ensures.same) refl)
+    c.settle.ensures.free c.walk-pause.ensures.less c.walk-pause.ensures.ordered c.walk-pause.ensures.allowed c.settle.ensures.exact)
     c.walk-pause.ensures.exact
 
 pub returns-clause-kernel : goal.returns-clause-kernel
 returns-clause-kernel g c =
-    stays_kernel c.args.code.now.words c.args.self.now (record c.walk-pause.new.self { table = c.unmark_if.new.self; taken = None })
-    c.handle.new.self c.unwrap-slot.result c.args.left c.walk-pause.new.progress.left
-    c.walk-pause.new.progress.activity c.walk-pause.new.progress.cleared c.walk-pause.result c.handle.result _ c.requires.kernel c.unwrap-slot.ensures
-    (mid_of c.args.self.now c.walk-pause.new.self c.unmark_if.new.self c.unwrap-slot.result c.walk-pause.new.progress.cleared c.requires.kernel
-    c.unwrap-slot.ensures (ap (λ (k : KernelState). k.table) c.walk-pause.ensures.same) c.unmark_if.ensures)
-    c.handle.ensures.taken c.walk-pause.ensures.less c.walk-pause.ensures.ordered c.walk-pause.ensures.allowed c.handle.ensures.exact
-    _ c.handle.ensures.standing
+    stays_kernel c.args.code.now.words c.args.self.now (paused c.walk-pause.new.progress.cleared c.walk-pause.new.self)
+    c.settle.new.self c.unwrap-slot.result c.args.left c.walk-pause.new.progress.left
+    c.walk-pause.new.progress.activity c.walk-pause.new.progress.cleared c.walk-pause.result c.settle.result _ c.requires.kernel c.unwrap-slot.ensures
+    (mid_of c.args.self.now c.walk-pause.new.self
+    (if c.walk-pause.new.progress.cleared then unmarked c.walk-pause.new.self.table else c.walk-pause.new.self.table) c.unwrap-slot.result
+    c.walk-pause.new.progress.cleared c.requires.kernel c.unwrap-slot.ensures (ap (λ (k : KernelState). k.table) c.walk-pause.ensures.same) refl)
+    c.settle.ensures.free c.walk-pause.ensures.less c.walk-pause.ensures.ordered c.walk-pause.ensures.allowed c.settle.ensures.exact
+    _ c.settle.ensures.standing
 
 pub returns-clause-standing : goal.returns-clause-standing
 returns-clause-standing g c =
-    stands_same c.handle.result _ _ _ _ _ _ (sym c.unwrap-slot.ensures)
-    (ap ready_slots c.unmark_if.ensures ∙ ready_if c.walk-pause.new.progress.cleared c.walk-pause.new.self.table ∙ ap (λ (k : KernelState). ready_slots k.table)
-    c.walk-pause.ensures.same)
-    c.handle.ensures.standing
+    stands_same c.settle.result _ _ _ _ _ _ (sym c.unwrap-slot.ensures) (ap (λ (k : KernelState). ready_slots k.table) c.walk-pause.ensures.same)
+    c.settle.ensures.standing
 
 pub returns-clause-asked : goal.returns-clause-asked
 returns-clause-asked g c =
     WhereTold-map _ _ _ _
-    (breaks_all c.args.code.now.words c.args.self.now (record c.walk-pause.new.self { table = c.unmark_if.new.self; taken = None })
-    c.handle.new.self c.unwrap-slot.result c.args.left c.walk-pause.new.progress.left
-    c.walk-pause.new.progress.activity c.walk-pause.new.progress.cleared c.walk-pause.result c.handle.result _ c.requires.kernel c.unwrap-slot.ensures
-    (mid_of c.args.self.now c.walk-pause.new.self c.unmark_if.new.self c.unwrap-slot.result c.walk-pause.new.progress.cleared c.requires.kernel
-    c.unwrap-slot.ensures (ap (λ (k : KernelState). k.table) c.walk-pause.ensures.same) c.unmark_if.ensures)
-    c.handle.ensures.taken c.walk-pause.ensures.less c.walk-pause.ensures.ordered c.walk-pause.ensures.allowed c.handle.ensures.exact
+    (breaks_all c.args.code.now.words c.args.self.now (paused c.walk-pause.new.progress.cleared c.walk-pause.new.self)
+    c.settle.new.self c.unwrap-slot.result c.args.left c.walk-pause.new.progress.left
+    c.walk-pause.new.progress.activity c.walk-pause.new.progress.cleared c.walk-pause.result c.settle.result _ c.requires.kernel c.unwrap-slot.ensures
+    (mid_of c.args.self.now c.walk-pause.new.self
+    (if c.walk-pause.new.progress.cleared then unmarked c.walk-pause.new.self.table else c.walk-pause.new.self.table) c.unwrap-slot.result
+    c.walk-pause.new.progress.cleared c.requires.kernel c.unwrap-slot.ensures (ap (λ (k : KernelState). k.table) c.walk-pause.ensures.same) refl)
+    c.settle.ensures.free c.walk-pause.ensures.less c.walk-pause.ensures.ordered c.walk-pause.ensures.allowed c.settle.ensures.exact
     (g.C.Calls.failed c.walk-pause.new.calls) c.walk-pause.ensures.asked)
     c.walk-pause.ensures.exact

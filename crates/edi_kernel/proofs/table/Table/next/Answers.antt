@@ -1,5 +1,5 @@
 -- The slot is in the list of the ready ones.
-use Rattle.std.proofs.Common.{◌∙◌, sym, arith}
+use Rattle.std.proofs.Common.{arith}
 use Rattle.edi_kernel.proofs.Slots.{listed, listed_below, some_home}
 use Rattle.edi_kernel.proofs.table.Table.next.Goals as goal
 
@@ -9,12 +9,6 @@ returns-then-at-eq0-clause-was c = rw c.if-at-eq0.true c.take_front.ensures.was
 pub returns-then-at-eq0-clause-slot : goal.returns-then-at-eq0-clause-slot
 returns-then-at-eq0-clause-slot c = listed_below _ 0 _ _ c.requires.sound c.take_front.ensures.was
 
-pub withdraw-requires-clause-slot : goal.withdraw-requires-clause-slot
-withdraw-requires-clause-slot c = listed_below _ 0 _ _ c.requires.sound (sym c.nth.ensures.exact ∙ c.unwrap-slot.ensures)
-
 pub withdraw-requires-clause-listed : goal.withdraw-requires-clause-listed
-withdraw-requires-clause-listed c = some_home c.args.self.now.lists c.unwrap-slot.result 0
-    (listed _ 0 _ _ c.requires.sound (omega arith) (sym c.nth.ensures.exact ∙ c.unwrap-slot.ensures))
-
-pub returns-clause-slot : goal.returns-clause-slot
-returns-clause-slot c = listed_below _ 0 _ _ c.requires.sound (sym c.nth.ensures.exact ∙ c.unwrap-slot.ensures)
+withdraw-requires-clause-listed c = some_home c.args.self.now.lists c.at-slot.result 0
+    (listed _ 0 _ _ c.requires.sound (omega arith) c.at-slot.ensures.exact)

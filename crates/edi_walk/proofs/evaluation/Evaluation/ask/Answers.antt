@@ -6,7 +6,7 @@ use Rattle.std.specs.Prelude.{map}
 use Rattle.edi_walk.specs.Data.{cell_of}
 use Rattle.edi_walk.specs.Frames.{some_cells}
 use Rattle.edi_walk.specs.Machine.{given_of}
-use Rattle.edi_walk.proofs.Calls.{told_up, told_taken}
+use Rattle.edi_walk.proofs.Calls.{told_up, told_taken, same_on}
 use Rattle.edi_walk.proofs.evaluation.Evaluation.ask.Goals as goal
 
 pub returns-in_err-cells-clause-exact : goal.returns-in_err-cells-clause-exact
@@ -22,3 +22,6 @@ returns-clause-exact g c =
     c.take.new.self c.ask_with.new.self make.Nothing old now c.take.ensures.exact (ap given_of (sym c.take.ensures.given ∙ c.in_ok-cells.ensures.exact))
     (subst (λ xs. WhereTold old now (λ s t. Asks c.args.number c.args.line (some_cells (map cell_of xs)) c.ask_with.result c.take.new.self c.ask_with.new.self s t))
     c.deref.ensures.value c.ask_with.ensures.exact)
+
+pub returns-clause-same : goal.returns-clause-same
+returns-clause-same g c = same_on c.args.self.now c.take.new.self c.ask_with.new.self c.take.ensures.same c.ask_with.ensures.same

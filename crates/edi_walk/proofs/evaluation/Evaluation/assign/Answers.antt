@@ -4,7 +4,7 @@ use Rattle.edi_walk.specs.Machine.{deeper_of, given_of, next_of, rest_of, world_
 use Rattle.edi_unit.specs.View.{expression_of}
 use Rattle.edi_walk.specs.Data.{designated_of}
 use Rattle.edi_walk.specs.Frames.{assigns}
-use Rattle.edi_walk.proofs.FrameSteps.{value_goes}
+use Rattle.edi_walk.proofs.ActSteps.{value_goes}
 use Rattle.edi_walk.proofs.evaluation.Evaluation.assign.Goals as goal
 
 pub returns-clause-exact : goal.returns-clause-exact

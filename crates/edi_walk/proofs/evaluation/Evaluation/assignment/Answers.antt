@@ -7,7 +7,8 @@ use Rattle.edi_walk.specs.Frames.{nothing, performs}
 use Rattle.edi_walk.specs.Machine.{deeper_of, given_of, Resumes, rest_of, world_of}
 use Rattle.edi_walk.specs.Reads.{AssignsAtOnce}
 use Rattle.edi_walk.proofs.AtOnce.{made_goes, made_stops, stays}
-use Rattle.edi_walk.proofs.FrameSteps.{assign_goes}
+use Rattle.edi_walk.proofs.ActSteps.{assign_goes}
+use Rattle.edi_walk.proofs.Calls.{same_on}
 use Rattle.edi_walk.proofs.evaluation.Evaluation.assignment.Goals as goal
 
 pub returns-then-made-clause-exact : goal.returns-then-made-clause-exact
@@ -35,3 +36,9 @@ pub returns-in-Err-clause-exact : goal.returns-in-Err-clause-exact
 returns-in-Err-clause-exact c =
     made_stops c.args.self.now c.assign_at_once.new.self (place_of c.args.place.now) (expression_of c.args.e.now) c.in-Err.stop
     (view.acts (map act_of c.args.rest.now)) c.in-Err.ensures.exact
+
+pub returns-then-made-clause-same : goal.returns-then-made-clause-same
+returns-then-made-clause-same c = same_on c.args.self.now c.assign_at_once.new.self c.put.new.self c.in-Ok.ensures.same c.put.ensures.same
+
+pub returns-else-made-clause-same : goal.returns-else-made-clause-same
+returns-else-made-clause-same c = same_on c.args.self.now c.assign_at_once.new.self c.put_three.new.self c.in-Ok.ensures.same c.put_three.ensures.same

@@ -6,7 +6,8 @@ use Rattle.edi_walk.specs.Processes.{acts_bare, ends_procedure, work_of}
 use Rattle.edi_unit.specs.Need.{block_at}
 use Rattle.edi_unit.specs.View.{unit_of}
 use Rattle.edi_walk.proofs.Working.{puts_calm}
-use Rattle.edi_walk.proofs.Pieces.{block_begun, block_stays, enters_calm}
+use Rattle.edi_walk.proofs.Pieces.{enters_calm}
+use Rattle.edi_walk.proofs.CallPieces.{block_begun, block_stays}
 use Rattle.edi_walk.proofs.evaluation.Evaluation.block_called.Goals as goal
 
 pub returns-in-Ok-clause-exact : goal.returns-in-Ok-clause-exact

@@ -1,7 +1,7 @@
 use Rattle.std.proofs.Common.{[], sym, ap, ◌∙◌}
 use Rattle.edi_unit.specs.View.{unit_of}
 use Rattle.edi_walk.specs.Machine.{deeper_of, rest_of, world_of}
-use Rattle.edi_walk.proofs.FrameSteps.{call_goes}
+use Rattle.edi_walk.proofs.ActSteps.{call_goes}
 use Rattle.std.specs.Prelude.{map}
 use Rattle.edi_unit.specs.View as view
 use Rattle.edi_unit.specs.View.{act_of, arguments_of, argument_of, clause_of, clauses_of, expression_of, place_of}

@@ -10,6 +10,7 @@ use Rattle.edi_walk.specs.Machine.{deeper_of, given_of, next_of, rest_of, world_
 use Rattle.edi_walk.proofs.Arms.{above, gave}
 use Rattle.edi_walk.proofs.Layers.{ordinal_seen}
 use Rattle.edi_walk.proofs.Blocks.{function_entered}
+use Rattle.edi_walk.proofs.Calls.{same_on}
 use Rattle.edi_walk.proofs.evaluation.Evaluation.call_function.Goals as goal
 
 pub returns-in-System-clause-exact : goal.returns-in-System-clause-exact
@@ -32,3 +33,6 @@ returns-in_ok-block-in-Block-clause-exact c levels system enough =
     (ap (λ u. (block_at (unit_of u.now).blocks c.in-Block.number).body) (sym c.in_ok-enter-in-Block.ensures.same.unit)
     ∙ ap (λ b. b.body) (sym c.in_ok-block-in-Block.ensures.exact)
     ∙ ap (λ l. acts (map act_of l)) (sym c.items.ensures.exact)))
+
+pub returns-in_ok-block-in-Block-clause-same : goal.returns-in_ok-block-in-Block-clause-same
+returns-in_ok-block-in-Block-clause-same c = same_on c.args.self.now c.enter.new.self c.put_two.new.self c.in_ok-enter-in-Block.ensures.same c.put_two.ensures.same

@@ -7,6 +7,7 @@ use Rattle.edi_walk.specs.Frames.{calls_procedure, ends_procedure, performs}
 use Rattle.edi_walk.specs.Machine.{given_of, next_of, world_of}
 use Rattle.edi_walk.proofs.Arms.{above}
 use Rattle.edi_walk.proofs.Blocks.{procedure_entered}
+use Rattle.edi_walk.proofs.Calls.{same_on}
 use Rattle.edi_walk.proofs.evaluation.Evaluation.call_procedure.Goals as goal
 
 pub returns-in_ok-block-in-Block-clause-exact : goal.returns-in_ok-block-in-Block-clause-exact
@@ -21,3 +22,6 @@ returns-in_ok-block-in-Block-clause-exact c levels system enough =
     (ap (λ u. (block_at (unit_of u.now).blocks c.in-Block.number).body) (sym c.in_ok-enter-in-Block.ensures.same.unit)
     ∙ ap (λ b. b.body) (sym c.in_ok-block-in-Block.ensures.exact)
     ∙ ap (λ l. acts (map act_of l)) (sym c.items.ensures.exact)))
+
+pub returns-in_ok-block-in-Block-clause-same : goal.returns-in_ok-block-in-Block-clause-same
+returns-in_ok-block-in-Block-clause-same c = same_on c.args.self.now c.enter.new.self c.put_two.new.self c.in_ok-enter-in-Block.ensures.same c.put_two.ensures.same

@@ -4,7 +4,8 @@ use Rattle.edi_told.proofs.Told.{WhereTold-map, WhereTold-then}
 use Rattle.edi_walk.proofs.Calls.{same_on}
 use Rattle.edi_unit.specs.View.{arguments, argument_of}
 use Rattle.edi_walk.specs.Processes.{work_of}
-use Rattle.edi_walk.proofs.Pieces.{called_stop, called_then}
+use Rattle.edi_walk.proofs.CallPieces.{called_stop, called_then}
+use Rattle.edi_walk.proofs.FrameRuns.{blames_on, lasts_on}
 use Rattle.edi_walk.proofs.evaluation.Evaluation.called.Goals as goal
 
 pub returns-in-Ok-clause-exact : goal.returns-in-Ok-clause-exact
@@ -21,3 +22,12 @@ pub returns-in-Err-clause-exact : goal.returns-in-Err-clause-exact
 returns-in-Err-clause-exact g c =
     WhereTold-map _ _ (g.C.Calls.state c.args.calls.now) (g.C.Calls.state c.cells.new.calls)
     (λ s t h. called_stop c.args.callee (arguments (map argument_of c.args.arguments.now)) c.args.line (work_of c.args.work.now.items []) c.args.work.now.items c.args.self.now c.cells.new.self s t c.in-Err.stop h) c.in-Err.ensures.exact
+
+pub returns-in-Ok-clause-blame : goal.returns-in-Ok-clause-blame
+returns-in-Ok-clause-blame g c =
+    blames_on c.called_with.result (g.C.Calls.failed c.called_with.new.calls) (g.C.Calls.faults c.args.calls.now) (g.C.Calls.faults c.cells.new.calls)
+    (g.C.Calls.faults c.called_with.new.calls) c.in-Ok.ensures.lasts.0 c.called_with.ensures.blame
+
+pub returns-in-Ok-clause-lasts : goal.returns-in-Ok-clause-lasts
+returns-in-Ok-clause-lasts g c =
+    lasts_on g.C.Calls.faults g.C.Calls.references g.C.Calls.leads _ _ _ c.in-Ok.ensures.lasts c.called_with.ensures.lasts

@@ -6,7 +6,8 @@ use Rattle.edi_walk.specs.declared.stop.Stop.TheVariants as stop
 use Rattle.edi_walk.specs.Data.{cell_of, closure_of}
 use Rattle.edi_walk.specs.Processes.{work_of}
 use Rattle.edi_walk.specs.Works.{CallsWith}
-use Rattle.edi_walk.proofs.Pieces.{calls_meant, calls_nothing, err_is}
+use Rattle.edi_walk.proofs.Pieces.{err_is}
+use Rattle.edi_walk.proofs.CallPieces.{calls_meant, calls_nothing}
 use Rattle.edi_walk.proofs.evaluation.Evaluation.called_with.Goals as goal
 
 pub returns-in-Ok-clause-exact : goal.returns-in-Ok-clause-exact

@@ -6,7 +6,7 @@ use Rattle.edi_walk.specs.Data.{cell_of}
 use Rattle.edi_walk.specs.declared.frames.Given.TheVariants as make
 use Rattle.edi_walk.specs.Frames.{collects}
 use Rattle.edi_walk.specs.Steps.{Wholly}
-use Rattle.edi_walk.proofs.Pieces.{cells_so, cells_stop}
+use Rattle.edi_walk.proofs.CallPieces.{cells_so, cells_stop}
 use Rattle.edi_walk.proofs.evaluation.Evaluation.cells.Goals as goal
 
 pub returns-in-Ok-clause-exact : goal.returns-in-Ok-clause-exact

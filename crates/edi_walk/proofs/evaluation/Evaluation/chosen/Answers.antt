@@ -5,7 +5,7 @@ use Rattle.edi_unit.specs.View.{clause_of, clauses, expression_of}
 use Rattle.edi_walk.specs.Steps.{Condition}
 use Rattle.edi_walk.proofs.Choosing.{FarOn}
 use Rattle.edi_walk.proofs.Calls.{same_self, same_on}
-use Rattle.edi_walk.proofs.FrameRuns.{lasts_on}
+use Rattle.edi_walk.proofs.FrameRuns.{lasts_on, err_blames_on}
 use Rattle.edi_walk.proofs.ChoosingTold.{told_far, told_false, told_true, told_stops, told_none, past_all}
 use Rattle.edi_walk.proofs.evaluation.Evaluation.chosen.Goals as goal
 
@@ -52,3 +52,26 @@ returns-clause-exact g c =
     told_none all c.args.self.now c.loop-clause.self (g.C.Calls.state c.args.calls.now) (g.C.Calls.state c.loop-clause.calls)
     (subst (λ r. WhereTold (g.C.Calls.state c.args.calls.now) (g.C.Calls.state c.loop-clause.calls) (λ s t. FarOn all r c.args.self.now c.loop-clause.self s t))
     (past_all c.args.clauses.now c.loop-clause.clause-index (omega (arith, c.loop-clause-test.false))) c.loop-clause.invariant.told)
+
+-- ---- what each end leaves
+
+pub returns-then-holds-clause-same : goal.returns-then-holds-clause-same
+returns-then-holds-clause-same g c =
+    same_on c.args.self.now c.loop-clause.self c.holds.new.self c.loop-clause.invariant.same c.in-Ok.ensures.same
+
+pub returns-then-holds-clause-lasts : goal.returns-then-holds-clause-lasts
+returns-then-holds-clause-lasts g c =
+    lasts_on g.C.Calls.faults g.C.Calls.references g.C.Calls.leads _ _ _ c.loop-clause.invariant.lasts c.in-Ok.ensures.lasts
+
+pub returns-in-Err-clause-same : goal.returns-in-Err-clause-same
+returns-in-Err-clause-same g c =
+    same_on c.args.self.now c.loop-clause.self c.holds.new.self c.loop-clause.invariant.same c.in-Err.ensures.same
+
+pub returns-in-Err-clause-blame : goal.returns-in-Err-clause-blame
+returns-in-Err-clause-blame g c =
+    err_blames_on c.in-Err.stop (g.C.Calls.failed c.holds.new.calls) (g.C.Calls.faults c.args.calls.now) (g.C.Calls.faults c.loop-clause.calls)
+    (g.C.Calls.faults c.holds.new.calls) c.loop-clause.invariant.lasts.0 c.in-Err.ensures.blame
+
+pub returns-in-Err-clause-lasts : goal.returns-in-Err-clause-lasts
+returns-in-Err-clause-lasts g c =
+    lasts_on g.C.Calls.faults g.C.Calls.references g.C.Calls.leads _ _ _ c.loop-clause.invariant.lasts c.in-Err.ensures.lasts

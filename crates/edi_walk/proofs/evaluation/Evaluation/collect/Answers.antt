@@ -7,7 +7,7 @@ use Rattle.edi_unit.specs.View.{argument_of, expression_of, expressions, place_o
 use Rattle.edi_walk.specs.Data.{cell_of}
 use Rattle.std.proofs.Common.{subst}
 use Rattle.edi_walk.specs.Machine.{Follows}
-use Rattle.edi_walk.proofs.FrameSteps.{collects_taken}
+use Rattle.edi_walk.proofs.ActSteps.{collects_taken}
 use Rattle.edi_walk.proofs.evaluation.Evaluation.collect.Goals as goal
 
 pub returns-clause-exact : goal.returns-clause-exact

@@ -6,7 +6,7 @@ use Rattle.edi_unit.specs.View.{expression_of, expressions}
 use Rattle.edi_walk.specs.Data.{value_of}
 use Rattle.std.proofs.Common.{subst}
 use Rattle.edi_walk.specs.Machine.{Follows}
-use Rattle.edi_walk.proofs.FrameSteps.{gathers_taken}
+use Rattle.edi_walk.proofs.ActSteps.{gathers_taken}
 use Rattle.edi_walk.proofs.evaluation.Evaluation.gather.Goals as goal
 
 pub returns-clause-exact : goal.returns-clause-exact

@@ -5,7 +5,7 @@ use Rattle.std.specs.Prelude.{map}
 use Rattle.edi_unit.specs.View.{expression_of, expressions}
 use Rattle.std.proofs.Common.{subst}
 use Rattle.edi_walk.specs.Machine.{Follows}
-use Rattle.edi_walk.proofs.FrameSteps.{members_taken}
+use Rattle.edi_walk.proofs.ActSteps.{members_taken}
 use Rattle.edi_walk.proofs.evaluation.Evaluation.join.Goals as goal
 
 pub returns-clause-exact : goal.returns-clause-exact

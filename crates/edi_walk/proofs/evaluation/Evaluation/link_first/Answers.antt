@@ -10,6 +10,7 @@ use Rattle.edi_walk.specs.Frames.{a_value, links_on}
 use Rattle.edi_unit.specs.Tree.{link_then}
 use Rattle.edi_walk.proofs.Layers.{link_seen}
 use Rattle.edi_walk.proofs.FrameSteps.{decided_goes}
+use Rattle.edi_walk.proofs.Calls.{same_on}
 use Rattle.edi_walk.proofs.evaluation.Evaluation.link_first.Goals as goal
 
 pub returns-then-decides-clause-exact : goal.returns-then-decides-clause-exact
@@ -20,3 +21,6 @@ returns-then-decides-clause-exact c levels system enough =
     ∙ decided_goes (unit_of c.args.self.now.unit.now) c.args.self.now.name.items c.args.self.now.size (deeper_of levels c.args.self.now) (rest_of levels c.args.self.now) (value_of c.args.left) c.args.first.now.operator (expression_of c.args.first.now.right) c.args.first.now.line (view.links (map link_of c.args.rest.now)) (world_of c.args.self.now system)
     (sym c.decides.ensures.exact ∙ c.if-decides.true)
     ∙ ap (λ (e : code.Evaluation). next_of levels e (links_on (view.links (map link_of c.args.rest.now))) (given_of e.given) (world_of e system)) (sym c.give.ensures.exact))
+
+pub returns-then-decides-clause-same : goal.returns-then-decides-clause-same
+returns-then-decides-clause-same c = same_on c.args.self.now c.give.new.self c.put.new.self c.give.ensures.same c.put.ensures.same

@@ -1,6 +1,8 @@
-use Rattle.std.proofs.Common.{refl, ◌∙◌}
+use Rattle.std.proofs.Common.{refl, ◌∙◌, ap}
 use Rattle.edi_walk.specs.Machine.{frame_of}
 use Rattle.edi_walk.proofs.Arms.{two_above, below}
+use Rattle.edi_walk.proofs.Calls.{same_on}
+use Rattle.edi_walk.specs.declared.evaluation.Evaluation as code
 use Rattle.edi_walk.proofs.evaluation.Evaluation.put_three.Goals as goal
 
 pub returns-clause-exact : goal.returns-clause-exact
@@ -8,3 +10,9 @@ returns-clause-exact c levels system m e =
     c.put_two.ensures.exact levels system m
     (e ∙ below levels c.args.self.now c.put.new.self c.args.lower (two_above levels system (frame_of c.args.upper) (frame_of c.args.middle))
     c.in_ok-put.ensures.others c.in_ok-put.ensures.frames (λ k. refl))
+
+pub returns-clause-same : goal.returns-clause-same
+returns-clause-same c = same_on c.args.self.now c.put.new.self c.put_two.new.self c.in_ok-put.ensures.same c.put_two.ensures.same
+
+pub returns-clause-others : goal.returns-clause-others
+returns-clause-others c = c.put_two.ensures.others ∙ ap (λ (e : code.Evaluation). record e { frames = c.put_two.new.self.frames }) c.in_ok-put.ensures.others

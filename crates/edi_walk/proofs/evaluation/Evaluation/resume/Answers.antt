@@ -1,6 +1,7 @@
 use Rattle.std.proofs.Common.{refl}
 use Rattle.edi_walk.specs.declared.frames.Given.TheVariants as make
 use Rattle.edi_walk.proofs.Arms.{arm, bare_arm}
+use Rattle.edi_walk.proofs.Calls.{same_on}
 use Rattle.edi_walk.proofs.evaluation.Evaluation.resume.Goals as goal
 
 pub returns-in-Evaluates-clause-exact : goal.returns-in-Evaluates-clause-exact
@@ -118,3 +119,85 @@ pub returns-in-EndsProcedure-clause-exact : goal.returns-in-EndsProcedure-clause
 returns-in-EndsProcedure-clause-exact c =
     arm c.args.frame _ c.take-given-in-EndsProcedure.result make.Nothing c.end_procedure.result c.args.self.now c.take-given-in-EndsProcedure.new.self c.end_procedure.new.self c.in-EndsProcedure.is c.take-given-in-EndsProcedure.ensures.exact
     c.take-given-in-EndsProcedure.ensures.given c.end_procedure.ensures.exact
+
+-- ---- the process stays
+
+pub returns-in-Performs-clause-same : goal.returns-in-Performs-clause-same
+returns-in-Performs-clause-same c =
+    same_on c.args.self.now c.take-given.new.self c.perform.new.self c.take-given.ensures.same c.perform.ensures.same
+
+pub returns-in-Tries-clause-same : goal.returns-in-Tries-clause-same
+returns-in-Tries-clause-same c =
+    same_on c.args.self.now c.take-given-in-Tries.new.self c.attempt.new.self c.take-given-in-Tries.ensures.same c.attempt.ensures.same
+
+pub returns-in-Gathers-clause-same : goal.returns-in-Gathers-clause-same
+returns-in-Gathers-clause-same c =
+    same_on c.args.self.now c.take-given-in-Gathers.new.self c.gather.new.self c.take-given-in-Gathers.ensures.same c.gather.ensures.same
+
+pub returns-in-Joins-clause-same : goal.returns-in-Joins-clause-same
+returns-in-Joins-clause-same c =
+    same_on c.args.self.now c.take-given-in-Joins.new.self c.join.new.self c.take-given-in-Joins.ensures.same c.join.ensures.same
+
+pub returns-in-Collects-clause-same : goal.returns-in-Collects-clause-same
+returns-in-Collects-clause-same c =
+    same_on c.args.self.now c.take-given-in-Collects.new.self c.collect.new.self c.take-given-in-Collects.ensures.same c.collect.ensures.same
+
+pub returns-in-Negates-clause-same : goal.returns-in-Negates-clause-same
+returns-in-Negates-clause-same c =
+    same_on c.args.self.now c.take-given-in-Negates.new.self c.negate.new.self c.take-given-in-Negates.ensures.same c.negate.ensures.same
+
+pub returns-in-Signs-clause-same : goal.returns-in-Signs-clause-same
+returns-in-Signs-clause-same c =
+    same_on c.args.self.now c.take-given-in-Signs.new.self c.sign.new.self c.take-given-in-Signs.ensures.same c.sign.ensures.same
+
+pub returns-in-Converts-clause-same : goal.returns-in-Converts-clause-same
+returns-in-Converts-clause-same c =
+    same_on c.args.self.now c.take-given-in-Converts.new.self c.convert.new.self c.take-given-in-Converts.ensures.same c.convert.ensures.same
+
+pub returns-in-LinksOn-clause-same : goal.returns-in-LinksOn-clause-same
+returns-in-LinksOn-clause-same c =
+    same_on c.args.self.now c.take-given-in-LinksOn.new.self c.link.new.self c.take-given-in-LinksOn.ensures.same c.link.ensures.same
+
+pub returns-in-Operates-clause-same : goal.returns-in-Operates-clause-same
+returns-in-Operates-clause-same c =
+    same_on c.args.self.now c.take-given-in-Operates.new.self c.operate.new.self c.take-given-in-Operates.ensures.same c.operate.ensures.same
+
+pub returns-in-Indexes-clause-same : goal.returns-in-Indexes-clause-same
+returns-in-Indexes-clause-same c =
+    same_on c.args.self.now c.take-given-in-Indexes.new.self c.index.new.self c.take-given-in-Indexes.ensures.same c.index.ensures.same
+
+pub returns-in-Stores-clause-same : goal.returns-in-Stores-clause-same
+returns-in-Stores-clause-same c =
+    same_on c.args.self.now c.take-given-in-Stores.new.self c.store.new.self c.take-given-in-Stores.ensures.same c.store.ensures.same
+
+pub returns-in-Tests-clause-same : goal.returns-in-Tests-clause-same
+returns-in-Tests-clause-same c =
+    same_on c.args.self.now c.take-given-in-Tests.new.self c.test.new.self c.take-given-in-Tests.ensures.same c.test.ensures.same
+
+pub returns-in-Loads-clause-same : goal.returns-in-Loads-clause-same
+returns-in-Loads-clause-same c =
+    same_on c.args.self.now c.take-given-in-Loads.new.self c.load.new.self c.take-given-in-Loads.ensures.same c.load.ensures.same
+
+pub returns-in-Assigns-clause-same : goal.returns-in-Assigns-clause-same
+returns-in-Assigns-clause-same c =
+    same_on c.args.self.now c.take-given-in-Assigns.new.self c.assign.new.self c.take-given-in-Assigns.ensures.same c.assign.ensures.same
+
+pub returns-in-CallsFunction-clause-same : goal.returns-in-CallsFunction-clause-same
+returns-in-CallsFunction-clause-same c =
+    same_on c.args.self.now c.take-given-in-CallsFunction.new.self c.call_function.new.self c.take-given-in-CallsFunction.ensures.same c.call_function.ensures.same
+
+pub returns-in-CallsProcedure-clause-same : goal.returns-in-CallsProcedure-clause-same
+returns-in-CallsProcedure-clause-same c =
+    same_on c.args.self.now c.take-given-in-CallsProcedure.new.self c.call_procedure.new.self c.take-given-in-CallsProcedure.ensures.same c.call_procedure.ensures.same
+
+pub returns-in-Loops-clause-same : goal.returns-in-Loops-clause-same
+returns-in-Loops-clause-same c =
+    same_on c.args.self.now c.take-given-in-Loops.new.self c.repeat.new.self c.take-given-in-Loops.ensures.same c.repeat.ensures.same
+
+pub returns-in-EndsFunction-clause-same : goal.returns-in-EndsFunction-clause-same
+returns-in-EndsFunction-clause-same c =
+    same_on c.args.self.now c.take-given-in-EndsFunction.new.self c.end_function.new.self c.take-given-in-EndsFunction.ensures.same c.end_function.ensures.same
+
+pub returns-in-EndsProcedure-clause-same : goal.returns-in-EndsProcedure-clause-same
+returns-in-EndsProcedure-clause-same c =
+    same_on c.args.self.now c.take-given-in-EndsProcedure.new.self c.end_procedure.new.self c.take-given-in-EndsProcedure.ensures.same c.end_procedure.ensures.same

@@ -3,7 +3,7 @@ use Rattle.std.specs.Prelude.{map}
 use Rattle.edi_told.proofs.Told.{WhereTold-map}
 use Rattle.edi_walk.specs.Data.{cell_of}
 use Rattle.edi_walk.specs.declared.frames.Given.TheVariants as make
-use Rattle.edi_walk.proofs.Pieces.{system_called, system_stays}
+use Rattle.edi_walk.proofs.CallPieces.{system_called, system_stays}
 use Rattle.edi_walk.proofs.evaluation.Evaluation.system_called.Goals as goal
 
 pub returns-in-Ok-clause-exact : goal.returns-in-Ok-clause-exact
