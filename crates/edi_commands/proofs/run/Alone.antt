@@ -1,5 +1,5 @@
 -- How `demo` came to its status, whatever the drive and the input are.
-use Rattle.std.proofs.Common.{◌≡◌, ◌∙◌, arith, ℕ, Bool, false, List, [], ◌++◌}
+use Rattle.std.proofs.Common.{◌≡◌, ◌∙◌, ◌≤◌, arith, ℕ, Bool, false, List, [], ◌++◌}
 use Rattle.std.proofs.Common.{Option, Some, None, Err, map, refl, sym, ap, subst, inl}
 use Rattle.std.specs.Prelude.{⊤}
 use Rattle.edi_told.specs.Told.{WhereTold}
@@ -23,6 +23,7 @@ use Rattle.edi_statuses.specs.Steps.{ReadsChoices, goes}
 use Rattle.edi_statuses.specs.Executions.{Runnable, text}
 use Rattle.edi_statuses.specs.Commands.{DemoSteps, IsNothing, size_line}
 use Rattle.edi_statuses.specs.Timelines.{timable}
+use Rattle.edi_statuses.proofs.Causes.{rose_before}
 use Rattle.edi_statuses.proofs.Closing as closing
 use Rattle.edi_statuses.proofs.Due.{due_then}
 use Rattle.edi_statuses.proofs.EachLeft.{each_same}
@@ -41,6 +42,15 @@ pub of_demo : (s : Status) (had has had_shown has_shown had_printed has_printed 
 of_demo status.DriveFault had has had_shown has_shown had_printed has_printed h = let rose = h 0 0 in absurd (omega (arith, rose))
 of_demo status.InputFault had has had_shown has_shown had_printed has_printed h = let rose = h 0 0 in absurd (omega (arith, rose))
 of_demo s had has had_shown has_shown had_printed has_printed h = tt
+
+-- a cause since the steps is one since the call
+pub cause_since : (s : Status) (before had has had_shown has_shown had_printed has_printed : ℕ) → before ≤ had
+    → HasCauseAlone s had has had_shown has_shown had_printed has_printed → HasCauseAlone s before has had_shown has_shown had_printed has_printed
+cause_since status.FileFault before had has had_shown has_shown had_printed has_printed l h = λ drive input. rose_before before had has l (h drive input)
+cause_since status.DriveFault before had has had_shown has_shown had_printed has_printed l h = λ drive input. h drive input
+cause_since status.InputFault before had has had_shown has_shown had_printed has_printed l h = λ drive input. h drive input
+cause_since status.OutputFault before had has had_shown has_shown had_printed has_printed l h = λ drive input. h drive input
+cause_since s before had has had_shown has_shown had_printed has_printed l h = λ drive input. tt
 
 -- a drive and an input that never fail have no fault
 pub cause_alone : (s : Status) (had has had_shown has_shown had_printed has_printed : ℕ)

@@ -6,7 +6,7 @@ pub returns-in-Ok : goal.returns-in-Ok
 returns-in-Ok c = record {
   made = demo_coded c.args.n c.deref.result.now c.deref-2.result.now c.in-Ok.code c.in_ok-symbols.symbols
       (c.deref.ensures.value ∙ c.in_ok-text.ensures.exact) c.in_ok-symbols.ensures.exact (c.deref-2.ensures.value ∙ c.in_ok-text.ensures.exact)
-      c.in-Ok.ensures.exact;
+      c.in-Ok.ensures.reads;
 }
 
 pub returns : goal.returns

@@ -7,7 +7,7 @@ use Rattle.edi_statuses.specs.Showing.{ShowsBytes}
 use Rattle.edi_statuses.proofs.Causes.{rose_before}
 use Rattle.edi_commands.specs.run.Demonstrated.{is_ok}
 use Rattle.edi_commands.proofs.run.Asked.{never_early, shown_behind}
-use Rattle.edi_commands.proofs.run.Alone.{lined, of_demo, ran_alone, uncoded, unread}
+use Rattle.edi_commands.proofs.run.Alone.{cause_since, lined, of_demo, ran_alone, uncoded, unread}
 use Rattle.edi_commands.proofs.run.Coded.{line_is, ok_is}
 use Rattle.edi_commands.proofs.run.TimedDemo.{no_file_named}
 use Rattle.edi_commands.proofs.run.demonstration.demonstrate.Goals as goal
@@ -91,3 +91,7 @@ pub returns-clause-no_files : goal.returns-clause-no_files
 returns-clause-no_files g c = λ none.
     let unnamed = no_file_named c.args.n c.args.timeline c.args.options none in
     c.run_alone-ended.ensures.untouched unnamed.0 unnamed.1.0 ∙ c.in-Ok.ensures.untouched unnamed.1.1
+
+pub returns-then-not-is_ok-clause-cause : goal.returns-then-not-is_ok-clause-cause
+returns-then-not-is_ok-clause-cause g c =
+    cause_since c.run_alone-ended.result.status _ _ _ _ _ _ _ c.in-Ok.ensures.only.later c.run_alone-ended.ensures.cause
