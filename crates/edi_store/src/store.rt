@@ -1,6 +1,6 @@
 //! The memory of the machine.
 
-ghost use Rattle.std.specs.Prelude.{◌≡◌, ◌+◌, ◌≤◌, ◌↔◌, IfOk, IsTrue, slice_index, slice_set};
+ghost use Rattle.std.specs.Prelude.{◌≡◌, ◌+◌, ◌<◌, ◌≤◌, ◌^◌, ◌↔◌, IfOk, IsTrue, length, slice_index, slice_set};
 ghost use Rattle.edi_store.specs.Memory.{zero_words, zero_memory, words_at};
 ghost use Rattle.edi_store.specs.Copied.{IsMemory, copied, cleared};
 
@@ -34,6 +34,52 @@ fn zeros(alloc: Global, n: usize) -> Result<Vec<u16>, AllocError>
     ensures exact { IfOk result (λ words. words.items ≡ zero_words n) }
 {
     vec![in alloc; 0; n]
+}
+
+// Writes the `n` words from `from` on to those from `to` on, which come after them all. Two slices that are apart are copied by one call of
+// `memcpy`; where they overlap the copy goes word by word.
+#[tactic(auto, using(crate::proofs::Copies::copied_up))]
+#[inline(always)]
+fn copy_up(words: &mut [u16], from: usize, to: usize, n: usize)
+    requires apart { from + n ≤ to }
+    requires within { to + n ≤ length words.old }
+    ensures exact { words.new ≡ copied words.old from to n }
+{
+    let (low, high) = words.split_at_mut(to);
+    high[..n].copy_from_slice(&low[from..from + n]);
+}
+
+// The same where those from `from` on come after all others.
+#[tactic(auto, using(crate::proofs::Copies::copied_down))]
+#[inline(always)]
+fn copy_down(words: &mut [u16], from: usize, to: usize, n: usize)
+    requires apart { to + n ≤ from }
+    requires within { from + n ≤ length words.old }
+    ensures exact { words.new ≡ copied words.old from to n }
+{
+    let (low, high) = words.split_at_mut(from);
+    low[to..to + n].copy_from_slice(&high[..n]);
+}
+
+// Writes the `n` words from `from` on to those from `to` on.
+#[tactic(auto, using(crate::proofs::Copies::copied_none))]
+#[inline(always)]
+fn copy_words(words: &mut Vec<u16>, from: usize, to: usize, n: usize)
+    requires from_within { from + n ≤ length words.old.items }
+    requires to_within { to + n ≤ length words.old.items }
+    requires small { length words.old.items < 2 ^ 32 }
+    ensures exact { words.new.items ≡ copied words.old.items from to n }
+{
+    if n == 0 {
+        return;
+    }
+    if from + n <= to {
+        copy_up(words.as_mut_slice(), from, to, n);
+    } else if to + n <= from {
+        copy_down(words.as_mut_slice(), from, to, n);
+    } else {
+        words.copy_within(from..from + n, to);
+    }
 }
 
 impl Store {
@@ -72,8 +118,7 @@ impl Store {
         ensures was_whole { IsMemory self.old }
         ensures whole { IsMemory self.new }
     {
-        self.words
-            .copy_within(from as usize..(from + n) as usize, to as usize);
+        copy_words(&mut self.words, from as usize, to as usize, n as usize);
     }
 
     /// Writes zeros to the `n` words from `at` on.
