@@ -38,6 +38,18 @@ rounds kind.End (suc n) round may = refl
 rounds kind.Loop (suc n) round may = refl
 rounds k (suc n) round may = absurd (cc)
 
+-- an instruction of the loop takes no other turn than that of an arrival, where its process does not go on
+pub arrival_by : (left : ℕ) (k : TurnKind) → may_follow left k ≡ true → goes_on k ≡ false → k ≡ kind.Arrive
+arrival_by zero k may stops = absurd (cc)
+arrival_by (suc n) kind.Enter may stops = absurd (cc)
+arrival_by (suc n) kind.End may stops = absurd (cc)
+arrival_by (suc n) kind.Loop may stops = absurd (cc)
+arrival_by (suc n) kind.Arrive may stops = refl
+arrival_by (suc n) (kind.Again marks) may stops = absurd (cc)
+arrival_by (suc n) (kind.Fork at) may stops = absurd (cc)
+arrival_by (suc n) kind.Exit may stops = absurd (cc)
+arrival_by (suc n) kind.ProgramEnd may stops = absurd (cc)
+
 module _ (words memory new_memory : List ℕ) (a b : Activity) (p : Progress) where
   abbrev Given : StepEnd → Type 0
   Given e = (live : ℕ) (is_first : Bool) → Gives (effect_of words live is_first (local_of memory a)) e (local_of memory a) (local_of new_memory b)

@@ -27,6 +27,7 @@ ghost use Rattle.edi_kernel.specs.Stretch.{
   cleared_at,
   cleared_in,
   failure_of,
+  goes_on,
   is_standstill,
   left_after,
   noted_after,
@@ -67,8 +68,9 @@ pub(crate) enum Plain {
 /// the path of an instruction is short: that `phase` is over is seen in `held`.
 #[derive(Clone, Copy)]
 pub(crate) struct Progress {
-    pub(crate) activity: Activity,
+    // First, so that no hole comes between the fields, which would be cleared each time.
     pub(crate) left: u64,
+    pub(crate) activity: Activity,
     pub(crate) cleared: bool,
     pub(crate) phase: bool,
 }
@@ -203,6 +205,17 @@ fn instruct<C: Calls>(
     pause
 }
 
+/// Whether a process goes on after a turn of this kind.
+#[inline(always)]
+fn goes_on(kind: TurnKind) -> bool
+    ensures { result ≡ goes_on kind }
+{
+    match kind {
+        TurnKind::Enter | TurnKind::End | TurnKind::Loop => true,
+        _ => false,
+    }
+}
+
 /// Takes a turn in which the process goes on: it takes all marks away.
 #[inline(always)]
 fn go_round(progress: &mut Progress)
@@ -240,19 +253,12 @@ fn instruct_plainly(
     let held = activity.held;
     match step_plainly(store, activity, words, &progress.left) {
         Some(StepEnd::On) => Plain::On,
-        Some(StepEnd::Turn(TurnKind::Loop)) => {
-            go_round(progress);
-            Plain::On
-        }
-        Some(StepEnd::Turn(TurnKind::Enter)) => {
-            go_round(progress);
-            Plain::On
-        }
-        Some(StepEnd::Turn(TurnKind::End)) => {
-            go_round(progress);
-            Plain::On
-        }
-        Some(StepEnd::Turn(TurnKind::Arrive)) => {
+        Some(StepEnd::Turn(kind)) => {
+            if goes_on(kind) {
+                go_round(progress);
+                return Plain::On;
+            }
+            // The only other turn of an instruction of the loop is that of an arrival.
             let end = StepEnd::Turn(TurnKind::Arrive);
             progress.left -= 1;
             progress.cleared = cleared_after(end, progress.cleared, progress.phase, held);
