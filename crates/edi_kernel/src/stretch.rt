@@ -250,7 +250,6 @@ fn instruct_plainly(
     ensures ordered { IsOrdered activity.new }
     ensures whole { IsMemory store.new }
 {
-    let held = activity.held;
     match step_plainly(store, activity, words, &progress.left) {
         Some(StepEnd::On) => Plain::On,
         Some(StepEnd::Turn(kind)) => {
@@ -258,10 +257,8 @@ fn instruct_plainly(
                 go_round(progress);
                 return Plain::On;
             }
-            // The only other turn of an instruction of the loop is that of an arrival.
-            let end = StepEnd::Turn(TurnKind::Arrive);
+            // The only other turn of an instruction of the loop is that of an arrival, of which no marks are noted.
             progress.left -= 1;
-            progress.cleared = cleared_after(end, progress.cleared, progress.phase, held);
             Plain::Arrived
         }
         // Nothing has changed. The slow path executes it again and ends the run, so that the loop carries no cause.

@@ -47,8 +47,7 @@ returns-else-goes_on-clause-exact c =
     one_arrival c.args.words.now c.args.store.now c.step_plainly.new.store c.args.activity.now c.step_plainly.new.activity c.args.progress.now c.requires.phase
     (subst (λ (e : StepEnd). is_looped c.args.progress.now.left e ≡ true) arrival n.ensures.looped.looped)
     (given_as c.args.words.now c.args.store.now c.step_plainly.new.store c.args.activity.now c.step_plainly.new.activity c.args.progress.now
-    n.field-0 (end.Turn kind.Arrive) arrival n.ensures.exact) c.cleared_after-progress.result
-    c.cleared_after-progress.ensures
+    n.field-0 (end.Turn kind.Arrive) arrival n.ensures.exact) c.args.progress.now.cleared
 
 pub returns-in-Some-Fail-clause-exact : goal.returns-in-Some-Fail-clause-exact
 returns-in-Some-Fail-clause-exact c =
