@@ -66,7 +66,8 @@ arrival_noted words (pausing finishing r b) now c d h = absurd h.0
 arrival_noted words (stopping e r b) now c d h = absurd h
 
 arrives_so : (words : List ℕ) (live : ℕ) (is_first : Bool) (was now : Running) (cleared c d : Bool)
-    → OneStep words live is_first was cleared (Some (pause.At kind.Arrive)) now c → OneStep words live is_first was cleared (Some (pause.At kind.Arrive)) now d
+    → OneStep words live is_first was cleared (Some (pause.At kind.Arrive)) now c
+    → OneStep words live is_first was cleared (Some (pause.At kind.Arrive)) now d
 arrives_so words live is_first was now cleared c d h = (h.0, h.1, arrival_noted words h.0 now c d h.2)
 
 module _ (words memory new_memory : List ℕ) (a b : Activity) (p : Progress) where

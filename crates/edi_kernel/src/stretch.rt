@@ -207,7 +207,8 @@ fn instruct<C: Calls>(
     pause
 }
 
-/// Executes one instruction of the process at this slot, and tells whether it pauses. Who lives is counted here, apart from the fast path.
+/// Executes one instruction of the process at this slot, and tells whether it pauses. Who lives is counted here, since the fast path does
+/// not ask for it.
 #[inline(always)]
 fn instruct_among<C: Calls>(
     store: &mut Store,
@@ -221,12 +222,14 @@ fn instruct_among<C: Calls>(
     requires ordered { IsOrdered progress.old.activity }
     requires phase { IsInPhase progress.old }
     ensures exact { WhereTold (C.state calls.old) (C.state calls.new) (λ s t.
-        OneStep code.now.words (live_in table.now) (slot == 0) (running_in store.old progress.old.activity s progress.old.left) (cleared_in progress.old)
+        OneStep code.now.words (live_in table.now) (slot == 0)
+        (running_in store.old progress.old.activity s progress.old.left) (cleared_in progress.old)
         result (running_in store.new progress.new.activity t progress.new.left) (cleared_at result progress.new)) }
     ensures phase { result ≡ None → IsInPhase progress.new }
     ensures standstill { IsNoStandstill result }
     ensures allowed { Allows result code.now.words (live_in table.now) (slot == 0) (local_of store.new progress.new.activity) }
-    ensures asked { AsksFailed result code.now.words (live_in table.now) (slot == 0) (local_of store.new progress.new.activity) (C.failed calls.new) }
+    ensures asked { AsksFailed result code.now.words (live_in table.now) (slot == 0)
+        (local_of store.new progress.new.activity) (C.failed calls.new) }
     ensures falls { Falls result code.now.words progress.old.left progress.old.activity.pc progress.new.left progress.new.activity.pc }
     ensures less { progress.new.left ≤ progress.old.left }
     ensures spends { Spends result progress.old.left progress.new.left }
@@ -371,11 +374,13 @@ pub(crate) fn advance<C: Calls>(
     requires ordered { IsOrdered progress.old.activity }
     requires phase { IsInPhase progress.old }
     ensures exact { WhereTold (C.state calls.old) (C.state calls.new) (λ s t.
-        Stretches code.now.words (live_in table.now) (slot == 0) (running_in store.old progress.old.activity s progress.old.left) (cleared_in progress.old)
+        Stretches code.now.words (live_in table.now) (slot == 0)
+        (running_in store.old progress.old.activity s progress.old.left) (cleared_in progress.old)
         result (running_in store.new progress.new.activity t progress.new.left) progress.new.cleared) }
     ensures standstill { is_standstill result ≡ false }
     ensures allowed { Allows (Some result) code.now.words (live_in table.now) (slot == 0) (local_of store.new progress.new.activity) }
-    ensures asked { AsksFailed (Some result) code.now.words (live_in table.now) (slot == 0) (local_of store.new progress.new.activity) (C.failed calls.new) }
+    ensures asked { AsksFailed (Some result) code.now.words (live_in table.now) (slot == 0)
+        (local_of store.new progress.new.activity) (C.failed calls.new) }
     ensures less { progress.new.left ≤ progress.old.left }
     ensures spends { Spends (Some result) progress.old.left progress.new.left }
     ensures blame { Blamed (Some result) (C.failed calls.new) (C.faults calls.old) (C.faults calls.new) }

@@ -20,7 +20,8 @@ returns-in-Some-clause-exact g c =
     (λ s. running_in c.stretch.store c.stretch.progress.activity s c.stretch.progress.left)
     (λ s. running_in c.go_plainly.new.store c.go_plainly.new.progress.activity s c.go_plainly.new.progress.left)
     (cleared_in c.args.progress.now) (cleared_in c.stretch.progress) (cleared_in c.go_plainly.new.progress)
-    _ _ c.stretch.invariant.reached (c.go_plainly.ensures.goes c.if-go_plainly.false (live_in c.args.table.now) (c.args.slot == 0))) c.in-Some.ensures.exact
+    _ _ c.stretch.invariant.reached
+    (c.go_plainly.ensures.goes c.if-go_plainly.false (live_in c.args.table.now) (c.args.slot == 0))) c.in-Some.ensures.exact
 
 pub stretch-preserved : goal.stretch-preserved
 stretch-preserved g c = record {
@@ -36,7 +37,8 @@ stretch-preserved g c = record {
       (λ s. running_in c.stretch.store c.stretch.progress.activity s c.stretch.progress.left)
       (λ s. running_in c.go_plainly.new.store c.go_plainly.new.progress.activity s c.go_plainly.new.progress.left)
       (cleared_in c.args.progress.now) (cleared_in c.stretch.progress) (cleared_in c.go_plainly.new.progress)
-      _ _ c.stretch.invariant.reached (c.go_plainly.ensures.goes c.if-go_plainly.false (live_in c.args.table.now) (c.args.slot == 0))) c.in_default.ensures.exact;
+      _ _ c.stretch.invariant.reached
+      (c.go_plainly.ensures.goes c.if-go_plainly.false (live_in c.args.table.now) (c.args.slot == 0))) c.in_default.ensures.exact;
   working = c.in_default.ensures.blame;
   lasts = lasts_on g.C.Calls.faults g.C.Calls.references g.C.Calls.leads _ _ _ c.stretch.invariant.lasts c.in_default.ensures.lasts;
   ordered = c.in_default.ensures.ordered;

@@ -10,7 +10,8 @@ use Rattle.edi_kernel.proofs.stretch.advance.Given as goal
 abbrev pub invariant-stretch : goal.invariant-stretch
 invariant-stretch g l = record {
   reached : WhereTold (g.C.Calls.state l.initial.calls) (g.C.Calls.state l.calls) (λ s t.
-      Reaches l.code.words (live_in l.table) (l.slot == 0) (running_in l.initial.store l.initial.progress.activity s l.initial.progress.left) (cleared_in l.initial.progress)
+      Reaches l.code.words (live_in l.table) (l.slot == 0)
+      (running_in l.initial.store l.initial.progress.activity s l.initial.progress.left) (cleared_in l.initial.progress)
       (running_in l.store l.progress.activity t l.progress.left) (cleared_in l.progress));
   working : g.C.Calls.failed l.calls None;
   lasts : CallsLast g.C.Calls.faults g.C.Calls.references g.C.Calls.leads l.initial.calls l.calls;
