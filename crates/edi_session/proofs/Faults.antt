@@ -5,7 +5,7 @@ use Rattle.std.proofs.lemmas.List.Elements.{Contains-append_right}
 use Rattle.edi_calls.specs.declared.ends.Outside.{Outside}
 use Rattle.edi_calls.specs.declared.ends.Outside.TheVariants as outside
 use Rattle.edi_calls.specs.State.{State}
-use Rattle.edi_session.specs.Course.{IsAtByte, IsFollowedBy, MayFail, PrintsByte, ShowsByte}
+use Rattle.edi_session.specs.Course.{IsAtByte, IsAtItsByte, IsFollowedBy, MayFail, PrintsByte, ShowsByte}
 
 -- two that follow one another do so among newer ones too, and before older ones
 pub followed_on : (news old : List State) (before next : State) → IsFollowedBy old before next → IsFollowedBy (news ++ old) before next
@@ -26,12 +26,16 @@ pub byte_on : (Puts : State → State → Type 0) (news old : List State) (m : S
 byte_on Puts news old m h =
     record { before = h.before; next = h.next; follows = followed_on news old h.before h.next h.follows; puts = h.puts; at = h.at }
 
+its_byte_on : (news old : List State) (failed : Outside) (m : State) → IsAtItsByte failed old m → IsAtItsByte failed (news ++ old) m
+its_byte_on news old outside.Terminal m h = byte_on ShowsByte news old m h
+its_byte_on news old outside.Printer m h = byte_on PrintsByte news old m h
+its_byte_on news old outside.Drive m h = tt
+its_byte_on news old outside.Input m h = tt
+
 -- newer states take nothing away
 pub may_fail_on : (news old : List State) (failed : Outside) (m : State) → MayFail failed old m → MayFail failed (news ++ old) m
-may_fail_on news old outside.Terminal m h = byte_on ShowsByte news old m h
-may_fail_on news old outside.Printer m h = byte_on PrintsByte news old m h
-may_fail_on news old outside.Drive m h = Contains-append_right news old m h
-may_fail_on news old outside.Input m h = Contains-append_right news old m h
+may_fail_on news old failed m h =
+    record { there = Contains-append_right news old m h.there; byte = its_byte_on news old failed m h.byte }
 
 -- both states that follow one another are there
 pub both_there : (states : List State) (before next : State) → IsFollowedBy states before next → Contains states before × Contains states next
@@ -49,8 +53,15 @@ byte_there Puts states m h =
       | inr second ↦ subst (Contains states) (sym second) both.1
     ]
 
-pub fails_there : (states : List State) (failed : Outside) (m : State) → MayFail failed states m → Contains states m
-fails_there states outside.Terminal m h = byte_there ShowsByte states m h
-fails_there states outside.Printer m h = byte_there PrintsByte states m h
-fails_there states outside.Drive m h = h
-fails_there states outside.Input m h = h
+-- an object may fail there
+pub terminal_fails : (states : List State) (m : State) → IsAtByte ShowsByte states m → MayFail outside.Terminal states m
+terminal_fails states m h = record { there = byte_there ShowsByte states m h; byte = h }
+
+pub printer_fails : (states : List State) (m : State) → IsAtByte PrintsByte states m → MayFail outside.Printer states m
+printer_fails states m h = record { there = byte_there PrintsByte states m h; byte = h }
+
+pub drive_fails : (states : List State) (m : State) → Contains states m → MayFail outside.Drive states m
+drive_fails states m h = record { there = h; byte = tt }
+
+pub input_fails : (states : List State) (m : State) → Contains states m → MayFail outside.Input states m
+input_fails states m h = record { there = h; byte = tt }

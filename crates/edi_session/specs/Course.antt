@@ -1,7 +1,7 @@
 -- Definition. A system with its course: the states through which it went. Each byte that is taken, shown or printed, each change
 -- of the files and each system call of a program is one step. So the states at which an object outside may fail are those of its
 -- course: an output only where a byte is shown or printed.
-use Rattle.std.specs.Prelude.{◌≡◌, ◌⊎◌, ℕ, List, [], ◌∷◌, ◌++◌, Option, Contains}
+use Rattle.std.specs.Prelude.{◌≡◌, ◌⊎◌, ℕ, List, [], ◌∷◌, ◌++◌, Option, Contains, ⊤}
 use Rattle.edi_calls.specs.declared.ends.Outside.{Outside}
 use Rattle.edi_calls.specs.declared.ends.Outside.TheVariants as outside
 use Rattle.edi_calls.specs.State.{File, State, fresh, moments_of}
@@ -65,10 +65,15 @@ pub record IsAtByte (Puts : (before next : State) → Type 0) (states : List Sta
   pub puts : Puts before next
   pub at : (moment ≡ before) ⊎ (moment ≡ next)
 
--- WHERE AN OBJECT MAY FAIL in a course with these states: the terminal only where a byte is shown, the printer only where one is
--- printed, the drive and the input at each state
-abbrev pub MayFail : Outside → (states : List State) → (moment : State) → Type 0
-MayFail outside.Terminal states moment = IsAtByte ShowsByte states moment
-MayFail outside.Printer states moment = IsAtByte PrintsByte states moment
-MayFail outside.Drive states moment = Contains states moment
-MayFail outside.Input states moment = Contains states moment
+-- an output is at a byte of its own
+abbrev pub IsAtItsByte : Outside → (states : List State) → (moment : State) → Type 0
+IsAtItsByte outside.Terminal states moment = IsAtByte ShowsByte states moment
+IsAtItsByte outside.Printer states moment = IsAtByte PrintsByte states moment
+IsAtItsByte outside.Drive states moment = ⊤
+IsAtItsByte outside.Input states moment = ⊤
+
+-- WHERE AN OBJECT MAY FAIL in a course with these states: the drive and the input at each state, the terminal only where a byte is shown, the
+-- printer only where one is printed
+pub record MayFail (failed : Outside) (states : List State) (moment : State) : Type 0 where
+  pub there : Contains states moment
+  pub byte : IsAtItsByte failed states moment

@@ -13,9 +13,8 @@ use Rattle.edi_target.specs.Moments.{EndsThrough}
 use Rattle.edi_target.proofs.Histories.{comes_through_its_past}
 use Rattle.edi_session.specs.declared.end.SessionEnd.{SessionEnd}
 use Rattle.edi_session.specs.Course.{Course, becomes, prints, shows, states_of}
-use Rattle.edi_session.specs.Session.{behind, IsFaultOfSession, Session, shell_in, stops}
+use Rattle.edi_session.specs.Session.{behind, IsFaultOfSession, Session, stops}
 use Rattle.edi_session.specs.Shell.{Shell, session_on, state_in}
-use Rattle.edi_session.proofs.Faults.{fails_there}
 use Rattle.edi_session.proofs.ends.Throughout.{EachPartKeeps, comes_keeps, goes_keeps}
 use Rattle.edi_commands.proofs.run.Blocks.{end_blocks, moment_blocks}
 
@@ -89,7 +88,7 @@ module _ (bound : ℕ) (choices : Choices) (state : State) (drawn shown_before :
       goes_keeps bound choices (Has state.blocks) (each_part state.blocks bound choices) h.last h.next
       (comes_keeps bound choices (Has state.blocks) (each_part state.blocks bound choices) h.lines_ (session_on state drawn shown_before) h.last start_has
       h.comes)
-      h.goes_ moment (fails_there (states_of (shell_in h.next).system) failed moment h.there)
+      h.goes_ moment h.there.there
 
   -- at the end
   pub end_of_session : (end : SessionEnd) (after : Shell) → Session bound choices (session_on state drawn shown_before) end after

@@ -49,7 +49,7 @@ unmounted bound choices name s due before after kernel why is silent h = record 
   shown = [];
   came = subst (λ x. SessionCame bound choices name x (seen before after) after [] kernel) (sym is)
       (unmounted_by before after kernel why h name (BrokeSession (mount_status why) kernel.failed bound choices (seen before after) after [])
-       (EndedWhole bound choices (seen before after) after [])
+      (EndedWhole bound choices (seen before after) after [])
       (λ end. HoldsSession bound choices name end (seen before after) after []));
   shows = shows_nothing before.shown after.shown h.shown;
   due_is = silent;

@@ -13,7 +13,7 @@ use Rattle.edi_target.specs.Op.{Instruction}
 use Rattle.edi_target.specs.Moments.{history_from_start, EndsThrough}
 use Rattle.edi_target.proofs.Histories.{past_grows, same_past}
 use Rattle.edi_session.specs.Course.{IsFollowedBy, MayFail, PrintsByte, ShowsByte}
-use Rattle.edi_session.proofs.Faults.{both_there}
+use Rattle.edi_session.proofs.Faults.{both_there, drive_fails, input_fails, printer_fails, terminal_fails}
 
 -- ---- a call that shows or prints does so with one byte
 
@@ -36,16 +36,20 @@ prints_byte before next a = (_, sym (left_so a.number 3 a.arguments a.answer bef
 -- the object that a call uses may fail before the call, or behind it
 pub at_call : (failed : Outside) (states : List State) (before next : State) → IsFollowedBy states before next → Asks failed before next
     → MayFail failed states before × MayFail failed states next
-at_call outside.Terminal states before next follows asks = (
-  record { before = before; next = next; follows = follows; puts = shows_byte before next asks; at = inl refl },
-  record { before = before; next = next; follows = follows; puts = shows_byte before next asks; at = inr refl },
-)
-at_call outside.Printer states before next follows asks = (
-  record { before = before; next = next; follows = follows; puts = prints_byte before next asks; at = inl refl },
-  record { before = before; next = next; follows = follows; puts = prints_byte before next asks; at = inr refl },
-)
-at_call outside.Drive states before next follows asks = both_there states before next follows
-at_call outside.Input states before next follows asks = both_there states before next follows
+at_call outside.Terminal states before next follows asks =
+    let puts = shows_byte before next asks in (
+      terminal_fails states before (record { before = before; next = next; follows = follows; puts = puts; at = inl refl }),
+      terminal_fails states next (record { before = before; next = next; follows = follows; puts = puts; at = inr refl }),
+    )
+at_call outside.Printer states before next follows asks =
+    let puts = prints_byte before next asks in (
+      printer_fails states before (record { before = before; next = next; follows = follows; puts = puts; at = inl refl }),
+      printer_fails states next (record { before = before; next = next; follows = follows; puts = puts; at = inr refl }),
+    )
+at_call outside.Drive states before next follows asks =
+    let both = both_there states before next follows in (drive_fails states before both.0, drive_fails states next both.1)
+at_call outside.Input states before next follows asks =
+    let both = both_there states before next follows in (input_fails states before both.0, input_fails states next both.1)
 
 -- ---- what follows one another in the past of a run
 

@@ -6,13 +6,21 @@ use Rattle.edi_calls.specs.declared.ends.Outside.{Outside}
 use Rattle.edi_calls.specs.declared.ends.Outside.TheVariants as outside
 use Rattle.edi_calls.specs.State.{State, fresh}
 use Rattle.edi_session.specs.Course.{Course, IsAtByte, MayFail, PrintsByte, ShowsByte, states_of, becomes, shows, prints}
-use Rattle.edi_session.proofs.Faults.{byte_on}
+use Rattle.edi_session.proofs.Faults.{byte_on, drive_fails, input_fails, printer_fails, terminal_fails}
 
-pub is_now : (c : Course) → Contains (states_of c) c.now
+is_now : (c : Course) → Contains (states_of c) c.now
 is_now c = (0, omega arith, refl)
 
-pub is_past : (next x : State) (c : Course) → Contains (states_of c) x → Contains (states_of (becomes next c)) x
-is_past next x c there = Contains-append_right (next ∷ []) (states_of c) x there
+-- the input may fail where a course is now, and the drive there and before a change
+pub input_now : (c : Course) → MayFail outside.Input (states_of c) c.now
+input_now c = input_fails (states_of c) c.now (is_now c)
+
+pub drive_now : (c : Course) → MayFail outside.Drive (states_of c) c.now
+drive_now c = drive_fails (states_of c) c.now (is_now c)
+
+pub drive_past : (next : State) (c : Course) → MayFail outside.Drive (states_of (becomes next c)) c.now
+drive_past next c =
+    drive_fails (states_of (becomes next c)) c.now (Contains-append_right (next ∷ []) (states_of c) c.now (is_now c))
 
 -- What each of two ways to put bytes does: in the end all are there, each first part is there once, right before a byte or behind it, and
 -- so it is from another state with the same contents.
@@ -88,10 +96,10 @@ pub shows_append : Appends outside.Terminal shows more_shown
 shows_append =
     appends shows more_shown (λ s. ap (λ xs. record s { shown = xs }) (append-nil s.shown))
     (λ s xs ys. ap (λ zs. record s { shown = zs }) (append_assoc s.shown xs ys)) (λ s xs. refl) (λ c. refl) (λ b bs c. refl)
-    ShowsByte (λ s b. (b, refl)) outside.Terminal (λ states x h. h)
+    ShowsByte (λ s b. (b, refl)) outside.Terminal terminal_fails
 
 pub prints_append : Appends outside.Printer prints more_printed
 prints_append =
     appends prints more_printed (λ s. ap (λ xs. record s { printed = xs }) (append-nil s.printed))
     (λ s xs ys. ap (λ zs. record s { printed = zs }) (append_assoc s.printed xs ys)) (λ s xs. refl) (λ c. refl) (λ b bs c. refl)
-    PrintsByte (λ s b. (b, refl)) outside.Printer (λ states x h. h)
+    PrintsByte (λ s b. (b, refl)) outside.Printer printer_fails

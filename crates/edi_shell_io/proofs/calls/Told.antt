@@ -35,7 +35,7 @@ use Rattle.edi_session.specs.Texts as texts
 use Rattle.edi_shell_io.specs.calls.OnSystem.{FailsAt, HasState, StandsAt, taken_by, put_by, read_by, page_by, page_size}
 use Rattle.edi_shell_io.specs.calls.Standing.{Answers, At, Leads, ReadsFile, ReadsPage, StandsIn, Takes, with_slots}
 use Rattle.edi_shell_io.proofs.calls.Pages.{counted, page_part}
-use Rattle.edi_shell_io.proofs.calls.Steps.{Appends, is_now, is_past, more_printed, more_shown, prints_append, shows_append}
+use Rattle.edi_shell_io.proofs.calls.Steps.{Appends, drive_now, drive_past, input_now, more_printed, more_shown, prints_append, shows_append}
 
 -- ---- options
 
@@ -220,7 +220,7 @@ module _ {D S T P : Type 0} (contents : D → Option (List (List ℕ))) (left : 
       takes next.Failed blamed so =
           let p = pair (TakesByte next.Failed) so in
           stands_in new s p.after (state_in s) outside.Input p.is
-          (ap fresh p.so.1 ∙ ap (λ (i : List ℕ). record (fresh p.before) { input = i }) p.so.0.1 ∙ p.alike) blamed (is_now s.system)
+          (ap fresh p.so.1 ∙ ap (λ (i : List ℕ). record (fresh p.before) { input = i }) p.so.0.1 ∙ p.alike) blamed (input_now s.system)
 
       -- ---- the terminal and the printer
 
@@ -284,11 +284,11 @@ module _ {D S T P : Type 0} (contents : D → Option (List (List ℕ))) (left : 
       file_read (Err cat.NoSuch) None into why blamed so here there = (tt, here)
       file_read (Err cat.NoSuch) (Some file) into why blamed so here there = absurd so
       file_read (Err cat.Fault) file into why blamed so here there = there blamed
-      file_read (Err cat.Taken) file into why blamed so here there = absurd (elim why [ | inl e ↦ cc | inr e ↦ cc ])
-      file_read (Err cat.Protected) file into why blamed so here there = absurd (elim why [ | inl e ↦ cc | inr e ↦ cc ])
-      file_read (Err (cat.TooLarge n)) file into why blamed so here there = absurd (elim why [ | inl e ↦ cc | inr e ↦ cc ])
-      file_read (Err cat.CatalogFull) file into why blamed so here there = absurd (elim why [ | inl e ↦ cc | inr e ↦ cc ])
-      file_read (Err (cat.Full w f)) file into why blamed so here there = absurd (elim why [ | inl e ↦ cc | inr e ↦ cc ])
+      file_read (Err cat.Taken) file into why blamed so here there = absurd (elim why [ inl e ↦ cc | inr e ↦ cc ])
+      file_read (Err cat.Protected) file into why blamed so here there = absurd (elim why [ inl e ↦ cc | inr e ↦ cc ])
+      file_read (Err (cat.TooLarge n)) file into why blamed so here there = absurd (elim why [ inl e ↦ cc | inr e ↦ cc ])
+      file_read (Err cat.CatalogFull) file into why blamed so here there = absurd (elim why [ inl e ↦ cc | inr e ↦ cc ])
+      file_read (Err (cat.Full w f)) file into why blamed so here there = absurd (elim why [ inl e ↦ cc | inr e ↦ cc ])
 
       pub reads_file : (answer : Result ℕ CatEnd) (title into : List ℕ) (result : Result (Option ℕ) SessionEnd) → result ≡ read_by answer
           → IsReading answer → failed_in new ≡ failed_at answer → WhereTold (told old) (told new) (λ before after. (after ≡ before) × ReadsWhole answer (find_file before.slots title) into)
@@ -300,7 +300,7 @@ module _ {D S T P : Type 0} (contents : D → Option (List (List ℕ))) (left : 
           subst (λ r. ReadsFile at stands r (file_in s title) into s new) (sym e)
           (file_read answer (file_in s title) into why blamed (subst (λ o. ReadsWhole answer o into) file p.so.1)
           (stands_at new s p.after s.shown_before p.is alike due refl)
-          (λ drive. stands_in new s p.after (state_in s) outside.Drive p.is alike drive (is_now s.system)))
+          (λ drive. stands_in new s p.after (state_in s) outside.Drive p.is alike drive (drive_now s.system)))
 
       page_read : (answer : Result (Unit {0}) CatEnd) (n i : ℕ) (file : Option File) (into : List ℕ) → length into ≡ 512
           → IfSome file (λ f. n ≡ page_size i (length f.bytes)) → IsReading answer → failed_in new ≡ failed_at answer
@@ -311,11 +311,11 @@ module _ {D S T P : Type 0} (contents : D → Option (List (List ℕ))) (left : 
       page_read (Err cat.NoSuch) n i None into size count why blamed so here there = (tt, here)
       page_read (Err cat.NoSuch) n i (Some file) into size count why blamed so here there = absurd so
       page_read (Err cat.Fault) n i file into size count why blamed so here there = there blamed
-      page_read (Err cat.Taken) n i file into size count why blamed so here there = absurd (elim why [ | inl e ↦ cc | inr e ↦ cc ])
-      page_read (Err cat.Protected) n i file into size count why blamed so here there = absurd (elim why [ | inl e ↦ cc | inr e ↦ cc ])
-      page_read (Err (cat.TooLarge m)) n i file into size count why blamed so here there = absurd (elim why [ | inl e ↦ cc | inr e ↦ cc ])
-      page_read (Err cat.CatalogFull) n i file into size count why blamed so here there = absurd (elim why [ | inl e ↦ cc | inr e ↦ cc ])
-      page_read (Err (cat.Full w f)) n i file into size count why blamed so here there = absurd (elim why [ | inl e ↦ cc | inr e ↦ cc ])
+      page_read (Err cat.Taken) n i file into size count why blamed so here there = absurd (elim why [ inl e ↦ cc | inr e ↦ cc ])
+      page_read (Err cat.Protected) n i file into size count why blamed so here there = absurd (elim why [ inl e ↦ cc | inr e ↦ cc ])
+      page_read (Err (cat.TooLarge m)) n i file into size count why blamed so here there = absurd (elim why [ inl e ↦ cc | inr e ↦ cc ])
+      page_read (Err cat.CatalogFull) n i file into size count why blamed so here there = absurd (elim why [ inl e ↦ cc | inr e ↦ cc ])
+      page_read (Err (cat.Full w f)) n i file into size count why blamed so here there = absurd (elim why [ inl e ↦ cc | inr e ↦ cc ])
 
       pub reads_page : (answer : Result (Unit {0}) CatEnd) (n i : ℕ) (title into : List ℕ) (result : Result (Option ℕ) SessionEnd) (found : Option Entry)
           (entry : Entry) → length into ≡ 512
@@ -336,7 +336,7 @@ module _ {D S T P : Type 0} (contents : D → Option (List (List ℕ))) (left : 
           (page_read answer n i (file_in s title) into size (counted (file_in s title) entry n i told_of count) why blamed
           (subst (λ o. InState.ReadsPage answer o i into) file p.so.1)
           (stands_at new s p.after s.shown_before p.is alike due refl)
-          (λ drive. stands_in new s p.after (state_in s) outside.Drive p.is alike drive (is_now s.system)))
+          (λ drive. stands_in new s p.after (state_in s) outside.Drive p.is alike drive (drive_now s.system)))
 
       -- ---- the catalogue
 
@@ -377,9 +377,9 @@ module _ {D S T P : Type 0} (contents : D → Option (List (List ℕ))) (left : 
               elim p.so.1 [
                 | inl same ↦ stands_in new (with_slots (wanted (state_in s)) s) p.after (state_in s) outside.Drive p.is
                     (stays_so p.before p.after p.alike same) blamed
-                    (is_past (state_in (with_slots (wanted (state_in s)) s)) (state_in s) s.system (is_now s.system))
+                    (drive_past (state_in (with_slots (wanted (state_in s)) s)) s.system)
                 | inr done ↦ stands_in new (with_slots (wanted (state_in s)) s) p.after (state_in (with_slots (wanted (state_in s)) s)) outside.Drive p.is
-                    (becomes_wanted p.before p.after p.alike done) blamed (is_now (with_slots (wanted (state_in s)) s).system)
+                    (becomes_wanted p.before p.after p.alike done) blamed (drive_now (with_slots (wanted (state_in s)) s).system)
               ],
             )
         answers (Err cat.NoSuch) blamed so = let p = pair (Answer (Err cat.NoSuch)) so in unchanged cat.NoSuch p.before p.after p.is p.alike p.so
