@@ -1,5 +1,5 @@
 -- How many rules and ends of levels a predictive parser takes before it comes to a symbol: less after each of them.
-use Rattle.std.proofs.Common.{◌≡◌, ℕ, suc, ◌+◌, ◌<◌, ◌≤◌, List, [], ◌∷◌, ◌++◌, Bool, true, false, refl, sym, ap, ◌∙◌, subst, arith}
+use Rattle.std.proofs.Common.{◌≡◌, ℕ, suc, ◌+◌, ◌<◌, List, [], ◌∷◌, ◌++◌, Bool, true, false, refl, sym, subst, arith}
 use Rattle.std.specs.Prelude.{if◌then◌else◌}
 use Rattle.edi_grammar.specs.Grammar.{Part, token, level_end, part}
 use Rattle.edi_grammar.specs.Parser.{null_of}

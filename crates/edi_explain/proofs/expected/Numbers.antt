@@ -1,17 +1,15 @@
 -- The rules in numbers are the rules of the grammar.
-use Rattle.std.proofs.Common.{◌≡◌, ◌≤◌, ℕ, suc, ◌+◌, ◌-◌, ◌<◌, List, [], ◌∷◌, ◌++◌, Bool, true, false, Option, Some, refl, sym, ap, ◌∙◌, subst, arith}
+use Rattle.std.proofs.Common.{◌≡◌, ◌≤◌, ℕ, suc, ◌-◌, ◌<◌, List, [], ◌∷◌, ◌++◌, Bool, true, false, Some, refl, sym, ap, ◌∙◌, subst, arith}
 use Rattle.std.specs.Prelude.{if◌then◌else◌, ◌==◌, ◌&&◌, nat_eq, nat_le, nat_lt}
 use Rattle.std.proofs.lemmas.Bool.{ltb-true, ltb-false, eqb-true, eqb-false, eq-eqb, ne_eqb}
 use Rattle.edi_explain.specs.told.Groups.{is_among}
-use Rattle.edi_lex.specs.declared.symbol.Mark.{Mark}
 use Rattle.edi_grammar.specs.Grammar.{Part, token, level_end, part, rule_no, level}
-use Rattle.edi_grammar.specs.Parser.{has, null_of, selects, pick, rule_at, Why, Stops, closed, chosen}
+use Rattle.edi_grammar.specs.Parser.{has, null_of, selects, pick, rule_at, Stops, closed, chosen}
 use Rattle.edi_grammar.specs.Kinds as kind
-use Rattle.edi_grammar.specs.Kind.{kind_at}
 use Rattle.edi_grammar.specs.Rules.{Sort, Program}
 use Rattle.edi_grammar.specs.Edison.{edison, null}
-use Rattle.edi_explain.specs.expected.Numbered.{Row, taken_at}
-use Rattle.edi_explain.specs.expected.Awaited.{sorts, sort_no, part_no, number_of, number_in, waits_on, waits, in_numbers, rows_from, rows_of, taken_from, gives_way}
+use Rattle.edi_explain.specs.expected.Numbered.{taken_at}
+use Rattle.edi_explain.specs.expected.Awaited.{sort_no, part_no, number_of, waits_on, waits, in_numbers, rows_from, rows_of, taken_from, gives_way}
 use Rattle.edi_explain.specs.expected.Awaited.{first_part, level_with, levels_on}
 use Rattle.edi_explain.specs.expected.Advances.{Leads}
 use Rattle.edi_explain.proofs.expected.Rows.{taken_is}

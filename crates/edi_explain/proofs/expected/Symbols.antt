@@ -1,13 +1,13 @@
 -- What comes of one symbol where one is waited for, and where nothing is but the end of the text.
-use Rattle.std.proofs.Common.{◌≡◌, ℕ, ◌<◌, ◌≤◌, ◌+◌, List, [], ◌∷◌, ◌++◌, Bool, true, false, Option, Some, None, MatchOption, option_to_list, length, refl, sym, ap, ◌∙◌, subst, arith}
-use Rattle.std.specs.Prelude.{nat_le, nat_lt}
-use Rattle.std.proofs.lemmas.Bool.{le-leb, lt-ltb}
+use Rattle.std.proofs.Common.{◌≡◌, ℕ, suc, ◌<◌, ◌≤◌, ◌+◌, ◌-◌, ◌^◌, List, [], ◌∷◌, ◌++◌, Bool, true, false, Option, Some, None, MatchOption, option_to_list, length, refl, sym, ap, ◌∙◌, subst, arith}
+use Rattle.std.specs.Prelude.{if◌then◌else◌, ◌==◌, nat_le}
+use Rattle.std.proofs.lemmas.Bool.{eqb-true, le-leb, lt-ltb}
 use Rattle.edi_grammar.specs.Grammar.{Part, token, level}
-use Rattle.edi_grammar.specs.Parser.{Stops, done, taken, other, over}
+use Rattle.edi_grammar.specs.Parser.{done, taken, other, over}
 use Rattle.edi_grammar.specs.Kinds as kind
 use Rattle.edi_grammar.specs.Rules.{Sort, opens}
 use Rattle.edi_grammar.specs.Edison.{edison}
-use Rattle.edi_explain.specs.expected.Awaited.{part_no, waits, levels_on}
+use Rattle.edi_explain.specs.expected.Awaited.{part_no, waits, level_with, levels_on, end_with, ends_on}
 use Rattle.edi_explain.specs.expected.Advances.{Advances, Front, Leads}
 use Rattle.edi_explain.specs.declared.expected.parser.Step.{Step}
 use Rattle.edi_explain.specs.declared.expected.parser.Step.TheVariants as step
@@ -46,6 +46,66 @@ module _ (wanted a : ℕ) (numbers : List ℕ) (some : 1 ≤ wanted) (known : wa
 
   pub few_levels : wanted ≡ a → levels_on numbers 0 ≤ 64 → Advances (part_no wanted ∷ waits numbers) (waits numbers) a step.Taken
   few_levels same few = taken_symbol same (λ o. few)
+
+-- ---- ends of levels
+
+ends_more : (u v : List ℕ) (ends : ℕ) → ends_on (u ++ v) ends ≡ ends_on v (ends_on u ends)
+ends_more [] v ends = refl
+ends_more (n ∷ u) v ends = ends_more u v (end_with n ends)
+
+no_more : (n levels ends : ℕ) → levels ≤ ends → level_with n levels ≤ end_with n ends
+no_more n levels ends most = by (n == 0) refl (nat_le n 50) refl where
+  by : (b : Bool) → (n == 0) ≡ b → (c : Bool) → nat_le n 50 ≡ c → level_with n levels ≤ end_with n ends
+  by true e c f = rw (e) (omega (arith, most))
+  by false e true f = rw (e, f) (omega (arith, most))
+  by false e false f = rw (e, f) most
+
+no_more_on : (numbers : List ℕ) (levels ends : ℕ) → levels ≤ ends → levels_on numbers levels ≤ ends_on numbers ends
+no_more_on [] levels ends most = most
+no_more_on (n ∷ numbers) levels ends most = no_more_on numbers (level_with n levels) (end_with n ends) (no_more n levels ends most)
+
+pub few_ends : (numbers : List ℕ) (ends most : ℕ) → ends ≡ ends_on numbers 0 → ends ≤ most → levels_on numbers 0 ≤ most
+few_ends numbers ends most e few = let no : levels_on numbers 0 ≤ ends_on numbers 0 = no_more_on numbers 0 0 (omega arith) in omega (arith, e, few, no)
+
+-- there are no more of them than numbers
+ends_fit : (numbers : List ℕ) (ends : ℕ) → ends_on numbers ends ≤ ends + length numbers
+ends_fit [] ends = omega arith
+ends_fit (n ∷ numbers) ends = by (n == 0) refl (ends_fit numbers (suc ends)) (ends_fit numbers ends) where
+  by : (b : Bool) → (n == 0) ≡ b → ends_on numbers (suc ends) ≤ suc ends + length numbers → ends_on numbers ends ≤ ends + length numbers
+      → ends_on numbers (end_with n ends) ≤ ends + length (n ∷ numbers)
+  by true e more same = rw (e) (omega (arith, more))
+  by false e more same = rw (e) (omega (arith, same))
+
+-- so they can be counted
+pub few_for : (numbers : List ℕ) (ends many cap : ℕ) → ends ≡ ends_on numbers 0 → many ≡ length numbers → many ≤ cap → cap < 2 ^ 63 → ends < 2 ^ 63
+few_for numbers ends many cap e is most small = omega (arith, e, is, most, small, ends_fit numbers 0)
+
+pub ends_front : (items front : List ℕ) (number ends : ℕ) → Front items front (Some number) → ends ≡ ends_on items 0
+    → ends ≡ end_with number (ends_on front 0)
+ends_front items front number ends e counted = counted ∙ ap (λ l. ends_on l 0) e ∙ ends_more front (number ∷ []) 0
+
+pub symbol_ends : (number ends : ℕ) → 1 ≤ number → end_with number ends ≡ ends
+symbol_ends number ends some = by (number == 0) refl where
+  by : (b : Bool) → (number == 0) ≡ b → end_with number ends ≡ ends
+  by true e = let none : number ≡ 0 = eqb-true number 0 e in absurd (omega (arith, none, some))
+  by false e = ap (λ b. if b then suc ends else ends) e
+
+pub none_ends : (items front : List ℕ) (ends : ℕ) → Front items front None → ends ≡ ends_on items 0 → ends ≡ ends_on front 0
+none_ends items front ends e counted = counted ∙ ap (λ l. ends_on l 0) (e.0 ∙ sym e.1)
+
+-- after one that ends, and after a rule in place of a part
+pub one_less : (numbers new : List ℕ) (number ends left : ℕ) → number ≡ 0 → new ≡ numbers → ends ≡ end_with number (ends_on numbers 0) → left ≡ ends - 1
+    → left ≡ ends_on new 0
+one_less numbers new number ends left none same counted e =
+    let many : ends ≡ suc (ends_on numbers 0) = counted ∙ ap (λ n. end_with n (ends_on numbers 0)) none in
+    let less : suc (ends_on numbers 0) - 1 ≡ ends_on numbers 0 = omega arith in
+    e ∙ ap (λ n. n - 1) many ∙ less ∙ ap (λ l. ends_on l 0) (sym same)
+
+pub rule_ends : (numbers rule new : List ℕ) (number ends more : ℕ) → (number ≡ 0 → ⊥) → new ≡ numbers ++ rule → ends ≡ end_with number (ends_on numbers 0)
+    → more ≡ ends_on rule ends → more ≡ ends_on new 0
+rule_ends numbers rule new number ends more some same counted e =
+    let one : 1 ≤ number = omega (arith, some) in
+    e ∙ ap (λ n. ends_on rule n) (counted ∙ symbol_ends number (ends_on numbers 0) one) ∙ sym (ends_more numbers rule 0) ∙ ap (λ l. ends_on l 0) (sym same)
 
 -- ---- the end of the text
 

@@ -1,5 +1,5 @@
 -- Words of contracts. What comes of one symbol more, and of marks, in a predictive parser.
-use Rattle.std.specs.Prelude.{◌≡◌, ℕ, ◌≤◌, ◌<◌, Bool, true, false, List, [], ◌∷◌, ◌++◌, Option, Some, None}
+use Rattle.std.specs.Prelude.{◌≡◌, ℕ, ◌≤◌, Bool, true, false, List, [], ◌∷◌, ◌++◌, Option, Some, None}
 use Rattle.edi_lex.specs.declared.symbol.Mark.{Mark}
 use Rattle.edi_grammar.specs.Grammar.{Part}
 use Rattle.edi_grammar.specs.Parser.{Why, complete, wrong, too_deep, Stops}

@@ -1,6 +1,6 @@
 -- Helper. What a predictive parser waits for, in numbers: 0 is the end of a level, 1 to 50 are symbols of these kinds, and the parts of the grammar
 -- come after them. Such numbers stand with what is waited for last in front. No public contract cites these.
-use Rattle.std.specs.Prelude.{ℕ, suc, ◌+◌, ◌-◌, ◌==◌, Bool, nat_le, List, [], ◌∷◌, ◌++◌, slice_index_or, if◌then◌else◌}
+use Rattle.std.specs.Prelude.{ℕ, suc, ◌+◌, ◌-◌, ◌==◌, nat_le, List, [], ◌∷◌, ◌++◌, slice_index_or, if◌then◌else◌}
 use Rattle.edi_grammar.specs.Grammar.{Part, token, level_end, part, opened}
 use Rattle.edi_grammar.specs.Parser.{selects}
 use Rattle.edi_grammar.specs.Kinds as kind
@@ -137,3 +137,13 @@ level_with n levels = if n == 0 then suc levels else if nat_le n 50 then levels 
 abbrev pub levels_on : List ℕ → ℕ → ℕ
 levels_on [] levels = levels
 levels_on (n ∷ numbers) levels = levels_on numbers (level_with n levels)
+
+-- ---- ends of levels, which are never fewer than the levels that end
+
+-- how many there are, with one number more
+abbrev pub end_with : ℕ → ℕ → ℕ
+end_with n ends = if n == 0 then suc ends else ends
+
+abbrev pub ends_on : List ℕ → ℕ → ℕ
+ends_on [] ends = ends
+ends_on (n ∷ numbers) ends = ends_on numbers (end_with n ends)

@@ -1,6 +1,6 @@
 //! A predictive parser that goes on from where it stands, symbol by symbol.
 
-ghost use Rattle.std.specs.Prelude.{◌≡◌, ◌≤◌, ◌<◌, ◌^◌, true, false, ◌∷◌, [], List, IfOk, OnOk, drop, option_map, slice_index_or};
+ghost use Rattle.std.specs.Prelude.{◌≡◌, ◌≤◌, ◌<◌, ◌+◌, ◌^◌, true, false, ◌∷◌, [], List, IfOk, OnOk, drop, option_map, slice_index_or};
 ghost use Rattle.edi_lex.specs.declared.symbol.Mark.{Mark};
 ghost use Rattle.edi_grammar.specs.Rules.{opens as opens_level};
 ghost use Rattle.edi_explain.specs.expected.Advances.{Advances, Awaits, Front, Reads, may_be};
@@ -122,10 +122,33 @@ fn levels_in(numbers: &[u8]) -> usize
     levels
 }
 
+// ---- ends of levels
+
+// How many there are, with one number more.
+fn end_with(number: u8, ends: usize) -> usize
+    requires few { ends + 1 < 2 ^ 64 }
+    ensures exact { result ≡ spec.end_with number ends }
+{
+    if number == 0 { ends + 1 } else { ends }
+}
+
+// How many there are with these numbers behind others.
+fn ends_with(numbers: &[u8], ends: usize) -> usize
+    requires few { ends < 2 ^ 63 }
+    ensures exact { result ≡ spec.ends_on numbers.now ends }
+{
+    let mut many = ends;
+    for number in numbers {
+        many = end_with(*number, many);
+    }
+    many
+}
+
 // ---- one symbol
 
-// What comes of a symbol of this kind where one of that kind is waited for, and then these.
-fn at_symbol(numbers: &[u8], wanted: u8, kind: u8) -> Step
+// What comes of a symbol of this kind where one of that kind is waited for, and then these, with so many ends of levels.
+fn at_symbol(numbers: &[u8], ends: usize, wanted: u8, kind: u8) -> Step
+    requires counted { ends ≡ spec.ends_on numbers.now 0 }
     requires some { 1 ≤ wanted }
     requires known { wanted ≤ 50 }
     ensures exact { Advances (spec.part_no wanted ∷ spec.waits numbers.now) (spec.waits numbers.now) kind result }
@@ -134,6 +157,9 @@ fn at_symbol(numbers: &[u8], wanted: u8, kind: u8) -> Step
         return Step::Wrong;
     }
     if !opens(kind) {
+        return Step::Taken;
+    }
+    if ends <= MOST_LEVELS {
         return Step::Taken;
     }
     if MOST_LEVELS < levels_in(numbers) {
@@ -166,29 +192,36 @@ fn take_front(numbers: &mut Vec<u8>) -> Option<u8>
     numbers.pop()
 }
 
-// Takes a symbol of this kind, where it may stand; 0 is the end of the text.
-fn advance(numbers: &mut Vec<u8>, kind: u8) -> Result<Step, AllocError>
+// Takes a symbol of this kind, where it may stand, with so many ends of levels; 0 is the end of the text.
+fn advance(numbers: &mut Vec<u8>, ends: &mut usize, kind: u8) -> Result<Step, AllocError>
+    requires counted { ends.old ≡ spec.ends_on numbers.old.items 0 }
     ensures exact { IfOk result (λ step. Advances (spec.waits numbers.old.items) (spec.waits numbers.new.items) kind step) }
+    ensures counted { OnOk result (ends.new ≡ spec.ends_on numbers.new.items 0) }
 {
     while let Some(number) = take_front(numbers) {
         if is_symbol(number) {
-            return Ok(at_symbol(numbers.as_slice(), number, kind));
+            return Ok(at_symbol(numbers.as_slice(), *ends, number, kind));
         }
-        put_rule(numbers, number, kind)?;
+        let many = put_rule(numbers, *ends, number, kind)?;
+        *ends = many;
     }
     Ok(at_end(kind))
 }
 
-// Puts the parts of a rule in place of a part; the end of a level has none.
-fn put_rule(numbers: &mut Vec<u8>, number: u8, kind: u8) -> Result<(), AllocError>
-    ensures { OnOk result (numbers.new.items ≡ spec.gives_way numbers.old.items number kind) }
+// Puts the parts of a rule in place of a part; the end of a level has none. It gives how many ends of levels there are then.
+fn put_rule(numbers: &mut Vec<u8>, ends: usize, number: u8, kind: u8) -> Result<usize, AllocError>
+    requires few { ends < 2 ^ 63 }
+    requires counted { ends ≡ spec.end_with number (spec.ends_on numbers.old.items 0) }
+    ensures exact { OnOk result (numbers.new.items ≡ spec.gives_way numbers.old.items number kind) }
+    ensures counted { IfOk result (λ many. many ≡ spec.ends_on numbers.new.items 0) }
 {
     if number == 0 {
-        return Ok(());
+        return Ok(ends.saturating_sub(1));
     }
     let index = usize::from(number.saturating_sub(FIRST_PART));
-    numbers.extend_from_slice(taken_at(index, kind))?;
-    Ok(())
+    let rule = taken_at(index, kind);
+    numbers.extend_from_slice(rule)?;
+    Ok(ends_with(rule, ends))
 }
 
 // ---- marks
@@ -206,9 +239,10 @@ pub(crate) fn awaited(alloc: Global, marks: &[Mark]) -> Result<Option<Vec<u8>>, 
     ensures exact { IfOk result (λ found. Reads marks.now (option_map (λ numbers. numbers.items) found)) }
 {
     let mut numbers = Vec::new(alloc);
+    let mut ends: usize = 0;
     numbers.push(FIRST_PART)?;
     for mark in marks {
-        let step = advance(&mut numbers, kind_of(&mark.symbol))?;
+        let step = advance(&mut numbers, &mut ends, kind_of(&mark.symbol))?;
         if !is_taken(step) {
             return Ok(None);
         }
@@ -230,8 +264,9 @@ pub(crate) fn may_stand(alloc: Global, numbers: &[u8], kind: u8) -> Result<bool,
 {
     let mut then = Vec::new(alloc);
     then.extend_from_slice(numbers)?;
-    let step = advance(&mut then, kind)?;
+    let mut ends = ends_with(numbers, 0);
+    let step = advance(&mut then, &mut ends, kind)?;
     // What comes after the symbol shows that the marks with it begin a program.
-    let _end = advance(&mut then, 0)?;
+    let _end = advance(&mut then, &mut ends, 0)?;
     Ok(may_follow(step))
 }

@@ -1,4 +1,4 @@
-use Rattle.std.proofs.Common.{◌≡◌, ◌∙◌, ℕ, List, Bor, ap, drop}
+use Rattle.std.proofs.Common.{◌∙◌, ℕ, List, Bor, ap, drop}
 use Rattle.edi_explain.specs.expected.Numbered.{first_taken, rule_rows}
 use Rattle.edi_explain.specs.told.Tables.{pairs_of}
 use Rattle.edi_explain.proofs.expected.Rows.{drop_each}
