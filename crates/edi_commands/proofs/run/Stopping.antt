@@ -129,8 +129,8 @@ pub stops_by : {U X : Type 0} (third : List ℕ → AfterStep U → Type 0) (mak
     → ((s : Status) (before after : Outside) (kernel : Lent) → StepsBy third make file from before (stops s) → IsNothing before after [] kernel
     → Comes c s before after [] kernel)
     → StopsAs c file from third (StepsBy third make file from)
-stops_by third make c file from wants fails does = record {
-  opening = λ x s h. at_opening (λ all choices. third all >>= λ u. Mounts x >>= λ done. Ready (make all u, choices)) file from x s h;
+stops_by {U} {X} third make c file from wants fails does = record {
+  opening = λ x s h. at_opening {A = X × Choices} (λ all choices. third all >>= λ u. Mounts x >>= λ done. Ready (make all u, choices)) file from x s h;
   unread = λ x all choices s f r t. inr (all, f, inr (choices, r, inl t));
   wants = wants;
   fails = fails;

@@ -66,7 +66,7 @@ module _ (file lines_file out : List ℕ) (o : Options) where
   pub stops_as : StopsAs command file o.choices Accepts Pointed
   stops_as = record {
     opening = λ x s h.
-        at_opening (λ bytes choices. Accepts bytes >>= λ unit. Fetches x lines_file >>= λ lines. FindsPoints bytes lines >>= λ list. Ready (bytes, choices, list))
+        at_opening {A = List ℕ × Choices × List Watched} (λ bytes choices. Accepts bytes >>= λ unit. Fetches x lines_file >>= λ lines. FindsPoints bytes lines >>= λ list. Ready (bytes, choices, list))
         file o.choices x s h;
     unread = λ x all choices s f r t. inr (all, f, inr (choices, r, inl t));
     wants = λ b a k n. inl n;
