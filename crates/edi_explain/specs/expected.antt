@@ -2,3 +2,6 @@
 pub mod MayStand
 pub mod Reaches
 pub mod Opened
+pub mod Numbered
+pub mod Awaited
+pub mod Advances

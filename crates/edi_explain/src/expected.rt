@@ -2,10 +2,11 @@
 
 mod after;
 pub mod laws;
-mod samples;
+mod parser;
+mod rules;
 mod waiting;
-mod walk;
 
+pub(crate) use after::expected_behind;
 pub use after::{Expected, expected_after};
+pub use parser::Step;
 pub use waiting::{Held, opened};
-pub use walk::{Reach, do_begin, reach_of};

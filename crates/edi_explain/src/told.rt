@@ -3,12 +3,12 @@
 mod advice;
 mod explained;
 mod foreign;
-mod groups;
+pub(crate) mod groups;
 pub mod laws;
 mod lexical;
 mod names;
 mod notes;
-mod numbers;
+pub(crate) mod numbers;
 mod source;
 mod stray;
 mod table;

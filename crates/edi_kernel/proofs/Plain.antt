@@ -5,6 +5,7 @@ use Rattle.edi_told.proofs.Told.{WhereTold-map}
 use Rattle.edi_calls.specs.State.{State}
 use Rattle.edi_calls.specs.declared.kinds.Cause.{Cause}
 use Rattle.edi_target.specs.Effect.{Local, Effect, goes, released, asks, due, fails, bad}
+use Rattle.edi_target.specs.Effect.{entering, leaving, looping, arriving, again, forking, exiting, finishing}
 use Rattle.edi_target.specs.Mach.{Running}
 use Rattle.edi_machine.specs.declared.activity.Activity.{Activity}
 use Rattle.edi_machine.specs.declared.ends.TurnKind.{TurnKind}
@@ -21,7 +22,7 @@ use Rattle.edi_kernel.specs.declared.stretch.Pause.TheVariants as pause
 use Rattle.edi_kernel.specs.declared.stretch.Progress.{Progress}
 use Rattle.edi_kernel.specs.Stretch.{cleared_by, cleared_in, cleared_of, goes_on, left_after, noted_after, pause_of, running_in}
 use Rattle.edi_kernel.specs.Stretch.{with_activity, Falls, IsInPhase, IsSameSegment, OneStep, Reaches}
-use Rattle.edi_kernel.specs.Stretch.{Stretches}
+use Rattle.edi_kernel.specs.Stretch.{Paused, going, pausing, stopping, Pauses, Stretches}
 use Rattle.edi_kernel.proofs.Phases.{notes, stays_in}
 use Rattle.edi_kernel.proofs.Steps.{falls_are, steps_are}
 
@@ -37,6 +38,37 @@ rounds kind.Enter (suc n) round may = refl
 rounds kind.End (suc n) round may = refl
 rounds kind.Loop (suc n) round may = refl
 rounds k (suc n) round may = absurd (cc)
+
+-- an instruction of the loop takes no other turn than that of an arrival, where its process does not go on
+pub arrival_by : (left : ℕ) (k : TurnKind) → may_follow left k ≡ true → goes_on k ≡ false → k ≡ kind.Arrive
+arrival_by zero k may stops = absurd (cc)
+arrival_by (suc n) kind.Enter may stops = absurd (cc)
+arrival_by (suc n) kind.End may stops = absurd (cc)
+arrival_by (suc n) kind.Loop may stops = absurd (cc)
+arrival_by (suc n) kind.Arrive may stops = refl
+arrival_by (suc n) (kind.Again marks) may stops = absurd (cc)
+arrival_by (suc n) (kind.Fork at) may stops = absurd (cc)
+arrival_by (suc n) kind.Exit may stops = absurd (cc)
+arrival_by (suc n) kind.ProgramEnd may stops = absurd (cc)
+
+-- an arrival pauses whatever is noted of the marks
+arrival_noted : (words : List ℕ) (x : Paused) (now : Running) (c d : Bool) → Pauses words x (pause.At kind.Arrive) now c
+    → Pauses words x (pause.At kind.Arrive) now d
+arrival_noted words going now c d h = absurd h
+arrival_noted words (pausing entering r b) now c d h = absurd h.0
+arrival_noted words (pausing leaving r b) now c d h = absurd h.0
+arrival_noted words (pausing looping r b) now c d h = absurd h.0
+arrival_noted words (pausing arriving r b) now c d h = h
+arrival_noted words (pausing (again marks) r b) now c d h = absurd h.0
+arrival_noted words (pausing (forking branches) r b) now c d h = absurd h.0
+arrival_noted words (pausing exiting r b) now c d h = absurd h.0
+arrival_noted words (pausing finishing r b) now c d h = absurd h.0
+arrival_noted words (stopping e r b) now c d h = absurd h
+
+arrives_so : (words : List ℕ) (live : ℕ) (is_first : Bool) (was now : Running) (cleared c d : Bool)
+    → OneStep words live is_first was cleared (Some (pause.At kind.Arrive)) now c
+    → OneStep words live is_first was cleared (Some (pause.At kind.Arrive)) now d
+arrives_so words live is_first was now cleared c d h = (h.0, h.1, arrival_noted words h.0 now c d h.2)
 
 module _ (words memory new_memory : List ℕ) (a b : Activity) (p : Progress) where
   abbrev Given : StepEnd → Type 0
@@ -65,13 +97,12 @@ module _ (words memory new_memory : List ℕ) (a b : Activity) (p : Progress) wh
         (running_in new_memory b s p.left) (cleared_in (with_activity p b))
     one_on given = one end.On given
 
-    pub one_arrival : may_follow p.left kind.Arrive ≡ true → Given (end.Turn kind.Arrive) → (c : Bool)
-        → c ≡ noted_after (end.Turn kind.Arrive) p.cleared p.phase a.held → (live : ℕ) (is_first : Bool) (s : State) →
+    pub one_arrival : may_follow p.left kind.Arrive ≡ true → Given (end.Turn kind.Arrive) → (c : Bool) → (live : ℕ) (is_first : Bool) (s : State) →
         OneStep words live is_first (running_in memory a s p.left) (cleared_in (with_activity p a)) (Some (pause.At kind.Arrive))
         (running_in new_memory b s (p.left - 1)) c
-    one_arrival may given c noted live is_first s =
-        subst (λ (d : Bool). OneStep words live is_first (running_in memory a s p.left) (cleared_in (with_activity p a)) (Some (pause.At kind.Arrive))
-        (running_in new_memory b s (p.left - 1)) d) (sym noted)
+    one_arrival may given c live is_first s =
+        arrives_so words live is_first (running_in memory a s p.left) (running_in new_memory b s (p.left - 1)) (cleared_in (with_activity p a))
+        (noted_after (end.Turn kind.Arrive) p.cleared p.phase a.held) c
         (subst (λ (r : Option Pause). OneStep words live is_first (running_in memory a s p.left) (cleared_in (with_activity p a)) r
         (running_in new_memory b s (p.left - 1)) (cleared_of r (noted_after (end.Turn kind.Arrive) p.cleared p.phase a.held) p.phase b.held))
         (pauses_by_arrival p.left may) (one (end.Turn kind.Arrive) given live is_first s))

@@ -73,7 +73,7 @@ module _ (words : List ℕ) (live : ℕ) (is_first : Bool) (before after : Local
   by_turn n arriving l e f k = (
     pausing arriving (record was { local = l; turns = n }) cleared,
     λ more. refl,
-    (tt, sym (same_now l n (suc n - 1) e f (omega arith)), sym (or_false cleared)),
+    (tt, sym (same_now l n (suc n - 1) e f (omega arith)), tt),
   )
   by_turn n (again marks) l e f k = (
     pausing (again marks) (record was { local = l; turns = n }) cleared,

@@ -167,9 +167,14 @@ Stops outcome.turns ending.Turns was now = (now.turns ≡ was.turns) × (now.sys
 Stops (outcome.bad address) (ending.Bad at) was now = (at ≡ address) × (now ≡ was)
 Stops _ _ was now = ⊥
 
+-- An arrival takes all marks away, whatever is noted of them. Where a process pauses at another turn, that is noted which was cleared.
+abbrev pub IsNoted : TurnKind → (is_cleared cleared : Bool) → Type 0
+IsNoted kind.Arrive is_cleared cleared = ⊤
+IsNoted kind is_cleared cleared = is_cleared ≡ cleared
+
 abbrev pub Pauses : List ℕ → Paused → Pause → (now : Running) → (cleared : Bool) → Type 0
 Pauses words (pausing finishing r cleared) (pause.Over ending.Done) now is_cleared = now ≡ r
-Pauses words (pausing turn r cleared) (pause.At kind) now is_cleared = IsKind words turn kind × (now ≡ r) × (is_cleared ≡ cleared)
+Pauses words (pausing turn r cleared) (pause.At kind) now is_cleared = IsKind words turn kind × (now ≡ r) × IsNoted kind is_cleared cleared
 Pauses words (stopping ending r cleared) (pause.Over e) now is_cleared = Stops ending e r now
 Pauses words _ _ now is_cleared = ⊥
 

@@ -40,6 +40,10 @@ is_free_home (Some list) = nat_eq list 1
 abbrev pub is_live : Table → ℕ → Bool
 is_live t slot = nat_lt slot 32 && not (is_free_home (home_of t.lists slot))
 
+-- how many processes live
+abbrev pub live_in : Table → ℕ
+live_in t = 32 - length (free_slots t)
+
 abbrev pub is_waiting : Standing → Bool
 is_waiting (standing.Waiting n) = true
 is_waiting standing = false

@@ -285,8 +285,7 @@ impl KernelState {
         ensures lasts { CallsLast C.faults C.references C.leads calls.old calls.new }
         ensures ordered { IsOrdered progress.new.activity }
     {
-        let live = self.table.live();
-        advance(&mut self.store, progress, code, live, slot == 0, calls)
+        advance(&mut self.store, progress, code, &self.table, slot, calls)
     }
 
     /// The taken process goes on until it gives way, the run ends, or `left` turns are used up and another is

@@ -5,12 +5,13 @@
 //! or is refused, one whose turn is due where none is left, and one in the last two words of a code. Only there a run ends or the system is
 //! called.
 
-ghost use Rattle.std.specs.Prelude.{◌≡◌, ◌+◌, ◌-◌, ◌*◌, ◌<◌, ◌≤◌, ◌^◌, ℕ, Bool, None, Some, true, false, length};
+ghost use Rattle.std.specs.Prelude.{◌≡◌, ◌+◌, ◌-◌, ◌*◌, ◌<◌, ◌≤◌, ◌==◌, ◌^◌, ℕ, Bool, None, Some, true, false, length};
 ghost use Rattle.edi_told.specs.Told.{WhereTold};
 ghost use Rattle.edi_calls.specs.State.{State};
 ghost use Rattle.edi_store.specs.Copied.{IsMemory};
 ghost use Rattle.edi_machine.specs.Activities.{IsOrdered, local_of};
 ghost use Rattle.edi_calls.specs.Ends.{CallsLast};
+ghost use Rattle.edi_kernel.specs.Table.{live_in};
 ghost use Rattle.edi_kernel.specs.Stretch.{
   Allows,
   AsksFailed,
@@ -27,6 +28,7 @@ ghost use Rattle.edi_kernel.specs.Stretch.{
   cleared_at,
   cleared_in,
   failure_of,
+  goes_on,
   is_standstill,
   left_after,
   noted_after,
@@ -37,6 +39,7 @@ ghost use Rattle.edi_kernel.specs.Stretch.{
 };
 
 use crate::ends::Ending;
+use crate::table::Table;
 use edi_calls::Calls;
 use edi_machine::{Activity, Cause, StepEnd, TurnKind, step, step_plainly};
 use edi_store::Store;
@@ -67,8 +70,9 @@ pub(crate) enum Plain {
 /// the path of an instruction is short: that `phase` is over is seen in `held`.
 #[derive(Clone, Copy)]
 pub(crate) struct Progress {
-    pub(crate) activity: Activity,
+    // First, so that no hole comes between the fields, which would be cleared each time.
     pub(crate) left: u64,
+    pub(crate) activity: Activity,
     pub(crate) cleared: bool,
     pub(crate) phase: bool,
 }
@@ -203,6 +207,53 @@ fn instruct<C: Calls>(
     pause
 }
 
+/// Executes one instruction of the process at this slot, and tells whether it pauses. Who lives is counted here, since the fast path does
+/// not ask for it.
+#[inline(always)]
+fn instruct_among<C: Calls>(
+    store: &mut Store,
+    progress: &mut Progress,
+    code: &Code,
+    table: &Table,
+    slot: usize,
+    calls: &mut C,
+) -> Option<Pause>
+    requires working { C.failed calls.old None }
+    requires ordered { IsOrdered progress.old.activity }
+    requires phase { IsInPhase progress.old }
+    ensures exact { WhereTold (C.state calls.old) (C.state calls.new) (λ s t.
+        OneStep code.now.words (live_in table.now) (slot == 0)
+        (running_in store.old progress.old.activity s progress.old.left) (cleared_in progress.old)
+        result (running_in store.new progress.new.activity t progress.new.left) (cleared_at result progress.new)) }
+    ensures phase { result ≡ None → IsInPhase progress.new }
+    ensures standstill { IsNoStandstill result }
+    ensures allowed { Allows result code.now.words (live_in table.now) (slot == 0) (local_of store.new progress.new.activity) }
+    ensures asked { AsksFailed result code.now.words (live_in table.now) (slot == 0)
+        (local_of store.new progress.new.activity) (C.failed calls.new) }
+    ensures falls { Falls result code.now.words progress.old.left progress.old.activity.pc progress.new.left progress.new.activity.pc }
+    ensures less { progress.new.left ≤ progress.old.left }
+    ensures spends { Spends result progress.old.left progress.new.left }
+    ensures blame { Blamed result (C.failed calls.new) (C.faults calls.old) (C.faults calls.new) }
+    ensures lasts { CallsLast C.faults C.references C.leads calls.old calls.new }
+    ensures ordered { IsOrdered progress.new.activity }
+    ensures was_whole { IsMemory store.old }
+    ensures whole { IsMemory store.new }
+{
+    let live = table.live();
+    instruct(store, progress, code, live, slot == 0, calls)
+}
+
+/// Whether a process goes on after a turn of this kind.
+#[inline(always)]
+fn goes_on(kind: TurnKind) -> bool
+    ensures { result ≡ goes_on kind }
+{
+    match kind {
+        TurnKind::Enter | TurnKind::End | TurnKind::Loop => true,
+        _ => false,
+    }
+}
+
 /// Takes a turn in which the process goes on: it takes all marks away.
 #[inline(always)]
 fn go_round(progress: &mut Progress)
@@ -237,25 +288,15 @@ fn instruct_plainly(
     ensures ordered { IsOrdered activity.new }
     ensures whole { IsMemory store.new }
 {
-    let held = activity.held;
     match step_plainly(store, activity, words, &progress.left) {
         Some(StepEnd::On) => Plain::On,
-        Some(StepEnd::Turn(TurnKind::Loop)) => {
-            go_round(progress);
-            Plain::On
-        }
-        Some(StepEnd::Turn(TurnKind::Enter)) => {
-            go_round(progress);
-            Plain::On
-        }
-        Some(StepEnd::Turn(TurnKind::End)) => {
-            go_round(progress);
-            Plain::On
-        }
-        Some(StepEnd::Turn(TurnKind::Arrive)) => {
-            let end = StepEnd::Turn(TurnKind::Arrive);
+        Some(StepEnd::Turn(kind)) => {
+            if goes_on(kind) {
+                go_round(progress);
+                return Plain::On;
+            }
+            // The only other turn of an instruction of the loop is that of an arrival, of which no marks are noted.
             progress.left -= 1;
-            progress.cleared = cleared_after(end, progress.cleared, progress.phase, held);
             Plain::Arrived
         }
         // Nothing has changed. The slow path executes it again and ends the run, so that the loop carries no cause.
@@ -319,26 +360,27 @@ fn go_plainly(store: &mut Store, progress: &mut Progress, words: &[u16]) -> bool
     }
 }
 
-/// Executes instructions until the process pauses.
+/// Executes instructions of the process at this slot until it pauses.
 #[inline(always)]
 pub(crate) fn advance<C: Calls>(
     store: &mut Store,
     progress: &mut Progress,
     code: &Code,
-    live: u32,
-    first: bool,
+    table: &Table,
+    slot: usize,
     calls: &mut C,
 ) -> Pause
     requires working { C.failed calls.old None }
-    requires live { live ≤ 32 }
     requires ordered { IsOrdered progress.old.activity }
     requires phase { IsInPhase progress.old }
     ensures exact { WhereTold (C.state calls.old) (C.state calls.new) (λ s t.
-        Stretches code.now.words live first (running_in store.old progress.old.activity s progress.old.left) (cleared_in progress.old)
+        Stretches code.now.words (live_in table.now) (slot == 0)
+        (running_in store.old progress.old.activity s progress.old.left) (cleared_in progress.old)
         result (running_in store.new progress.new.activity t progress.new.left) progress.new.cleared) }
     ensures standstill { is_standstill result ≡ false }
-    ensures allowed { Allows (Some result) code.now.words live first (local_of store.new progress.new.activity) }
-    ensures asked { AsksFailed (Some result) code.now.words live first (local_of store.new progress.new.activity) (C.failed calls.new) }
+    ensures allowed { Allows (Some result) code.now.words (live_in table.now) (slot == 0) (local_of store.new progress.new.activity) }
+    ensures asked { AsksFailed (Some result) code.now.words (live_in table.now) (slot == 0)
+        (local_of store.new progress.new.activity) (C.failed calls.new) }
     ensures less { progress.new.left ≤ progress.old.left }
     ensures spends { Spends (Some result) progress.old.left progress.new.left }
     ensures blame { Blamed (Some result) (C.failed calls.new) (C.faults calls.old) (C.faults calls.new) }
@@ -350,7 +392,7 @@ pub(crate) fn advance<C: Calls>(
         if go_plainly(store, progress, code.words()) {
             return Pause::At(TurnKind::Arrive);
         }
-        if let Some(pause) = instruct(store, progress, code, live, first, calls) {
+        if let Some(pause) = instruct_among(store, progress, code, table, slot, calls) {
             return pause;
         }
     }

@@ -243,8 +243,8 @@ pub fn edison<F: Files, D: Drive, S: Source, T: Sink, P: Sink, W: Watcher>(
     watcher: &mut W,
 ) -> Status
     // The status means what it says of the words, of all that is outside before and after the call and of the lent kernel; and the terminal
-    // has taken what goes with it, and no more. Where the devices tell, an object that a failed call of a program uses is blamed, and its
-    // count rose; in a session none is blamed.
+    // has taken what goes with it, and no more. Where the devices tell, an object is blamed that a failed call of a program or
+    // of a session uses, and its count rose.
     // What is left of the drive, the input and the printer, each by itself, is told whatever the others tell.
     ensures ends { let before = outside_of F.contents D.contents S.left T.taken P.taken files.old drive.old input.old terminal.old printer.old in
         let after = outside_of F.contents D.contents S.left T.taken P.taken files.new drive.new input.new terminal.new printer.new in

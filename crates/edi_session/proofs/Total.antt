@@ -66,9 +66,9 @@ edits f (Some file) s = edits_kind file.kind f file.bytes s
 -- what comes behind lines that were asked for
 taking : (taken : Taken) (P : List ℕ → Shell → AfterLine → Type 0) (s : Shell) → Later s (shell_of taken) → ((bytes : List ℕ) (t : Shell) → Comes (P bytes) t)
     → (next : AfterLine) × BehindTaken taken P next × Later s (shell_in next)
-taking (took bytes t) P s later on = let n = on bytes t in (n.0, n.1, λ m h. n.2 m (later m h))
-taking (ended t) P s later on = (closes InputEnd t, refl, λ m h. fresh_on t m (later m h))
-taking (limited t) P s later on = (closes Limit t, refl, λ m h. fresh_on t m (later m h))
+taking (took bytes t) P s later on = let n = on bytes t in (n.0, n.1, λ o m h. n.2 o m (later o m h))
+taking (ended t) P s later on = (closes InputEnd t, refl, λ o m h. fresh_on t o m (later o m h))
+taking (limited t) P s later on = (closes Limit t, refl, λ o m h. fresh_on t o m (later o m h))
 
 with_text_on : (f : List ℕ) (act : List ℕ → Shell → Shell) (s : Shell) → ((bytes : List ℕ) → Later s (act bytes s)) → (file : File)
     → Later s (with_text f act file s)
@@ -102,7 +102,7 @@ edits_by (edit.Delete n) title e s = changes_line (missing (is_index n (length e
 edits_by (edit.Look n) title e s = (edits_on title e (looked_at n (lines.line_numbered e.lines n) s), refl, looked_on n (lines.line_numbered e.lines n) s)
 edits_by edit.Undo title e s = undoes title e.earlier e s
 edits_by edit.Write title e s = (edits_on title e (says_no_memory s), inr refl, no_memory_on s)
-edits_by edit.Quit title e s = (leaves s, refl, λ m h. h)
+edits_by edit.Quit title e s = (leaves s, refl, λ o m h. h)
 edits_by edit.Bad title e s = (_, refl, says_on (codes "bad edit") s)
 
 pub edits_line : (title : List ℕ) (e : Editing) (text : List ℕ) (s : Shell) → Comes (EditsLine title e text) s
@@ -112,14 +112,14 @@ edits_line title e text s = edits_by (edit_line (kept_line text)) title e s
 
 module _ (bound : ℕ) (choices : Choices) where
   pub acts : (l : Line) (s : Shell) → Comes (ActsBy bound choices l) s
-  acts line.Blank s = (goes s, refl, λ m h. h)
+  acts line.Blank s = (goes s, refl, λ o m h. h)
   acts line.Bad s = (_, refl, says_on (codes "bad command") s)
   acts line.Catalogue s = (_, refl, shown_on (catalogue_text (state_in s)) s)
   acts (line.Show f) s = (
     _,
     refl,
     with_file_on (file_in s f) f (with_text f (λ bytes s. on_fresh_line (shown_by bytes s))) s
-        (with_text_on f (λ bytes s. on_fresh_line (shown_by bytes s)) s (λ bytes m h. fresh_on (shown_by bytes s) m (shown_on bytes s m h))),
+        (with_text_on f (λ bytes s. on_fresh_line (shown_by bytes s)) s (λ bytes o m h. fresh_on (shown_by bytes s) o m (shown_on bytes s o m h))),
   )
   acts (line.Print f) s = (_, refl, with_file_on (file_in s f) f (with_text f printed_by) s (with_text_on f printed_by s (λ bytes. printed_on bytes s)))
   acts (line.Enter f) s =
@@ -149,8 +149,8 @@ module _ (bound : ℕ) (choices : Choices) where
   goes_in : (mode : Mode) (s : Shell) → Comes (GoesIn bound choices mode) s
   goes_in commanding s =
       taking (next_line true (prompted bound choices s)) (ActsOn bound choices) s
-      (λ m h. take_line_on true (state_in (prompted bound choices s)).input [] (prompted bound choices s) m
-      (shown_on (codes "> ") (on_fresh_line s) m (fresh_on s m h)))
+      (λ o m h. take_line_on true (state_in (prompted bound choices s)).input [] (prompted bound choices s) o m
+      (shown_on (codes "> ") (on_fresh_line s) o m (fresh_on s o m h)))
       (λ bytes t. acts (command_line bytes) t)
   goes_in (editing title e) s = taking (next_line false s) (EditsLine title e) s (take_line_on false (state_in s).input [] s) (edits_line title e)
 

@@ -1,7 +1,9 @@
 -- Definition. A system with its course: the states through which it went. Each byte that is taken, shown or printed, each change
 -- of the files and each system call of a program is one step. So the states at which an object outside may fail are those of its
--- course.
-use Rattle.std.specs.Prelude.{ℕ, List, [], ◌∷◌, ◌++◌, Option}
+-- course: an output only where a byte is shown or printed.
+use Rattle.std.specs.Prelude.{◌≡◌, ◌⊎◌, ℕ, List, [], ◌∷◌, ◌++◌, Option, Contains, ⊤}
+use Rattle.edi_calls.specs.declared.ends.Outside.{Outside}
+use Rattle.edi_calls.specs.declared.ends.Outside.TheVariants as outside
 use Rattle.edi_calls.specs.State.{File, State, fresh, moments_of}
 
 -- the newest state of the past stands first
@@ -39,3 +41,39 @@ has_slots slots c = becomes (record (fresh c.now) { slots = slots }) c
 -- system calls, the last one first.
 abbrev pub executed : State → List State → Course → Course
 executed after past c = record { now = after; past = moments_of (fresh c.now) past ++ states_of c }
+
+-- ---- where an object outside may fail
+
+-- of these states, the newest of which stands first, the one is followed by the other
+pub record IsFollowedBy (states : List State) (before next : State) : Type 0 where
+  pub later : List State
+  pub earlier : List State
+  pub is : states ≡ later ++ next ∷ before ∷ earlier
+
+-- one more byte is shown, or printed, and all else is the same
+abbrev pub ShowsByte : (before next : State) → Type 0
+ShowsByte before next = (byte : ℕ) × (next ≡ record before { shown = before.shown ++ byte ∷ [] })
+
+abbrev pub PrintsByte : (before next : State) → Type 0
+PrintsByte before next = (byte : ℕ) × (next ≡ record before { printed = before.printed ++ byte ∷ [] })
+
+-- among these states two follow one another so, and the moment is the first of them, or the second: what fails may have taken the byte
+pub record IsAtByte (Puts : (before next : State) → Type 0) (states : List State) (moment : State) : Type 0 where
+  pub before : State
+  pub next : State
+  pub follows : IsFollowedBy states before next
+  pub puts : Puts before next
+  pub at : (moment ≡ before) ⊎ (moment ≡ next)
+
+-- an output is at a byte of its own
+abbrev pub IsAtItsByte : Outside → (states : List State) → (moment : State) → Type 0
+IsAtItsByte outside.Terminal states moment = IsAtByte ShowsByte states moment
+IsAtItsByte outside.Printer states moment = IsAtByte PrintsByte states moment
+IsAtItsByte outside.Drive states moment = ⊤
+IsAtItsByte outside.Input states moment = ⊤
+
+-- WHERE AN OBJECT MAY FAIL in a course with these states: the drive and the input at each state, the terminal only where a byte is shown, the
+-- printer only where one is printed
+pub record MayFail (failed : Outside) (states : List State) (moment : State) : Type 0 where
+  pub there : Contains states moment
+  pub byte : IsAtItsByte failed states moment

@@ -4,7 +4,8 @@
 -- `no memory` may stand in place of the effect of `compile` behind `no file` and `not text`, of an execution behind `no file` and
 -- `not code`, of `edit` behind `not text`, and of a change that is not refused, an undo with something to undo, and `w`.
 use Rattle.std.specs.Prelude.{◌≡◌, ◌⊎◌, ℕ, zero, suc, ◌+◌, ◌-◌, true, false, nat_lt, if◌then◌else◌, List, [], ◌∷◌, length, insert, remove, slice_set, Option}
-use Rattle.std.specs.Prelude.{Some, None, codes, Contains}
+use Rattle.std.specs.Prelude.{Some, None, codes}
+use Rattle.edi_calls.specs.declared.ends.Outside.{Outside}
 use Rattle.edi_calls.specs.declared.kinds.FileKind.{FileKind}
 use Rattle.edi_calls.specs.declared.kinds.FileKind.TheVariants as file_kind
 use Rattle.edi_calls.specs.Choice.{Choices}
@@ -32,7 +33,7 @@ use Rattle.edi_session.specs.declared.line.Line.{Line}
 use Rattle.edi_session.specs.declared.line.Line.TheVariants as line
 use Rattle.edi_session.specs.declared.line.EditLine.{EditLine}
 use Rattle.edi_session.specs.declared.line.EditLine.TheVariants as edit
-use Rattle.edi_session.specs.Course.{executed, states_of}
+use Rattle.edi_session.specs.Course.{MayFail, executed, states_of}
 use Rattle.edi_session.specs.Files.{file_in, with_file, with_text, why_line, stores, deletes, renames, protects, copies_to}
 use Rattle.edi_session.specs.Shell.{Shell, Mode, commanding, editing, state_in, shown_by, printed_by, on_fresh_line, says, Taken, took, ended, limited}
 use Rattle.edi_session.specs.Shell.{next_line, next_text}
@@ -245,11 +246,11 @@ module _ (bound : ℕ) (choices : Choices) where
     pub comes : ComesTo lines_ s last
     pub stops_ : Goes last (stops end after)
 
-  -- the session comes through this state of the system
-  pub record IsMomentOfSession (s : Shell) (moment : State) : Type 0 where
+  -- the session comes through this state of the system, at which that object may fail
+  pub record IsFaultOfSession (s : Shell) (failed : Outside) (moment : State) : Type 0 where
     pub lines_ : ℕ
     pub last : Shell
     pub comes : ComesTo lines_ s last
     pub next : AfterLine
     pub goes_ : Goes last next
-    pub there : Contains (states_of (shell_in next).system) moment
+    pub there : MayFail failed (states_of (shell_in next).system) moment

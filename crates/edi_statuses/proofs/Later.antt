@@ -189,9 +189,9 @@ module _ (b m : Outside) (y : Option (List ℕ)) (still : StillTold m.shown y) w
         files = record_later b m y still options.record_file (BootSteps before_ options.choices) (BootSteps seen_later options.choices)
             (λ v. EndedWhole options.turns v before_ m shown) (λ v. EndedWhole options.turns v seen_later later_ shown) steps
             (λ v. ended_later b m y still options.turns v shown);
-        drive = λ h. (h.0, steps (goes h.0) h.1, broke_session_later b m y still options.turns h.0 shown h.2);
-        input = λ h. (h.0, steps (goes h.0) h.1, broke_session_later b m y still options.turns h.0 shown h.2);
-        output = λ h. (h.0, steps (goes h.0) h.1, broke_session_later b m y still options.turns h.0 shown h.2);
+        drive = λ h. (h.0, steps (goes h.0) h.1, broke_session_later b m y still status.DriveFault kernel.failed options.turns h.0 shown h.2);
+        input = λ h. (h.0, steps (goes h.0) h.1, broke_session_later b m y still status.InputFault kernel.failed options.turns h.0 shown h.2);
+        output = λ h. (h.0, steps (goes h.0) h.1, broke_session_later b m y still status.OutputFault kernel.failed options.turns h.0 shown h.2);
       }
 
   -- ---- other commands

@@ -21,8 +21,7 @@ use Rattle.edi_statuses.specs.Steps.{AfterStep, goes, stops, ◌>>=◌, Ready, F
 use Rattle.edi_statuses.specs.Steps.{ChecksOld, FindsPoints, FitsDisk, HasRoom}
 use Rattle.edi_statuses.specs.Executions.{Runnable, FailedAt, HasCall, HasRun, StandsAt, BrokeRun}
 use Rattle.edi_session.specs.declared.end.SessionEnd.{SessionEnd}
-use Rattle.edi_session.specs.Session.{IsMomentOfSession}
-use Rattle.edi_statuses.specs.Sessions.{BootSteps, BrokeSession, HasEnded, EndedWhole, HoldsSession, shell_on}
+use Rattle.edi_statuses.specs.Sessions.{BootSteps, BrokeSession, FailedSession, HasEnded, EndedWhole, HoldsSession}
 use Rattle.edi_statuses.specs.Commands.{CommandEffect, Does, IsNothing, OnlyKeeps, OnlyBlocks, OnlyShows, KeepsCode, Runs, HasPlace, ReadsTitle}
 use Rattle.edi_statuses.specs.Commands.{RunSteps, ExecSteps, PointSteps, WatchSteps, TextSteps, OldSteps, PutSteps, GetSteps, ListSteps, DemoSteps}
 use Rattle.edi_statuses.specs.Broken.{AtRecord, HasNotBegun, ChangesDrive, ShowsFront, RanWhole, RanUnkept}
@@ -376,11 +375,21 @@ module _ (b m : Outside) (y : Option (List ℕ)) (still : StillTold m.shown y) w
     ended = told_later (λ d e. HasEnded bound choices h.how h.drawn d e shown) (session_ended_silent bound choices h.how h.drawn shown) h.ended;
   }
 
-  pub broke_session_later : (bound : ℕ) (choices : Choices) (shown : List ℕ) → BrokeSession bound choices seen_then m shown
-      → BrokeSession bound choices seen_now now shown
-  broke_session_later bound choices shown told =
-      told_later (λ d e. StandsAt (IsMomentOfSession bound choices (shell_on d)) d e shown)
-      (stands_silent (λ d. IsMomentOfSession bound choices (shell_on d)) shown) told
+  failed_session_silent : (s : Status) (blamed : Option failing.Outside) (bound : ℕ) (choices : Choices) (shown : List ℕ)
+      → Silent (λ d e. FailedSession s blamed bound choices d e shown)
+  failed_session_silent s blamed bound choices shown d e bytes h = record {
+    failed = h.failed;
+    blamed_is = h.blamed_is;
+    status_is = h.status_is;
+    moment = h.moment;
+    comes = h.comes;
+    at = at_silent h.moment shown d e bytes h.at;
+  }
+
+  pub broke_session_later : (s : Status) (blamed : Option failing.Outside) (bound : ℕ) (choices : Choices) (shown : List ℕ)
+      → BrokeSession s blamed bound choices seen_then m shown → BrokeSession s blamed bound choices seen_now now shown
+  broke_session_later s blamed bound choices shown told =
+      told_later (λ d e. FailedSession s blamed bound choices d e shown) (failed_session_silent s blamed bound choices shown) told
 
   -- ---- commands
 

@@ -112,8 +112,8 @@ abbrev pub BrokeRun : Status → (blamed : Option failing.Outside) → Runnable 
 BrokeRun s blamed program bound choices before after shown =
     WhereTold (devices_of before) (devices_of after) (λ d e. FailedAt s blamed (HasCall program (system_on d) bound choices) d e shown)
 
--- The devices are at one moment of a walk or a session, at which just these bytes were shown and printed. A change of the files
--- in which the drive failed leaves them at the moment before it or at the one after it.
+-- The devices are at one moment of a walk, at which just these bytes were shown and printed. A change of the files in which the drive
+-- failed leaves them at the moment before it or at the one after it.
 pub record StandsAt (Comes : State → Type 0) (d e : Devices) (shown : List ℕ) : Type 0 where
   pub moment : State
   pub comes : Comes moment

@@ -165,8 +165,8 @@ facts_of (words.replay file choices turns) =
 facts_of (words.exec file o) =
     program_run file (λ before. ExecAsks before file o.choices) (λ before. ExecSteps before file o.choices) (λ a. code a.0) (λ a. a.1) o.turns o.record_file
 facts_of (words.boot o) =
-    let broken : Left = λ before after shown kernel.
-    HasBegun (BootSteps before o.choices) (λ choices. BrokeSession o.turns choices before after shown) in
+    let broken : Status → Left = λ s before after shown kernel.
+    HasBegun (BootSteps before o.choices) (λ choices. BrokeSession s kernel.failed o.turns choices before after shown) in
     record (on_devices (file_of_choices o.choices) o.record_file) {
       decided = false;
       asks_drive = λ before. WentOn (ReadsChoices before o.choices);
@@ -175,9 +175,9 @@ facts_of (words.boot o) =
           ⊎ AtRecord o.record_file (BootSteps before o.choices) (λ choices. EndedUnkept o.turns choices before after shown);
       files_failed = λ before after shown kernel.
           AtRecord o.record_file (BootSteps before o.choices) (λ choices. EndedWhole o.turns choices before after shown);
-      drive_failed = broken;
-      input_failed = broken;
-      output_failed = broken;
+      drive_failed = broken status.DriveFault;
+      input_failed = broken status.InputFault;
+      output_failed = broken status.OutputFault;
     }
 facts_of (words.compile file out) = record plain {
   fetches = file_named file;

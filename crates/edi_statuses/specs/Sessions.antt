@@ -1,17 +1,20 @@
 -- Definition. What `boot` leaves: there is a session of the shell on the devices.
-use Rattle.std.specs.Prelude.{◌≡◌, ◌≤◌, ℕ, ◌*◌, List, length, Option}
+use Rattle.std.specs.Prelude.{◌≡◌, ◌≤◌, ℕ, ◌*◌, List, length, Option, Some}
 use Rattle.edi_told.specs.Told.{WhereTold}
+use Rattle.edi_calls.specs.declared.ends.Outside as failing
 use Rattle.edi_calls.specs.Choice.{Choices}
+use Rattle.edi_calls.specs.State.{State}
 use Rattle.edi_session.specs.declared.end.SessionEnd.{SessionEnd}
 use Rattle.edi_session.specs.declared.end.SessionEnd.TheVariants as end
-use Rattle.edi_session.specs.Session.{IsMomentOfSession, Session}
+use Rattle.edi_session.specs.Session.{IsFaultOfSession, Session}
 use Rattle.edi_session.specs.Shell.{Shell, session_on, state_in}
 use Rattle.edi_words.specs.Words.{ChoicesFrom}
 use Rattle.edi_statuses.specs.declared.status.Status.{Status}
 use Rattle.edi_statuses.specs.declared.status.Status.TheVariants as status
+use Rattle.edi_statuses.specs.Counts.{object_status}
 use Rattle.edi_statuses.specs.Outside.{Outside, Devices, DevicesAreAt, Keeps, SameFiles, devices_of, system_on}
 use Rattle.edi_statuses.specs.Steps.{AfterStep, ◌>>=◌, Ready, ReadsChoices, Mounts}
-use Rattle.edi_statuses.specs.Executions.{StandsAt, record_of}
+use Rattle.edi_statuses.specs.Executions.{record_of}
 
 -- `boot`: reads the choices, mounts
 abbrev pub BootSteps : Outside → ChoicesFrom → AfterStep Choices → Type 0
@@ -43,10 +46,19 @@ abbrev pub SessionEnded : (bound : ℕ) → Choices → SessionEnd → (drawn : 
 SessionEnded bound choices end drawn before after shown =
     WhereTold (devices_of before) (devices_of after) (λ d e. HasEnded bound choices end drawn d e shown)
 
--- an object failed in the midst of the session: the devices are at one moment of it
-abbrev pub BrokeSession : (bound : ℕ) → Choices → Outside → Outside → (shown : List ℕ) → Type 0
-BrokeSession bound choices before after shown =
-    WhereTold (devices_of before) (devices_of after) (λ d e. StandsAt (IsMomentOfSession bound choices (shell_on d)) d e shown)
+-- The session was broken off by the fault of the object that is blamed, which this status is. The devices are at a moment of the session at which
+-- that object may fail: the terminal only where the session shows a byte, the printer only where it prints one.
+pub record FailedSession (s : Status) (blamed : Option failing.Outside) (bound : ℕ) (choices : Choices) (d e : Devices) (shown : List ℕ) : Type 0 where
+  pub failed : failing.Outside
+  pub blamed_is : blamed ≡ Some failed
+  pub status_is : object_status failed ≡ s
+  pub moment : State
+  pub comes : IsFaultOfSession bound choices (shell_on d) failed moment
+  pub at : DevicesAreAt moment d e shown
+
+abbrev pub BrokeSession : Status → (blamed : Option failing.Outside) → (bound : ℕ) → Choices → Outside → Outside → (shown : List ℕ) → Type 0
+BrokeSession s blamed bound choices before after shown =
+    WhereTold (devices_of before) (devices_of after) (λ d e. FailedSession s blamed bound choices d e shown)
 
 -- A session comes to its end, which the status tells, and the record of its choices is kept. Of the lent kernel nothing is said.
 pub record HoldsSession (bound : ℕ) (choices : Choices) (record_file : Option (List ℕ)) (s : Status) (before after : Outside) (shown : List ℕ) : Type 0

@@ -76,12 +76,6 @@ one_counted t s c used said =
     go false x y e f = f
 
 module _ (words : List ℕ) (k : KernelState) (begun : Begun) (end : StintEnd) (said : Said) (seats after : List Seated) (t later : Told) where
-  pub counts_so : nat_le 100000 t.count ≡ true → later ≡ counted t (ending_at end) → AddsBy (nat_le 100000 t.count) words k begun end said seats seats t later
-  counts_so full e = subst (λ b. AddsBy b words k begun end said seats seats t later) (sym full) e
-
-  pub full_fits : nat_le 100000 t.count ≡ true → later ≡ counted t (ending_at end) → Fits seats later
-  full_fits full e l = absurd (omega (arith, l, leb-true 100000 t.count full, ap (λ (z : Told). z.count) e))
-
   module _ (seated : Seated) (came : Came) (used number : ℕ) (h : Fitting seats t) (room : nat_le 100000 t.count ≡ false)
       (seated_is : seated ≡ seat_at seats begun.slot) (exact : end_of came ≡ left_at words k seated.stands begun end)
       (failed : has_failed came ≡ true → seated.stands ≡ true) where

@@ -15,7 +15,8 @@ use Rattle.edi_calls.proofs.Lasting.{IfAnswered, by_test, by_option}
 use Rattle.edi_timeline.specs.declared.entry.Said.{Said}
 use Rattle.edi_timeline.specs.Adding.{said_in}
 use Rattle.edi_timed.specs.declared.heard.Heard.{Heard}
-use Rattle.edi_timed.specs.Hearing.{is_answered, shown_words, shown_by, HasShown, Hears}
+use Rattle.edi_timed.specs.declared.unheard.Unheard.{Unheard}
+use Rattle.edi_timed.specs.Hearing.{is_answered, shown_words, shown_by, HasShown, Hears, LeadsOn}
 
 -- ---- first characters
 
@@ -215,3 +216,12 @@ module _ {C : Type 0} (state : C → Option State) (failed : C → Option Outsid
 
     pub told_since : (P : State → State → Type 0) → WhereTold (state start.calls.now) (state now.calls.now) P → WhereTold (state before.calls.now) (state now.calls.now) P
     told_since P h = subst (λ z. WhereTold (state z) (state now.calls.now) P) calls h
+
+-- ---- calls of which nothing is heard
+
+pub unheard_lasts : {C : Type 0} (faults : C → Outside → ℕ) (references : C → List ℕ) (leads : C → C → Type 0) (old now : Unheard C) →
+    ((outside : Outside) → faults old.calls.now outside ≤ faults now.calls.now outside) →
+    now.calls.ghost_name ∷ references now.calls.now ≡ old.calls.ghost_name ∷ references old.calls.now →
+    ((start : Unheard C) → LeadsOn leads start.calls.now old.calls.now → LeadsOn leads start.calls.now now.calls.now) →
+    CallsLast faults references leads old.calls.now now.calls.now
+unheard_lasts faults references leads old now later same on = (later, same_others same, λ start led. on old (λ first l. l) start led)

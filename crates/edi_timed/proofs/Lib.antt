@@ -10,5 +10,6 @@ pub mod Left
 pub mod Rounds
 pub mod Arms
 pub mod Whole
+pub mod Counted
 pub mod Asked
 pub mod meant

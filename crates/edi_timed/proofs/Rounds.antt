@@ -178,9 +178,10 @@ module _ (code : CodeParts) (s : State) (bound : ℕ) (first : Drawn) (old k : K
 
   -- ---- what is told then
 
-  -- the timeline gets it, with what was heard in it
+  -- the timeline gets it, with what was heard in it, where there is room for it
   abbrev pub AddsHeard : StintEnd → Type 0
-  AddsHeard end = AddsBy (nat_le 100000 told.count) code.words k begun end said seats after told later × HasShown f.start said x y
+  AddsHeard end =
+      AddsBy (nat_le 100000 told.count) code.words k begun end said seats after told later × (nat_le 100000 told.count ≡ false → HasShown f.start said x y)
 
   shown_is : (t : Machine) → HasShown f.start said x y → t.system ≡ y → take 7 (said_in said) ≡ take 7 (drop w.begun.shown t.system.shown)
   shown_is t heard is =
@@ -224,7 +225,7 @@ module _ (code : CodeParts) (s : State) (bound : ℕ) (first : Drawn) (old k : K
             let l : length xs < 100000 = omega (arith, leb-false 100000 told.count is, count_is) in
             let seat_is : later ≡ added (told_of xs) Own.seat a.came k.used said = a.told ∙ ap (λ o. added o Own.seat a.came k.used said) w.told_is in
             seat_is ∙ told_adds xs Own.seat a.came k.used said l f.few
-            ∙ told_last xs (stint_after xs Own.seat (end_of a.came) k.used (said_in said)) (Closed e t) l (kept_is l adds.1 a)
+            ∙ told_last xs (stint_after xs Own.seat (end_of a.came) k.used (said_in said)) (Closed e t) l (kept_is l (adds.1 is) a)
 
   -- ---- a stint that ends the run
 

@@ -57,7 +57,7 @@ told_both P Q R o None f p q = tt
 told_both P Q R None (Some y) f p q = p
 told_both P Q R (Some x) (Some y) f p q = f x y p q
 
-where_same : (o : Option State) (P : State → State → Type 0) → ((s : State) → P s s) → WhereTold o o P
+pub where_same : (o : Option State) (P : State → State → Type 0) → ((s : State) → P s s) → WhereTold o o P
 where_same None P h = tt
 where_same (Some s) P h = h s
 
@@ -151,7 +151,7 @@ module _ (code : CodeParts) (bound : ℕ) (old k : KernelState) (now : Drawn) (b
           told_both Names (HasShown start said) (AnyRound (Some e) k now) o n
           (λ x y g h s first source w.
           round_over code s bound first old k x y now begun said seats after told later (gone x y s first source w) full end e turns is (named x y s first w g)
-          (λ f. (adds f, h))) names (heard other)
+          (λ f. (adds f, λ room. h))) names (heard other)
 
   pub told_on : (next : KernelState) (drawn : Drawn) (o n : Option State) → ended_by (ended_as (length (ready_slots k.table)) end) ≡ None →
       WhereTold o n Names → WhereTold o n (HasShown start said) → Adds → k.taken ≡ None →
@@ -162,7 +162,7 @@ module _ (code : CodeParts) (bound : ℕ) (old k : KernelState) (now : Drawn) (b
       told_both Names (HasShown start said) (AnyRound None next drawn) o n
       (λ x y g h s first source w.
       round_on code s bound first old k x y now begun said seats after told later (gone x y s first source w) full next drawn free chooses stay used entering end
-      turns is (named x y s first w g) (adds, h)) names heard
+      turns is (named x y s first w g) (adds, λ room. h)) names heard
 
 -- ---- the start
 

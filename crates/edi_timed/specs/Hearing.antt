@@ -35,3 +35,7 @@ pub record Hears {C : Type 0} (state : C → Option State) (failed : C → Optio
   pub led : (first : C) → leads first start.calls.now → leads first now.calls.now
   pub few : start.said.many ≤ 7 → now.said.many ≤ 7
   pub heard : start.said.many ≤ 7 → failed now.calls.now None → WhereTold (state start.calls.now) (state now.calls.now) (HasShown start.said now.said)
+
+-- calls lead an object on from wherever they led
+abbrev pub LeadsOn : {C : Type 0} → (leads : C → C → Type 0) → (start now : C) → Type 0
+LeadsOn {C = C} leads start now = (first : C) → leads first start → leads first now

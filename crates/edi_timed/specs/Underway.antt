@@ -1,5 +1,6 @@
 -- Helper. How far a timed run has come, which stints it has had, and where each of its processes sits.
-use Rattle.std.specs.Prelude.{◌≡◌, ◌≤◌, ◌<◌, ℕ, ◌-◌, true, List, [], ◌∷◌, length, Option, Some, None, ⊤}
+use Rattle.std.specs.Prelude.{◌≡◌, ◌≤◌, ◌<◌, ℕ, ◌+◌, ◌-◌, ◌^◌, true, List, [], ◌∷◌, length, Option, Some, None, ⊤}
+use Rattle.edi_told.specs.Told.{WhereTold}
 use Rattle.edi_calls.specs.Choice.{Choices}
 use Rattle.edi_calls.specs.declared.ends.Outside.{Outside}
 use Rattle.edi_calls.specs.Names.{Name, find}
@@ -103,3 +104,15 @@ module _ (code : CodeParts) (s : State) (bound : ℕ) (first : Drawn) where
   abbrev pub AsksFailed : (failed : Option Outside → Type 0) → Option Ending → KernelState → State → Drawn → Type 0
   AsksFailed failed None k x now = ⊤
   AsksFailed failed (Some e) k x now = FaultsBy failed code s bound first e k.used x now
+
+-- ---- rounds whose stints are counted
+
+-- From wherever the run has come to it these rounds end it so, and the timeline tells then all its stints. By a fault it ends where the call that failed
+-- uses the object that has failed.
+pub record CountsOn {C : Type 0} (state : C → Option State) (failed : C → Option Outside → Type 0) (code : CodeParts) (bound : ℕ) (old new : KernelState)
+    (before after : C) (now next : Drawn) (told later : Told) (e : Ending) : Type 0 where
+  pub ends : (seats : List Seated) → now.drawn + (bound - old.used) < 2 ^ 64 → WhereTold (state before) (state after) (λ x y.
+      (s : State) (first : Drawn) → first.source ≡ now.source → Going code s bound first old x now seats told → Timed code s bound first e new y next later)
+  pub asked : (seats : List Seated) → now.drawn + (bound - old.used) < 2 ^ 64 → WhereTold (state before) (state after) (λ x y.
+      (s : State) (first : Drawn) → first.source ≡ now.source → Going code s bound first old x now seats told →
+      FaultsBy (failed after) code s bound first e new.used y next)

@@ -13,7 +13,7 @@ use edi_timeline::Said;
 /// The calls of another object, which is lent. Of what they show the first seven characters are kept.
 #[derive(Drop)]
 pub struct Heard<'c, C> {
-    calls: &'c mut C,
+    pub(crate) calls: &'c mut C,
     said: Said,
 }
 

@@ -1,7 +1,7 @@
 //! How a stint has ended.
 
 ghost use Rattle.std.specs.Prelude.{◌≡◌, ◌≤◌, ◌+◌, ◌^◌, None, Some, IsSome, Option, false, length, true};
-ghost use Rattle.edi_kernel.specs.Kernel.{is_over};
+ghost use Rattle.edi_kernel.specs.Kernel.{ended_by, is_over};
 ghost use Rattle.edi_kernel.specs.Table.{process_at, ready_slots};
 ghost use Rattle.edi_machine.specs.declared.activity.Activity.{Activity};
 ghost use Rattle.edi_timeline.specs.Adding.{CameFits, end_of, has_failed};
@@ -71,6 +71,22 @@ pub(crate) fn ended_as(ready: usize, end: StintEnd) -> StintEnd
                 }
             } else {
                 end
+            }
+        }
+    }
+}
+
+/// How the run has ended, if it has by a stint that ended so, after which so many are ready.
+pub(crate) fn ending_after(ready: usize, end: StintEnd) -> Option<Ending>
+    ensures { result ≡ ended_by (spec.ended_as ready end) }
+{
+    match end {
+        StintEnd::Over { ending, .. } => Some(ending),
+        StintEnd::Arrived { .. } | StintEnd::Forked { .. } | StintEnd::Exited { .. } => {
+            if ready == 0 {
+                Some(Ending::Standstill)
+            } else {
+                None
             }
         }
     }

@@ -18,6 +18,7 @@ ghost use Rattle.edi_timed.specs.Seats.{Fits};
 ghost use Rattle.edi_timed.specs.Timed.{Timed};
 ghost use Rattle.edi_timed.specs.Underway.{AsksFailed, Going, RoundsTo};
 
+use crate::counting::count_on;
 use crate::heard::Heard;
 use crate::leaving::{Begun, at_start, came_of, ended_as};
 use crate::seats::Seats;
@@ -75,17 +76,13 @@ fn add_stint(
     requires free { is_over end ≡ false → kernel.now.taken ≡ None }
     requires said { said.many ≤ 7 }
     requires fits { Fits seats.old.items timeline.old }
-    requires small { timeline.old.count < 2 ^ 64 - 1 }
+    requires room { timeline.old.count < 100000 }
     requires turns { kernel.now.used < 2 ^ 32 }
     requires few { length (ready_slots kernel.now.table) ≤ 32 }
     ensures exact { AddsBy (nat_le 100000 timeline.old.count) code.now.words kernel.now begun end said seats.old.items seats.new.items timeline.old timeline.new }
     ensures fits { is_over end ≡ false → Fits seats.new.items timeline.new }
     ensures count { timeline.new.count ≡ timeline.old.count + 1 }
 {
-    if timeline.is_full() {
-        timeline.skip(ended_by(end));
-        return;
-    }
     let seated = seats.at(begun.slot);
     let came = came_of(kernel, code, seated.stands, begun, end);
     timeline.add(seated.seat, came, kernel.turns_used() as u32, said);
@@ -112,7 +109,7 @@ fn note(
     requires free { is_over end ≡ false → kernel.now.taken ≡ None }
     requires said { said.many ≤ 7 }
     requires fits { Fits seats.old.items timeline.old }
-    requires small { timeline.old.count < 2 ^ 64 - 1 }
+    requires room { timeline.old.count < 100000 }
     requires turns { kernel.now.used < 2 ^ 32 }
     requires few { length (ready_slots kernel.now.table) ≤ 32 }
     ensures exact { result ≡ ended_by end }
@@ -144,6 +141,7 @@ fn timed_round<C: Calls>(
     requires working { C.failed heard.old.calls.now None }
     requires used { kernel.old.used ≤ bound }
     requires fits { Fits seats.old.items timeline.old }
+    requires room { timeline.old.count < 100000 }
     requires count { timeline.old.count ≤ kernel.old.used }
     ensures exact { choices.old.drawn + (bound - kernel.old.used) < 2 ^ 64 → WhereTold (C.state heard.old.calls.now) (C.state heard.new.calls.now) (λ x y.
         (s : State) (first : Drawn) → first.source ≡ choices.old.source →
@@ -212,6 +210,9 @@ pub fn timed<C: Calls>(
         return Ending::Turns;
     }
     'rounds: loop {
+        if timeline.is_full() {
+            return count_on(kernel, code, calls.calls, bound, choices, timeline);
+        }
         if let Some(ending) = timed_round(
             kernel, code, calls, bound, choices, &mut seats, timeline,
         ) {

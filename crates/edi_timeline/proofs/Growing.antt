@@ -16,7 +16,7 @@ use Rattle.edi_timeline.specs.declared.entry.Came.TheVariants as came
 use Rattle.edi_timeline.specs.Stints.{Start, End, at, Stint, ending_by}
 use Rattle.edi_timeline.specs.Told.{process_in, numbered, row_at, place_of, said_of, start_behind, start_in, end_as, stint_in, stints_in, AreRows, meant}
 use Rattle.edi_timeline.specs.Timelines.{Told, is_failed}
-use Rattle.edi_timeline.specs.Adding.{said_in, end_of, nth_stint, start_by, start_after, process_after, used_by, stint_after, added, counted, ends_run, is_going, SeatFits}
+use Rattle.edi_timeline.specs.Adding.{said_in, end_of, nth_stint, start_by, start_after, process_after, used_by, stint_after, added, counted, skipped, ends_run, is_going, SeatFits}
 use Rattle.edi_timeline.specs.Entered.{kind_of, row_for, ending_with, ended_with}
 use Rattle.edi_timeline.proofs.Counting.{as_many}
 use Rattle.edi_timeline.proofs.Processes.{process_first, process_more}
@@ -184,6 +184,12 @@ module _ (e : Ending) (rows : List Row) (are : AreRows rows)
       else told (Old ++ stint_after Old s (end_of c) used (said_in said) ∷ []) (suc count) (ending_by (end_of c))) room)
 
 -- the timeline that has no room for it only counts it
+pub one_more : (t : Told) (e : Option outcome.Ending) → skipped t 1 e ≡ counted t e
+one_more t e =
+    let with_count : ℕ → Told = λ n. record t { count = n; ending = e } in
+    let one : 1 + t.count ≡ suc t.count = omega arith in
+    ap with_count one
+
 pub added_full : (t : Told) (s : Seat) (c : Came) (used : ℕ) (said : Said) (f : Option Ending) → f ≡ ended_with c → nat_le 100000 t.count ≡ true →
     counted t (option_map meant f) ≡ added t s c used said
 added_full t s c used said f is full =

@@ -1,5 +1,5 @@
 -- Definition. A stint after others: its number, its process, where it begins. And what is told of stints after one more.
-use Rattle.std.specs.Prelude.{◌≡◌, ℕ, zero, suc, ◌≤◌, Bool, true, false, ◌&&◌, not, nat_le, if◌then◌else◌, List, [], ◌∷◌, ◌++◌, length, take, slice_get, ⊤}
+use Rattle.std.specs.Prelude.{◌≡◌, ℕ, zero, suc, ◌+◌, ◌≤◌, Bool, true, false, ◌&&◌, not, nat_le, if◌then◌else◌, List, [], ◌∷◌, ◌++◌, length, take, slice_get, ⊤}
 use Rattle.std.specs.Prelude.{Option, Some, None}
 use Rattle.edi_calls.specs.Names.{Name}
 use Rattle.edi_calls.specs.Outcome.{Ending}
@@ -74,6 +74,10 @@ stint_after xs s end used shown = record {
 -- one more that ends the run so, if it does, and is not told
 abbrev pub counted : Told → Option Ending → Told
 counted t ending = record t { count = suc t.count; ending = ending }
+
+-- so many more that are not told, of which the last ends the run so, if it does
+abbrev pub skipped : Told → (many : ℕ) → Option Ending → Told
+skipped t many ending = record t { count = many + t.count; ending = ending }
 
 -- A STINT MORE: it is told where there is room for it. Else it is only counted, and tells how it ends the run.
 abbrev pub added : Told → Seat → Came → (used : ℕ) → Said → Told

@@ -1,10 +1,11 @@
 //! A stint more.
 
 ghost use Rattle.std.specs.Option.{option_map};
-ghost use Rattle.std.specs.Prelude.{◌≡◌, ◌<◌, ◌≤◌, ◌-◌, ◌^◌, true, nat_le};
+ghost use Rattle.std.specs.Prelude.{◌≡◌, ◌+◌, ◌<◌, ◌≤◌, ◌-◌, ◌^◌, true, nat_le};
 ghost use Rattle.edi_timeline.specs.Told as told;
+ghost use Rattle.edi_timeline.specs.Told.{numbered};
 ghost use Rattle.edi_timeline.specs.Entered as spec;
-ghost use Rattle.edi_timeline.specs.Adding.{CameFits, SeatFits, added, counted, is_going};
+ghost use Rattle.edi_timeline.specs.Adding.{CameFits, SeatFits, added, is_going, skipped};
 ghost use Rattle.edi_timeline.specs.Timelines.{IsTimeline, told_in};
 
 use crate::entry::{Came, Place, Said, Seat};
@@ -36,16 +37,25 @@ fn no_place(many: u8) -> Place
     }
 }
 
-// The lines that its row keeps, and their number, where this is the row of the stint before.
-fn kept_place(came: Came, before: &Row) -> Place
-    ensures exact { result ≡ spec.kept_place came before.now }
+// The lines that the row of this stint keeps, and their number.
+fn place_kept(rows: &[Row], number: u32) -> Place
+    ensures exact { result ≡ spec.place_in (numbered rows.now number) }
+{
+    let row = numbered(rows, number);
+    let lines = row.lines;
+    Place {
+        lines,
+        many: row.many,
+    }
+}
+
+// The lines that its row keeps, and their number, where the stint before has this number.
+fn kept_place(rows: &[Row], came: Came, before: u32) -> Place
+    ensures exact { result ≡ spec.kept_place came (numbered rows.now before) }
 {
     match came {
         Came::Arrived(place) => place,
-        Came::Waited | Came::Tried => Place {
-            lines: before.lines,
-            many: before.many,
-        },
+        Came::Waited | Came::Tried => place_kept(rows, before),
         Came::Forked(many) => no_place(many),
         Came::Ended | Came::Over(_) => no_place(0),
     }
@@ -75,7 +85,7 @@ fn ended_with(came: Came) -> Option<Ending>
 fn row_for(rows: &[Row], seat: Seat, came: Came, used: u32, said: Said) -> Row
     ensures exact { result ≡ spec.row_for rows.now seat came used said }
 {
-    let place = kept_place(came, &numbered(rows, seat.before));
+    let place = kept_place(rows, came, seat.before);
     let lines = place.lines;
     let shown = said.characters;
     Row {
@@ -93,6 +103,7 @@ fn row_for(rows: &[Row], seat: Seat, came: Came, used: u32, said: Said) -> Row
 }
 
 // Adds a stint for which there is room.
+#[inline(always)]
 pub(crate) fn put(kept: &mut Kept, seat: Seat, came: Came, used: u32, said: Said)
     requires kept { IsTimeline kept.old }
     requires room { kept.old.count < 100000 }
@@ -117,19 +128,20 @@ pub(crate) fn is_full(kept: &Kept) -> bool
     kept.count >= 100_000
 }
 
-// Counts a stint for which there is no room, which has ended the run so, if it has.
-pub(crate) fn count_one(kept: &mut Kept, ended: Option<Ending>)
+// Counts so many stints for which there is no room, of which the last has ended the run so, if it has.
+pub(crate) fn count_more(kept: &mut Kept, many: u64, ended: Option<Ending>)
     requires kept { IsTimeline kept.old }
     requires full { 100000 ≤ kept.old.count }
-    requires small { kept.old.count < 2 ^ 64 - 1 }
-    ensures exact { told_in kept.new ≡ counted (told_in kept.old) (option_map told.meant ended) }
+    requires small { kept.old.count + many < 2 ^ 64 }
+    ensures exact { told_in kept.new ≡ skipped (told_in kept.old) many (option_map told.meant ended) }
     ensures kept { IsTimeline kept.new }
 {
-    kept.count += 1;
+    kept.count += many;
     kept.ended = ended;
 }
 
 // Adds a stint, or counts it.
+#[inline(always)]
 pub(crate) fn put_or_count(kept: &mut Kept, seat: Seat, came: Came, used: u32, said: Said)
     requires kept { IsTimeline kept.old }
     requires going { is_going (told_in kept.old).stints ≡ true }
@@ -141,7 +153,7 @@ pub(crate) fn put_or_count(kept: &mut Kept, seat: Seat, came: Came, used: u32, s
     ensures kept { IsTimeline kept.new }
 {
     if is_full(kept) {
-        return count_one(kept, ended_with(came));
+        return count_more(kept, 1, ended_with(came));
     }
     put(kept, seat, came, used, said)
 }

@@ -7,7 +7,7 @@ ghost use Rattle.edi_timeline.specs.Told.{IsRow};
 ghost use Rattle.edi_timeline.specs.Told as told;
 ghost use Rattle.edi_timeline.specs.Text as spec;
 
-use crate::rows::{Kind, Row, numbered};
+use crate::rows::{Kind, NO_ROW, Row, numbered, row_of};
 use itoa::write_digits;
 use std::alloc::AllocError;
 
@@ -93,7 +93,7 @@ fn write_start(rows: &[Row], row: &Row, line: &mut [u8; ROOM], end: usize) -> us
     if row.before == 0 {
         return write_text(b" begin", line, end);
     }
-    write_behind(&numbered(rows, row.before), line, end)
+    write_behind(row_of(rows, row.before, &NO_ROW), line, end)
 }
 
 // Writes how a stint has ended that has not ended the run.

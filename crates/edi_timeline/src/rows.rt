@@ -39,7 +39,7 @@ pub(crate) struct Row {
 }
 
 /// What stands for a row that is not there.
-const NO_ROW: Row = Row {
+pub(crate) const NO_ROW: Row = Row {
     used: 0,
     born: 0,
     fork: 0,
@@ -67,6 +67,17 @@ pub(crate) fn numbered(rows: &[Row], number: u32) -> Row
     ensures exact { result ≡ spec.numbered rows.now number }
 {
     row_at(rows, number.saturating_sub(1) as usize)
+}
+
+// The row of a stint where it stands, and this one where there is none.
+pub(crate) fn row_of<'r>(rows: &'r [Row], number: u32, none: &'r Row) -> &'r Row
+    requires none { none.now ≡ spec.no_row }
+    ensures exact { result.now ≡ spec.numbered rows.now number }
+{
+    match rows.get(number.saturating_sub(1) as usize) {
+        Some(row) => row,
+        None => none,
+    }
 }
 
 // The turns that were used before the stint of an index.

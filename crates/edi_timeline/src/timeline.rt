@@ -1,14 +1,14 @@
 //! A timeline.
 
 ghost use Rattle.std.specs.Option.{option_map};
-ghost use Rattle.std.specs.Prelude.{◌≡◌, ◌≤◌, ◌<◌, ◌-◌, ◌^◌, [], IfOk, None, true, nat_le};
-ghost use Rattle.edi_timeline.specs.Adding.{CameFits, SeatFits, added, counted, is_going};
+ghost use Rattle.std.specs.Prelude.{◌≡◌, ◌+◌, ◌≤◌, ◌<◌, ◌-◌, ◌^◌, [], IfOk, None, true, nat_le};
+ghost use Rattle.edi_timeline.specs.Adding.{CameFits, SeatFits, added, is_going, skipped};
 ghost use Rattle.edi_timeline.specs.Text as text;
 ghost use Rattle.edi_timeline.specs.Picture as picture;
 ghost use Rattle.edi_timeline.specs.Told.{meant};
 ghost use Rattle.edi_timeline.specs.Timelines.{told_in, IsTimeline};
 
-use crate::adding::{count_one, is_full, put_or_count};
+use crate::adding::{count_more, is_full, put_or_count};
 use crate::entry::{Came, Said, Seat};
 use crate::picture::picture_of;
 use crate::rows::Row;
@@ -95,18 +95,19 @@ impl Timeline {
         is_full(&self.kept)
     }
 
-    /// Counts a stint more, of a run of which no further stints are kept. The stint has ended the run so, if it has.
-    pub fn skip(&mut self, ended: Option<Ending>)
+    /// Counts so many stints more, of a run of which no further stints are kept. The last has ended the run so, if it has.
+    pub fn skip(&mut self, many: u64, ended: Option<Ending>)
         requires full { 100000 ≤ self.old.count }
-        requires small { self.old.count < 2 ^ 64 - 1 }
-        ensures exact { self.new ≡ counted self.old (option_map meant ended) }
+        requires small { self.old.count + many < 2 ^ 64 }
+        ensures exact { self.new ≡ skipped self.old many (option_map meant ended) }
     {
-        count_one(&mut self.kept, ended);
+        count_more(&mut self.kept, many, ended);
     }
 
     /// Adds a stint that ended when so many turns were used in all. Where 100,000 are kept already, it is only counted. It takes no memory.
     ///
     /// By `laws::timelines_grow` a timeline that tells the stints of a run then tells them and this one.
+    #[inline(always)]
     pub fn add(&mut self, seat: Seat, came: Came, used: u32, said: Said)
         requires going { is_going self.old.stints ≡ true }
         requires seat { SeatFits self.old.stints seat came }

@@ -45,18 +45,20 @@ const USAGES: [(&str, &str); 15] = [
     ),
 ];
 
-/// What a command of the words is named, and its first operand; each is empty where there is none.
+/// What a command of the words is named, and its first two operands; each is empty where there is none.
 #[derive(Clone, Copy)]
 struct Asked<'a> {
     command: &'a str,
     file: &'a str,
+    second: &'a str,
 }
 
-/// The first two words that are neither an option nor its value.
+/// The first three words that are neither an option nor its value.
 fn asked_by(words: &[String]) -> Asked<'_> {
     let mut asked = Asked {
         command: "",
         file: "",
+        second: "",
     };
     let mut is_value = false;
     for word in words {
@@ -68,6 +70,8 @@ fn asked_by(words: &[String]) -> Asked<'_> {
             asked.command = word.as_str();
         } else if asked.file.is_empty() {
             asked.file = word.as_str();
+        } else if asked.second.is_empty() {
+            asked.second = word.as_str();
         }
     }
     asked
@@ -85,7 +89,9 @@ fn usage_of(command: &str) -> &'static str {
 
 /// Shows the names of the commands.
 fn show_commands(rt: &HostRuntime) {
-    let _ = eprint!(rt; "usage: edison COMMAND ..; see man edison. The commands:");
+    let _ = eprint!(rt;
+        "usage: edison COMMAND ..; COMMAND --help shows its words, man edison all. The commands:"
+    );
     for (name, _) in USAGES {
         let _ = eprint!(rt; " {name}");
     }
@@ -102,10 +108,47 @@ fn show_usage(rt: &HostRuntime, command: &str) {
     }
 }
 
-/// Shows which command tells more of a run that stands still or fails: one that has its source.
+/// Whether the words are those of a run that has its source.
+fn has_source(asked: Asked<'_>) -> bool {
+    asked.command == "run" || asked.command == "replay"
+}
+
+/// Shows which command tells who waits where after a run that stands still.
+fn show_explore(rt: &HostRuntime, asked: Asked<'_>) {
+    let file = asked.file;
+    if has_source(asked) {
+        let _ = eprintln!(rt;
+            "edison explore {file} says who waits where; --timeline NAME keeps a picture of the run"
+        );
+    }
+}
+
+/// Shows of a command that reads two files which ones it has looked for.
+fn show_absent(rt: &HostRuntime, asked: Asked<'_>) {
+    let Asked {
+        command,
+        file,
+        second,
+    } = asked;
+    if command == "replay" || command == "walk" || command == "watch" {
+        let _ = eprintln!(rt; "there is no file {file}, or no file {second}");
+    }
+}
+
+/// Shows how a file is run that is no code.
+fn show_code(rt: &HostRuntime, asked: Asked<'_>) {
+    let Asked { command, file, .. } = asked;
+    if command == "exec" || command == "list" {
+        let _ = eprintln!(rt;
+            "edison {command} takes a file that edison compile has written; edison run {file} runs a source file"
+        );
+    }
+}
+
+/// Shows which command tells more of a run that fails: one that has its source.
 fn show_watch(rt: &HostRuntime, asked: Asked<'_>, more: &str) {
     let file = asked.file;
-    if asked.command == "run" || asked.command == "replay" {
+    if has_source(asked) {
         let _ = eprintln!(rt;
             "--timeline NAME keeps a picture of the run; edison watch {file} STOPS OUT logs what variables hold{more}"
         );
@@ -114,7 +157,7 @@ fn show_watch(rt: &HostRuntime, asked: Asked<'_>, more: &str) {
 
 /// Shows this of a run that has used up its turns, and how it gets more.
 fn show_turns(rt: &HostRuntime, asked: Asked<'_>) {
-    if asked.command == "run" || asked.command == "replay" {
+    if has_source(asked) {
         show_watch(rt, asked, "; --turns N sets the turns");
     } else {
         let _ = eprintln!(rt; "--turns N sets the turns");
@@ -134,7 +177,10 @@ pub(crate) fn show(rt: &HostRuntime, words: &[String], status: Status) {
             let _ = eprintln!(rt; "edison explain {file} says more");
         }
         Status::Stopped(Cause::Halt, _) => {}
-        Status::Standstill | Status::Stopped(_, _) => show_watch(rt, asked, ""),
+        Status::Stopped(_, _) => show_watch(rt, asked, ""),
+        Status::Standstill => show_explore(rt, asked),
+        Status::Absent => show_absent(rt, asked),
+        Status::BadCode(_) => show_code(rt, asked),
         Status::Turns => show_turns(rt, asked),
         _ => {}
     }

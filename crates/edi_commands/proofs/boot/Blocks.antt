@@ -2,6 +2,7 @@
 use Rattle.std.proofs.Common.{◌≡◌, inl, inr, ℕ, zero, suc, List, [], ◌∷◌, ◌++◌, refl, sym, ap, subst, ◌∙◌, arith}
 use Rattle.std.specs.Prelude.{Contains}
 use Rattle.std.proofs.lemmas.List.Elements.{Contains-append_cases}
+use Rattle.edi_calls.specs.declared.ends.Outside.{Outside}
 use Rattle.edi_calls.specs.Choice.{Choices}
 use Rattle.edi_calls.specs.Outcome.{Ending}
 use Rattle.edi_calls.specs.State.{State, fresh, moments_of}
@@ -12,7 +13,7 @@ use Rattle.edi_target.specs.Moments.{EndsThrough}
 use Rattle.edi_target.proofs.Histories.{comes_through_its_past}
 use Rattle.edi_session.specs.declared.end.SessionEnd.{SessionEnd}
 use Rattle.edi_session.specs.Course.{Course, becomes, prints, shows, states_of}
-use Rattle.edi_session.specs.Session.{behind, IsMomentOfSession, Session, stops}
+use Rattle.edi_session.specs.Session.{behind, IsFaultOfSession, Session, stops}
 use Rattle.edi_session.specs.Shell.{Shell, session_on, state_in}
 use Rattle.edi_session.proofs.ends.Throughout.{EachPartKeeps, comes_keeps, goes_keeps}
 use Rattle.edi_commands.proofs.run.Blocks.{end_blocks, moment_blocks}
@@ -81,12 +82,13 @@ module _ (bound : ℕ) (choices : Choices) (state : State) (drawn shown_before :
   start_has m there = ap (λ (x : State). x.blocks) (sym (one_of state m there))
 
   -- at each moment
-  pub moment_of_session : (moment : State) → IsMomentOfSession bound choices (session_on state drawn shown_before) moment → moment.blocks ≡ state.blocks
-  moment_of_session moment h =
+  pub moment_of_session : (failed : Outside) (moment : State) → IsFaultOfSession bound choices (session_on state drawn shown_before) failed moment
+      → moment.blocks ≡ state.blocks
+  moment_of_session failed moment h =
       goes_keeps bound choices (Has state.blocks) (each_part state.blocks bound choices) h.last h.next
       (comes_keeps bound choices (Has state.blocks) (each_part state.blocks bound choices) h.lines_ (session_on state drawn shown_before) h.last start_has
       h.comes)
-      h.goes_ moment h.there
+      h.goes_ moment h.there.there
 
   -- at the end
   pub end_of_session : (end : SessionEnd) (after : Shell) → Session bound choices (session_on state drawn shown_before) end after

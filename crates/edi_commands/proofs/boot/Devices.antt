@@ -1,21 +1,35 @@
 -- What a session leaves, in the words of commands.
-use Rattle.std.proofs.Common.{◌≡◌, ◌∙◌, ◌++◌, ℕ, List, length, None, true, false, sym, subst}
+use Rattle.std.proofs.Common.{◌≡◌, ◌∙◌, ◌++◌, ℕ, List, length, Option, Some, None, true, false, sym, subst, ap}
+use Rattle.edi_calls.specs.declared.ends.Outside as failing
+use Rattle.edi_calls.specs.declared.ends.Outside.TheVariants as object
 use Rattle.edi_calls.specs.State.{State}
 use Rattle.edi_execute.specs.Objects.{Contents}
 use Rattle.edi_execute.specs.Objects as execute
 use Rattle.edi_image.specs.Image.{mount_fault_of}
 use Rattle.edi_session.specs.declared.end.SessionEnd.{SessionEnd}
-use Rattle.edi_session.specs.Session.{IsMomentOfSession}
+use Rattle.edi_session.specs.declared.end.SessionEnd.TheVariants as end
 use Rattle.edi_session.specs.Shell.{session_on, state_in}
 use Rattle.edi_shell.specs.sessions.Ends.{ends_by_fault, SessionHasEnded, SessionHasFailed}
 use Rattle.edi_shell.proofs.sessions.Failing.{ended_so, failed_so}
+use Rattle.edi_shell_io.specs.calls.Standing.{failed_by}
 use Rattle.edi_trace.specs.Drawn.{Drawn}
-use Rattle.edi_statuses.specs.Executions.{StandsAt}
+use Rattle.edi_statuses.specs.declared.status.Status.{Status}
+use Rattle.edi_statuses.specs.Counts.{object_status}
 use Rattle.edi_statuses.specs.Outside.{DevicesAreAt}
-use Rattle.edi_statuses.specs.Sessions.{HasEnded, shell_on}
+use Rattle.edi_statuses.specs.Sessions.{FailedSession, HasEnded, session_status}
 use Rattle.edi_commands.proofs.run.Left.{devices}
-use Rattle.edi_commands.specs.boot.OnObjects.{EndsOn, HaveState, HaveStateSince}
+use Rattle.edi_commands.specs.boot.OnObjects.{EndsOn, HaveState, HaveStateBy, HaveStateSince}
 use Rattle.edi_commands.proofs.boot.Blocks.{end_of_session, moment_of_session}
+
+-- the status of a session that ended by a fault is that of the object which has failed
+fault_status : (how : SessionEnd) (failed : failing.Outside) → failed_by how ≡ Some failed → object_status failed ≡ session_status how
+fault_status end.Halted failed is = absurd (cc)
+fault_status end.InputEnd failed is = absurd (cc)
+fault_status end.Limit failed is = absurd (cc)
+fault_status end.DriveFault failed is = let same : object.Drive ≡ failed = cc in ap object_status (sym same)
+fault_status end.InputFault failed is = let same : object.Input ≡ failed = cc in ap object_status (sym same)
+fault_status end.TerminalFault failed is = let same : object.Terminal ≡ failed = cc in ap object_status (sym same)
+fault_status end.PrinterFault failed is = let same : object.Printer ≡ failed = cc in ap object_status (sym same)
 
 module _ (bound : ℕ) (old : Drawn) (none : old.drawn ≡ 0) (drawn : ℕ) (shown : List ℕ) (x y : Contents) (valid : mount_fault_of y.disk ≡ None)
     (shows : y.shown ≡ x.shown ++ shown) where
@@ -30,10 +44,10 @@ module _ (bound : ℕ) (old : Drawn) (none : old.drawn ≡ 0) (drawn : ℕ) (sho
   }
 
   ended : (how : SessionEnd)
-      → SessionHasEnded bound old.source HaveStateSince HaveState (session_on (execute.system_on x) old.drawn (length x.shown)) how drawn y
+      → SessionHasEnded bound old.source HaveStateSince (HaveStateBy how) (session_on (execute.system_on x) old.drawn (length x.shown)) how drawn y
       → HasEnded bound old.source how drawn (devices x) (devices y) shown
   ended how h0 =
-      let h = subst (λ n. SessionHasEnded bound old.source HaveStateSince HaveState (session_on (execute.system_on x) n (length x.shown)) how drawn y) none h0 in
+      let h = subst (λ n. SessionHasEnded bound old.source HaveStateSince (HaveStateBy how) (session_on (execute.system_on x) n (length x.shown)) how drawn y) none h0 in
       record {
         after = h.after;
         session = h.session;
@@ -41,14 +55,19 @@ module _ (bound : ℕ) (old : Drawn) (none : old.drawn ≡ 0) (drawn : ℕ) (sho
         leaves = at_state (state_in h.after) h.at_ (end_of_session bound old.source (execute.system_on x) 0 (length x.shown) how h.after h.session);
       }
 
-  failed : SessionHasFailed bound old.source HaveStateSince HaveState (session_on (execute.system_on x) old.drawn (length x.shown)) y
-      → StandsAt (IsMomentOfSession bound old.source (shell_on (devices x))) (devices x) (devices y) shown
-  failed h0 =
-      let h = subst (λ n. SessionHasFailed bound old.source HaveStateSince HaveState (session_on (execute.system_on x) n (length x.shown)) y) none h0 in
+  failed : (how : SessionEnd)
+      → SessionHasFailed bound old.source HaveStateSince (HaveStateBy how) (session_on (execute.system_on x) old.drawn (length x.shown)) y
+      → FailedSession (session_status how) (failed_by how) bound old.source (devices x) (devices y) shown
+  failed how h0 =
+      let h = subst (λ n. SessionHasFailed bound old.source HaveStateSince (HaveStateBy how) (session_on (execute.system_on x) n (length x.shown)) y) none h0 in
       record {
+        failed = h.failed;
+        blamed_is = h.is.0;
+        status_is = fault_status how h.failed h.is.0;
         moment = h.moment;
         comes = h.comes;
-        at = at_state h.moment h.is (moment_of_session bound old.source (execute.system_on x) 0 (length x.shown) h.moment h.comes);
+        at = at_state h.moment h.is.1
+            (moment_of_session bound old.source (execute.system_on x) 0 (length x.shown) h.failed h.moment h.comes);
       }
 
   -- it came to its end
@@ -56,13 +75,13 @@ module _ (bound : ℕ) (old : Drawn) (none : old.drawn ≡ 0) (drawn : ℕ) (sho
       → HasEnded bound old.source how drawn (devices x) (devices y) shown
   ended_to how f h =
       ended how (ended_so (ends_by_fault how)
-      (SessionHasEnded bound old.source HaveStateSince HaveState (session_on (execute.system_on x) old.drawn (length x.shown)) how drawn y)
-      (SessionHasFailed bound old.source HaveStateSince HaveState (session_on (execute.system_on x) old.drawn (length x.shown)) y) f h)
+      (SessionHasEnded bound old.source HaveStateSince (HaveStateBy how) (session_on (execute.system_on x) old.drawn (length x.shown)) how drawn y)
+      (SessionHasFailed bound old.source HaveStateSince (HaveStateBy how) (session_on (execute.system_on x) old.drawn (length x.shown)) y) f h)
 
   -- an object failed
   pub broken_at : (how : SessionEnd) → ends_by_fault how ≡ true → EndsOn bound old how drawn x y
-      → StandsAt (IsMomentOfSession bound old.source (shell_on (devices x))) (devices x) (devices y) shown
+      → FailedSession (session_status how) (failed_by how) bound old.source (devices x) (devices y) shown
   broken_at how f h =
-      failed (failed_so (ends_by_fault how)
-      (SessionHasEnded bound old.source HaveStateSince HaveState (session_on (execute.system_on x) old.drawn (length x.shown)) how drawn y)
-      (SessionHasFailed bound old.source HaveStateSince HaveState (session_on (execute.system_on x) old.drawn (length x.shown)) y) f h)
+      failed how (failed_so (ends_by_fault how)
+      (SessionHasEnded bound old.source HaveStateSince (HaveStateBy how) (session_on (execute.system_on x) old.drawn (length x.shown)) how drawn y)
+      (SessionHasFailed bound old.source HaveStateSince (HaveStateBy how) (session_on (execute.system_on x) old.drawn (length x.shown)) y) f h)

@@ -4,31 +4,34 @@ use Rattle.std.proofs.Common.{IsSome, option_map, refl, sym, subst, inl, inr}
 use Rattle.std.specs.Prelude.{⊤, ◌||◌, not, is_none}
 use Rattle.edi_told.specs.Told.{WhereTold}
 use Rattle.edi_host.specs.Contents.{Contents}
+use Rattle.edi_calls.specs.declared.ends.Outside as failing
 use Rattle.edi_calls.specs.Choice.{Choices}
+use Rattle.edi_execute.specs.Objects.{FailedIs, Objects, faults_in}
 use Rattle.edi_image.specs.declared.faults.MountFault.{MountFault}
 use Rattle.edi_session.specs.declared.end.SessionEnd.{SessionEnd}
 use Rattle.edi_session.specs.declared.end.SessionEnd.TheVariants as end
-use Rattle.edi_session.specs.Session.{IsMomentOfSession}
 use Rattle.edi_shell.specs.sessions.Ends.{ends_by_fault}
+use Rattle.edi_shell_io.specs.calls.Standing.{failed_by}
 use Rattle.edi_trace.specs.Drawn.{Drawn}
 use Rattle.edi_words.specs.Words as words
 use Rattle.edi_words.specs.Words.{ChoicesFrom, Options, nowhere, file, seed}
 use Rattle.edi_statuses.specs.declared.status.Status.{Status}
-use Rattle.edi_statuses.specs.Counts.{Counts, HasCause}
+use Rattle.edi_statuses.specs.Counts.{Counts, HasCause, IsBlamed}
 use Rattle.edi_statuses.specs.declared.status.Status.TheVariants as status
-use Rattle.edi_statuses.specs.Outside.{Outside, seen, still_told, with_kept, Keeps, SameFiles, Lent}
+use Rattle.edi_statuses.specs.Outside.{Outside, seen, still_told, with_kept, Keeps, SameFiles, Lent, blaming}
 use Rattle.edi_statuses.specs.Steps.{goes, stops, Mounts, ReadsChoices, ChoicesAreThere}
-use Rattle.edi_statuses.specs.Executions.{record_of, StandsAt}
+use Rattle.edi_statuses.specs.Executions.{record_of}
 use Rattle.edi_statuses.specs.Commands.{IsNothing}
 use Rattle.edi_statuses.specs.EachObject.{MayBeImage, is_in_file}
 use Rattle.edi_statuses.specs.Means.{MeansOf}
 use Rattle.edi_statuses.specs.Decided.{Came}
-use Rattle.edi_statuses.specs.Sessions.{BootSteps, BrokeSession, HasEnded, EndedWhole, HoldsSession, SessionEnded, session_status, shell_on}
+use Rattle.edi_statuses.specs.Sessions.{BootSteps, BrokeSession, FailedSession, HasEnded, EndedWhole, HoldsSession, SessionEnded, session_status}
 use Rattle.edi_commands.specs.steps.OnFiles.{ChoicesStep, RecordEnd, RecordStep, files_only}
 use Rattle.edi_commands.specs.steps.NotMounted.{mount_status}
 use Rattle.edi_commands.specs.run.OnMounted.{DriveAsked}
 use Rattle.edi_commands.proofs.run.Mounting.{IsLeft, IsUnmounted, left_due, left_each, left_shows, mounts, shown_in, unkept, unmounted_by, unmounted_each}
 use Rattle.edi_commands.proofs.run.Exits.{IsRefusal, choices_refusal, not_begun, nothing, with_files}
+use Rattle.edi_commands.proofs.run.Blamed.{blamed_by}
 use Rattle.edi_commands.proofs.run.Meaning.{at_record}
 use Rattle.edi_commands.proofs.run.Left.{devices_told, told_by}
 use Rattle.edi_statuses.proofs.EachLeft.{each_same}
@@ -45,7 +48,8 @@ pub unmounted : (bound : ℕ) (choices : Choices) (name : Option (List ℕ)) (s 
 unmounted bound choices name s due before after kernel why is silent h = record {
   shown = [];
   came = subst (λ x. SessionCame bound choices name x (seen before after) after [] kernel) (sym is)
-      (unmounted_by before after kernel why h name (BrokeSession bound choices (seen before after) after []) (EndedWhole bound choices (seen before after) after [])
+      (unmounted_by before after kernel why h name (BrokeSession (mount_status why) kernel.failed bound choices (seen before after) after [])
+      (EndedWhole bound choices (seen before after) after [])
       (λ end. HoldsSession bound choices name end (seen before after) after []));
   shows = shows_nothing before.shown after.shown h.shown;
   due_is = silent;
@@ -60,15 +64,15 @@ module _ (bound : ℕ) (old : Drawn) (none : old.drawn ≡ 0) (due : Bool) (how 
   shown_now = shown_in due before after
 
   -- an object has failed
-  broke_now : ends_by_fault how ≡ true → BrokeSession bound old.source (seen before after) after shown_now
+  broke_now : ends_by_fault how ≡ true → BrokeSession (session_status how) (failed_by how) bound old.source (seen before after) after shown_now
   broke_now f =
       devices_told before after shown_now (EndsOn bound old how new.drawn)
-      (λ d e. StandsAt (IsMomentOfSession bound old.source (shell_on d)) d e shown_now) left.told.valid (left_shows due before after left)
+      (λ d e. FailedSession (session_status how) (failed_by how) bound old.source d e shown_now) left.told.valid (left_shows due before after left)
       (λ x y valid shows h. broken_at bound old none new.drawn shown_now x y valid shows how f h) told
 
   broke_by : (e : SessionEnd) (name : Option (List ℕ)) → ends_by_fault e ≡ true → SameFiles (seen before after) after
-      → BrokeSession bound old.source (seen before after) after shown_now
-      → SessionCame bound old.source name (session_status e) (seen before after) after shown_now kernel
+      → BrokeSession (session_status e) (failed_by how) bound old.source (seen before after) after shown_now
+      → SessionCame bound old.source name (session_status e) (seen before after) after shown_now (blaming (failed_by how) kernel)
   broke_by end.Halted name f files b = absurd (cc)
   broke_by end.InputEnd name f files b = absurd (cc)
   broke_by end.Limit name f files b = absurd (cc)
@@ -78,10 +82,10 @@ module _ (bound : ℕ) (old : Drawn) (none : old.drawn ≡ 0) (due : Bool) (how 
   broke_by end.PrinterFault name f files b = (files, mounts due before after left, b)
 
   pub broke : (name : Option (List ℕ)) (s : Status) → s ≡ session_status how → ends_by_fault how ≡ true → after.files ≡ before.files
-      → BootCame bound old.source name s due before after kernel
+      → BootCame bound old.source name s due before after (blaming (failed_by how) kernel)
   broke name s is f files = record {
     shown = shown_now;
-    came = subst (λ x. SessionCame bound old.source name x (seen before after) after shown_now kernel) (sym is)
+    came = subst (λ x. SessionCame bound old.source name x (seen before after) after shown_now (blaming (failed_by how) kernel)) (sym is)
         (broke_by how name f (same_told before.files after.files files) (broke_now f));
     shows = left_shows due before after left;
     due_is = left_due due before after left;
@@ -132,7 +136,8 @@ module _ (bound : ℕ) (old : Drawn) (none : old.drawn ≡ 0) (due : Bool) (how 
         → BootCame bound old.source name s due before after kernel
     unrecorded name s step = record {
       shown = shown_now;
-      came = unkept due before after left new (Unit {0}) name s step (BrokeSession bound old.source (seen before after) after shown_now)
+      came = unkept due before after left new (Unit {0}) name s step
+          (BrokeSession s kernel.failed bound old.source (seen before after) after shown_now)
           (EndedWhole bound old.source (seen before after) after shown_now)
           (λ e. HoldsSession bound old.source name e (seen before after) after shown_now) shown_now kernel whole;
       shows = left_shows due before after left;
@@ -145,6 +150,14 @@ module _ (bound : ℕ) (old : Drawn) (none : old.drawn ≡ 0) (due : Bool) (how 
     ended_so name s t is source (inl kept) =
         subst (λ x. BootCame bound old.source name x due before after kernel) (sym kept.0) (recorded name s is source kept.1)
     ended_so name s t is source (inr why) = unrecorded name t why
+
+-- the count of the object rose that is blamed
+pub blamed_end : {D S T P : Type 0} (drive : D → ℕ) (input : S → ℕ) (terminal : T → ℕ) (printer : P → ℕ) (before after : Objects D S T P) (s : Status)
+    (which : Option failing.Outside) → FailedIs which (faults_in drive input terminal printer before) (faults_in drive input terminal printer after)
+    → IsBlamed which s (terminal before.terminal) (terminal after.terminal) (printer before.printer) (printer after.printer)
+blamed_end drive input terminal printer before after s None rose = tt
+blamed_end drive input terminal printer before after s (Some failed) rose =
+    blamed_by drive input terminal printer before after s failed (Some failed) refl rose
 
 -- a session that came to its end is by no fault
 pub ended_cause : (how : SessionEnd) (had has : Counts) → ends_by_fault how ≡ false → HasCause (session_status how) had has

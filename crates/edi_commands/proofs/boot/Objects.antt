@@ -8,7 +8,7 @@ use Rattle.edi_calls.specs.declared.ends.Outside.TheVariants as outside
 use Rattle.edi_calls.specs.State.{State}
 use Rattle.edi_session.specs.declared.end.SessionEnd.{SessionEnd}
 use Rattle.edi_session.specs.Shell.{session_on}
-use Rattle.edi_shell.specs.sessions.Ends.{IsFreshly, IsFreshlySince, SessionEnds, SessionLeaves}
+use Rattle.edi_shell.specs.sessions.Ends.{IsFreshlyBy, IsFreshlySince, SessionEnds, SessionLeaves}
 use Rattle.edi_shell.proofs.sessions.OnSystem.{ends_otherwise}
 use Rattle.edi_system.specs.AsCalls.{IsDueFrom, IsDueSince, KeepsDue}
 use Rattle.edi_system.specs.Ends.{Blames}
@@ -19,7 +19,7 @@ use Rattle.edi_trace.specs.Drawn.{Drawn}
 use Rattle.edi_execute.specs.Objects.{FailedIs, Objects, contents_with, faults_in, system_on}
 use Rattle.edi_execute.proofs.Runs.{AreOf, AreUnder, due_run, on_objects, told_run}
 use Rattle.edi_commands.specs.declared.boot.holding.SessionExit.{SessionExit}
-use Rattle.edi_commands.specs.boot.OnObjects.{EndsOn, HaveState, HaveStateSince, SessionLeft}
+use Rattle.edi_commands.specs.boot.OnObjects.{EndsOn, HaveStateBy, HaveStateSince, SessionLeft}
 
 drop_all : (xs : List ℕ) → drop (length xs) xs ≡ []
 drop_all [] = refl
@@ -64,9 +64,9 @@ module _ {D S T P : Type 0} (contents : D → Option (List (List ℕ))) (left : 
       → SessionLeaves bound old.source (session_on (state_with before x y z w) old.drawn (length z)) how drawn (state_with after x' y' z' w')
       → EndsOn bound old how drawn (contents_with x y z w) (contents_with x' y' z' w')
   ends_on bound old how drawn begins x x' y y' z z' w w' h =
-      subst (λ s. SessionEnds bound old.source HaveStateSince HaveState (session_on s old.drawn (length z)) how drawn (contents_with x' y' z' w'))
+      subst (λ s. SessionEnds bound old.source HaveStateSince (HaveStateBy how) (session_on s old.drawn (length z)) how drawn (contents_with x' y' z' w'))
       (begun_is begins x y z w)
-      (ends_otherwise bound old.source IsFreshlySince IsFreshly HaveStateSince HaveState (state_with after x' y' z' w') (contents_with x' y' z' w')
+      (ends_otherwise bound old.source IsFreshlySince (IsFreshlyBy how) HaveStateSince (HaveStateBy how) (state_with after x' y' z' w') (contents_with x' y' z' w')
       (λ state n e. record {
         input = ap (λ (s : State). s.input) e;
         shown = ap (λ (s : State). s.shown) e;
@@ -74,13 +74,16 @@ module _ {D S T P : Type 0} (contents : D → Option (List (List ℕ))) (left : 
         slots = ap (λ (s : State). s.slots) e;
         blocks = ap (λ (s : State). s.blocks) e;
       })
-      (λ state e. record {
-        input = ap (λ (s : State). s.input) e;
-        shown = ap (λ (s : State). s.shown) e;
-        printed = ap (λ (s : State). s.printed) e;
-        slots = ap (λ (s : State). s.slots) e;
-        blocks = ap (λ (s : State). s.blocks) e;
-      })
+      (λ failed state e. (
+        e.0,
+        record {
+          input = ap (λ (s : State). s.input) e.1;
+          shown = ap (λ (s : State). s.shown) e.1;
+          printed = ap (λ (s : State). s.printed) e.1;
+          slots = ap (λ (s : State). s.slots) e.1;
+          blocks = ap (λ (s : State). s.blocks) e.1;
+        },
+      ))
       (session_on (state_with before x y z w) old.drawn (length z)) how drawn h)
 
   -- all of it

@@ -1,11 +1,13 @@
 -- Words of contracts. A session on the four objects that the shell sees, and what it leaves of them.
-use Rattle.std.specs.Prelude.{◌≡◌, ℕ, ◌+◌, ◌*◌, ◌<◌, ◌^◌, false, List, drop, length, Option}
+use Rattle.std.specs.Prelude.{◌≡◌, ℕ, ◌+◌, ◌*◌, ◌<◌, ◌^◌, false, List, drop, length, Option, Some}
 use Rattle.edi_told.specs.Told.{WhereTold}
+use Rattle.edi_calls.specs.declared.ends.Outside.{Outside}
 use Rattle.edi_calls.specs.State.{State}
 use Rattle.edi_execute.specs.Objects.{Contents, Objects, Show, contents_of, system_on}
 use Rattle.edi_session.specs.declared.end.SessionEnd.{SessionEnd}
 use Rattle.edi_session.specs.Shell.{session_on}
 use Rattle.edi_shell.specs.sessions.Ends.{SessionEnds}
+use Rattle.edi_shell_io.specs.calls.Standing.{failed_by}
 use Rattle.edi_system.specs.Parts.{due_after, ToldStays}
 use Rattle.edi_trace.specs.Drawn.{Drawn}
 use Rattle.edi_commands.specs.declared.boot.holding.SessionExit.{SessionExit}
@@ -18,10 +20,15 @@ HaveState c state = Show state c
 abbrev pub HaveStateSince : (c : Contents) → State → (shown_before : ℕ) → Type 0
 HaveStateSince c state shown_before = Show state c
 
--- the session on these objects is over, and in the end they have what it leaves, or what a state has through which it comes
+-- the same where this object has failed, by which the session ended so
+abbrev pub HaveStateBy : SessionEnd → (c : Contents) → Outside → State → Type 0
+HaveStateBy how c failed state = (failed_by how ≡ Some failed) × HaveState c state
+
+-- the session on these objects is over, and in the end they have what it leaves, or what a state has through which it comes and at which the
+-- object may fail that has failed
 abbrev pub EndsOn : (bound : ℕ) → Drawn → SessionEnd → (drawn : ℕ) → (before after : Contents) → Type 0
 EndsOn bound old how drawn before after =
-    SessionEnds bound old.source HaveStateSince HaveState (session_on (system_on before) old.drawn (length before.shown)) how drawn after
+    SessionEnds bound old.source HaveStateSince (HaveStateBy how) (session_on (system_on before) old.drawn (length before.shown)) how drawn after
 
 -- What a session leaves: where the four objects tell what they hold, what it has in the end or at a moment; what is told in the end was
 -- told at the start, the input only loses its first bytes, what the terminal and the printer have taken only grows, and the drive is a

@@ -9,10 +9,10 @@ use Rattle.edi_statuses.specs.Lines.{is_due}
 use Rattle.edi_statuses.specs.Sessions.{BrokeSession, EndedWhole, HoldsSession}
 use Rattle.edi_commands.specs.run.OnMounted.{OnMounted}
 
--- The session was broken off at one moment of it, or came to its end.
+-- The session was broken off at one moment of it by the object that is blamed, or came to its end.
 abbrev pub SessionCame : (bound : ℕ) → Choices → (record_file : Option (List ℕ)) → Status → Outside → Outside → (shown : List ℕ) → Lent → Type 0
 SessionCame bound choices name s before after shown kernel =
-    OnMounted name (BrokeSession bound choices before after shown) (EndedWhole bound choices before after shown)
+    OnMounted name (BrokeSession s kernel.failed bound choices before after shown) (EndedWhole bound choices before after shown)
     (λ end. HoldsSession bound choices name end before after shown) s before after shown kernel
 
 -- So it was; a line feed is due before the line of the status, or not. What is left of each object is told whatever the others tell.

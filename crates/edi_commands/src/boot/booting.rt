@@ -8,6 +8,7 @@ ghost use Rattle.edi_statuses.specs.Outside.{lent, outside_of};
 ghost use Rattle.edi_statuses.specs.Counts.{counts_of, HasCause, NoneFalls};
 ghost use Rattle.edi_statuses.specs.EachObject.{DevicesStay, FitsCount, RunStays, handed, is_at_drive, is_before_drive, names_file};
 ghost use Rattle.edi_statuses.specs.Decided.{Came};
+ghost use Rattle.edi_commands.specs.run.Blaming.{Blaming};
 ghost use Rattle.edi_commands.specs.run.OnMounted.{DriveAsked};
 ghost use Rattle.edi_statuses.specs.Sessions.{session_status};
 ghost use Rattle.edi_commands.specs.boot.SessionCame.{BootCame};
@@ -51,9 +52,10 @@ fn hold_session<F: Files, D: Drive, S: Source, T: Sink, P: Sink>(
     kernel: &mut Kernel,
 ) -> Ended
     requires none_drawn { choices.old.drawn ≡ 0 }
-    ensures came { BootCame turns choices.old.source (option_map (λ name. name.now) record_file.entry) result.status result.due
+    ensures came { Blaming result.status (T.faults terminal.old) (T.faults terminal.new) (P.faults printer.old) (P.faults printer.new)
+        (BootCame turns choices.old.source (option_map (λ name. name.now) record_file.entry) result.status result.due
         (outside_of F.contents D.contents S.left T.taken P.taken files.old drive.old input.old terminal.old printer.old)
-        (outside_of F.contents D.contents S.left T.taken P.taken files.new drive.new input.new terminal.new printer.new)
+        (outside_of F.contents D.contents S.left T.taken P.taken files.new drive.new input.new terminal.new printer.new))
         (lent kernel.old.store kernel.old.used kernel.new.store kernel.new.used) }
     ensures tells { WhereTold (F.contents files.old) (F.contents files.new) (λ old new. ⊤) }
     ensures untouched { record_file.entry ≡ None → files.new ≡ files.old }
@@ -97,7 +99,8 @@ fn hold_session<F: Files, D: Drive, S: Source, T: Sink, P: Sink>(
 ///
 /// What the status means, and how all that is outside stands behind the call, is told by `Came`: the first step that stops decides;
 /// a session that was halted, or whose input ended, is `Ok`. Want of memory comes only before the session, or where the record is to
-/// be kept; the fault of an object only where its count rose.
+/// be kept; the fault of an object only where its count rose. The object that has failed in the session is blamed: the terminal only
+/// where the session shows a byte, the printer only where it prints one.
 pub fn boot<F: Files, D: Drive, S: Source, T: Sink, P: Sink>(
     alloc: Global,
     options: Options<'_>,
@@ -108,9 +111,10 @@ pub fn boot<F: Files, D: Drive, S: Source, T: Sink, P: Sink>(
     printer: &mut P,
     kernel: &mut Kernel,
 ) -> Ended
-    ensures came { Came result.status result.due (Some (words.boot (options_of options.entry)))
+    ensures came { Blaming result.status (T.faults terminal.old) (T.faults terminal.new) (P.faults printer.old) (P.faults printer.new)
+        (Came result.status result.due (Some (words.boot (options_of options.entry)))
         (outside_of F.contents D.contents S.left T.taken P.taken files.old drive.old input.old terminal.old printer.old)
-        (outside_of F.contents D.contents S.left T.taken P.taken files.new drive.new input.new terminal.new printer.new)
+        (outside_of F.contents D.contents S.left T.taken P.taken files.new drive.new input.new terminal.new printer.new))
         (lent kernel.old.store kernel.old.used kernel.new.store kernel.new.used) }
     // Files that no option names are left alone, the drive keeps its number of blocks, which the status fits, and where the drive is
     // not asked, no object but the files is touched, whatever they tell.

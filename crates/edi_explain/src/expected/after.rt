@@ -1,10 +1,11 @@
 //! Which symbols may stand after marks.
 
-ghost use Rattle.std.specs.Prelude.{◌≡◌, ◌≤◌, ◌<◌, ℕ, Bool, IfOk, OnOk, slice_index_or, false};
+ghost use Rattle.std.specs.Prelude.{◌≡◌, ◌≤◌, ◌<◌, ℕ, List, IfOk, option_map, slice_index_or, false};
+ghost use Rattle.edi_lex.specs.declared.symbol.Mark.{Mark};
+ghost use Rattle.edi_explain.specs.expected.Advances.{Awaits, Reads};
 ghost use Rattle.edi_explain.specs.expected.Reaches.{May};
 
-use crate::expected::samples::sample_of;
-use crate::expected::walk::{Reach, do_begin, reach_of};
+use crate::expected::parser::{awaited, may_stand};
 use edi_lex::Mark;
 use std::alloc::{AllocError, Global};
 
@@ -17,42 +18,43 @@ pub struct Expected {
     pub kinds: [bool; 51],
 }
 
-// Whether the end of the program may stand after these marks.
-fn end_may_stand(alloc: Global, before: &[Mark]) -> Result<bool, AllocError>
-    ensures exact { IfOk result (λ b. May before.now 0 b) }
+// Which symbols may stand where these are waited for.
+fn expected_for(alloc: Global, numbers: &[u8]) -> Result<Expected, AllocError>
+    ensures exact { IfOk result (λ e. (before : List Mark) → Awaits before numbers.now → (kind : ℕ) → kind ≤ 50
+        → May before kind (slice_index_or e.kinds kind false)) }
 {
-    match reach_of(alloc, before)? {
-        Reach::Whole => Ok(true),
-        _ => Ok(false),
-    }
-}
-
-// Whether a symbol of this kind may stand after these marks, which stay as they are; if memory runs out, the marks are given up.
-fn may_stand(alloc: Global, before: &mut Vec<Mark>, kind: u8) -> Result<bool, AllocError>
-    requires some { 1 ≤ kind }
-    requires known { kind ≤ 50 }
-    ensures same { OnOk result (before.new.items ≡ before.old.items) }
-    ensures exact { IfOk result (λ b. May before.old.items kind b) }
-{
-    let symbol = sample_of(alloc, kind)?;
-    before.push(Mark { symbol, line: 1 })?;
-    let begins = do_begin(alloc, before.as_slice())?;
-    let _sample = before.pop();
-    Ok(begins)
-}
-
-/// Which symbols may stand after these marks: those with which the marks go on as some program. It parses the marks once for
-/// each kind. The only error is that memory runs out.
-pub fn expected_after(alloc: Global, before: Vec<Mark>) -> Result<Expected, AllocError>
-    ensures exact { IfOk result (λ e. (kind : ℕ) → kind ≤ 50 → May before.items kind (slice_index_or e.kinds kind false)) }
-{
-    let mut marks = before;
     let mut kinds = [false; 51];
-    kinds[0] = end_may_stand(alloc, marks.as_slice())?;
-    let mut kind: u8 = 1;
+    let mut kind: u8 = 0;
     while kind <= 50 {
-        kinds[kind as usize] = may_stand(alloc, &mut marks, kind)?;
+        kinds[kind as usize] = may_stand(alloc, numbers, kind)?;
         kind += 1;
     }
     Ok(Expected { kinds })
+}
+
+// The same of what is waited for after marks; None where they begin no program.
+fn expected_where(alloc: Global, found: Option<Vec<u8>>) -> Result<Expected, AllocError>
+    ensures exact { IfOk result (λ e. (before : List Mark) → Reads before (option_map (λ numbers. numbers.items) found) → (kind : ℕ) → kind ≤ 50
+        → May before kind (slice_index_or e.kinds kind false)) }
+{
+    match found {
+        Some(numbers) => expected_for(alloc, numbers.as_slice()),
+        None => Ok(Expected { kinds: [false; 51] }),
+    }
+}
+
+/// Which symbols may stand after these marks: those with which the marks go on as some program. The only error is that memory runs out.
+pub(crate) fn expected_behind(alloc: Global, before: &[Mark]) -> Result<Expected, AllocError>
+    ensures exact { IfOk result (λ e. (kind : ℕ) → kind ≤ 50 → May before.now kind (slice_index_or e.kinds kind false)) }
+{
+    let found = awaited(alloc, before)?;
+    let expected = expected_where(alloc, found)?;
+    Ok(expected)
+}
+
+/// The same, of marks that are given up.
+pub fn expected_after(alloc: Global, before: Vec<Mark>) -> Result<Expected, AllocError>
+    ensures exact { IfOk result (λ e. (kind : ℕ) → kind ≤ 50 → May before.items kind (slice_index_or e.kinds kind false)) }
+{
+    expected_behind(alloc, before.as_slice())
 }

@@ -7,11 +7,12 @@ ghost use Rattle.edi_explain.specs.told.Explained as spec;
 ghost use Rattle.edi_explain.specs.told.Explained.{IsExplained};
 ghost use Rattle.edi_explain.specs.told.Scanned.{HasSymbols};
 
-use crate::expected::expected_after;
+use crate::expected::expected_behind;
 use crate::told::advice::put_advice;
 use crate::told::lexical::put_lexical;
+use crate::told::names::marks_to;
 use crate::told::undeclared::put_static;
-use crate::told::wrong::{index_of, kind_of_fault, marks_before, put_wrong};
+use crate::told::wrong::{index_of, kind_of_fault, put_wrong};
 use edi_lex::{LexFault, Symbols, scan};
 use edi_syntax::{SyntaxFault, parse};
 use edi_texts::RefusalKind;
@@ -30,8 +31,7 @@ fn syntax_text(
     ensures exact { IfOk result (λ bytes. spec.IsSyntaxText text.now (symbols.now.marks, symbols.now.last) bytes.items) }
 {
     let index = index_of(fault);
-    let before = marks_before(alloc, text, index)?;
-    let expected = expected_after(alloc, before)?;
+    let expected = expected_behind(alloc, marks_to(symbols.marks.as_slice(), index as usize))?;
     let mut out = Vec::new(alloc);
     put_wrong(alloc, &mut out, text, symbols, index, expected)?;
     put_advice(&mut out, kind_of_fault(fault))?;

@@ -1,8 +1,6 @@
 //! What is shown of a syntax fault.
 
-ghost use Rattle.std.specs.Prelude.{◌≡◌, ◌++◌, ℕ, List, Ok, IfOk, OnOk, option_copied, take};
-ghost use Rattle.edi_lex.specs.Symbols.{symbols_of};
-ghost use Rattle.edi_lex.specs.declared.symbol.Mark.{Mark};
+ghost use Rattle.std.specs.Prelude.{◌≡◌, ◌++◌, OnOk, option_copied};
 ghost use Rattle.edi_syntax.specs.Refusal.{line_of as line_at};
 ghost use Rattle.edi_explain.specs.places.Places.{place_of as place_at};
 ghost use Rattle.edi_explain.specs.told.Explained as spec;
@@ -17,7 +15,7 @@ use crate::told::notes::{Seen, put_note};
 use crate::told::numbers::kind_at;
 use crate::told::source::{line_bytes, put_end, put_pointed};
 use crate::told::words::{kind_name, put_here};
-use edi_lex::{Mark, Symbols, scan};
+use edi_lex::{Mark, Symbols};
 use edi_syntax::SyntaxFault;
 use edi_texts::RefusalKind;
 use itoa::Buffer;
@@ -137,25 +135,6 @@ fn line_of(last: u16, here: Option<&Mark>) -> u16
     match here {
         Some(mark) => mark.line,
         None => last,
-    }
-}
-
-// The first so many of these symbols.
-fn first_marks(symbols: Symbols, count: u32) -> Vec<Mark>
-    ensures exact { result.items ≡ take count symbols.marks }
-{
-    let mut marks = symbols.marks.into_vec();
-    marks.truncate(count as usize);
-    marks
-}
-
-/// The first so many symbols of a text that has symbols. The text is cut again, so that they may be given up.
-pub(crate) fn marks_before(alloc: Global, text: &[u8], count: u32) -> Result<Vec<Mark>, AllocError>
-    ensures exact { (known : List Mark × ℕ) → symbols_of text.now ≡ Ok known → IfOk result (λ marks. marks.items ≡ take count known.0) }
-{
-    match scan(alloc, text) {
-        Ok(symbols) => Ok(first_marks(symbols, count)),
-        Err(_) => Err(AllocError),
     }
 }
 

@@ -69,7 +69,7 @@ pub more_is : (text line left : List ℕ) (b : ℕ) (s : Shell) (result : Taken)
 more_is text line left b s result is open_ some other =
     sym (rw other refl) ∙ sym (next_in_text (state_in s).input text line left b s open_ some) ∙ is
 
-module _ {C : Type 0} (at : C → State → ℕ → Type 0) (stands : C → State → Type 0) where
+module _ {C : Type 0} (at : C → State → ℕ → Type 0) (stands : C → Outside → State → Type 0) where
   -- no byte is taken, and so no text
   pub no_text : (text line : List ℕ) (s : Shell) (result : Taken) (e : SessionEnd) (c : C) → take_text (state_in s).input text line s ≡ result
       → GivesNone at stands e s c → Stops at stands e result c
@@ -92,7 +92,7 @@ pub record IsTaken {C : Type 0} (at : C → State → ℕ → Type 0) (n count :
   pub counted : after.taken ≡ count
   pub at_ : At at c after
 
-pub text_taken : {C : Type 0} (at : C → State → ℕ → Type 0) (stands : C → State → Type 0) (n count : ℕ) (taken : Taken) (room : List ℕ) (c : C)
+pub text_taken : {C : Type 0} (at : C → State → ℕ → Type 0) (stands : C → Outside → State → Type 0) (n count : ℕ) (taken : Taken) (room : List ℕ) (c : C)
     → GivesText at stands (Ok n) taken room count c → IsTaken at n count taken room c
 text_taken at stands n count (took text t) room c h =
     record { text = text; after = t; is = refl; long = h.0; kept = h.1; counted = h.2; at_ = h.3 }
@@ -149,7 +149,7 @@ stored_on f text s = answered_on (no_room f (length text) (free (state_in s)) (s
 entered : (f : List ℕ) (taken : Taken) → (next : AfterLine) × BehindTaken taken (StoresText f) next × Later (shell_of taken) (shell_in next)
 entered f taken = taking_behind taken (StoresText f) (λ text t. (goes (stores f file_kind.Text text t), refl, stored_on f text t))
 
-module _ {C : Type 0} (at : C → State → ℕ → Type 0) (stands : C → State → Type 0) (f : List ℕ) where
+module _ {C : Type 0} (at : C → State → ℕ → Type 0) (stands : C → Outside → State → Type 0) (f : List ℕ) where
   -- an object failed while the text was taken
   text_breaks : (s : Shell) (taken : Taken) (c : C) → next_text s ≡ taken → StandsIn stands (shell_of taken) c → LineBreaks at stands (EntersFile f) s c
   text_breaks s taken c is st =

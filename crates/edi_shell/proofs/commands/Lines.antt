@@ -1,6 +1,7 @@
 -- A line that is being taken.
 use Rattle.std.proofs.Common.{◌≡◌, ℕ, zero, suc, ◌+◌, ◌<◌, ◌≤◌, Bool, true, false, List, [], ◌∷◌, ◌++◌, length, take, Option, Some, None, refl, sym, ap, subst, ◌∙◌, arith}
 use Rattle.std.specs.Prelude.{if◌then◌else◌, nat_le, ◌==◌}
+use Rattle.edi_calls.specs.declared.ends.Outside.{Outside}
 use Rattle.edi_calls.specs.State.{State}
 use Rattle.edi_session.specs.declared.end.SessionEnd.{SessionEnd}
 use Rattle.edi_session.specs.declared.end.SessionEnd.TheVariants as end
@@ -80,7 +81,7 @@ more_is echo left line b s result is open_ some other =
     ap (λ i. take_line echo i (line ++ b ∷ []) (echoed echo (b ∷ []) (took_byte left s))) (echoed_input echo b (took_byte left s))
     ∙ sym (rw other refl) ∙ sym (next_in_line echo (state_in s).input line left b s open_ some) ∙ is
 
-module _ {C : Type 0} (at : C → State → ℕ → Type 0) (stands : C → State → Type 0) where
+module _ {C : Type 0} (at : C → State → ℕ → Type 0) (stands : C → Outside → State → Type 0) where
   -- no byte is taken, and so no line
   pub none_stops : (echo : Bool) (line : List ℕ) (s : Shell) (result : Taken) (e : SessionEnd) (c : C) → take_line echo (state_in s).input line s ≡ result
       → GivesNone at stands e s c → Stops at stands e result c

@@ -1,6 +1,7 @@
 -- A file that a command asks for: what is done where it is there, and where not.
 use Rattle.std.proofs.Common.{◌≡◌, inl, inr, ℕ, true, List, [], ◌∷◌, ◌++◌, Option, Some, None, take, refl, sym, ap, subst, ◌∙◌}
 use Rattle.std.specs.Prelude.{if◌then◌else◌, codes, Result, Ok, Err}
+use Rattle.edi_calls.specs.declared.ends.Outside.{Outside}
 use Rattle.edi_calls.specs.declared.kinds.FileKind.{FileKind}
 use Rattle.edi_calls.specs.declared.kinds.FileKind.TheVariants as file_kind
 use Rattle.edi_calls.specs.Calls.{is_text}
@@ -58,7 +59,7 @@ any_opened f act file opened s o = ap (λ x. with_file x f act s) o.is
 
 -- ---- where the object stands then
 
-module _ {C : Type 0} (at : C → State → ℕ → Type 0) (stands : C → State → Type 0) where
+module _ {C : Type 0} (at : C → State → ℕ → Type 0) (stands : C → Outside → State → Type 0) where
   pub text_was_refused : (f : List ℕ) (act : List ℕ → Shell → Shell) (file : Option File) (s : Shell) (c : C) → WasRefused at stands (Some file_kind.Text)
       file f s c
       → At at c (with_file file f (with_text f act) s)
@@ -94,7 +95,7 @@ wrong_file wanted None entry f text s e w = absurd cc
 wrong_file wanted (Some file) entry f text s e w =
     ap (λ k. refused_kind k f s) (ap (λ (x : Entry). wrong wanted x.kind) (sym (some_same e)) ∙ w)
 
-module _ {C : Type 0} (at : C → State → ℕ → Type 0) (stands : C → State → Type 0) where
+module _ {C : Type 0} (at : C → State → ℕ → Type 0) (stands : C → Outside → State → Type 0) where
   pub no_file_at : (wanted : Option FileKind) (file : Option File) (f items : List ℕ) (s : Shell) (c : C) → None ≡ option_map entry_told file
       → items ≡ about (codes "no file") f ++ 10 ∷ [] → At at c (shown_by items s) → WasRefused at stands wanted file f s c
   no_file_at wanted file f items s c e is a = record {
@@ -114,7 +115,7 @@ module _ {C : Type 0} (at : C → State → ℕ → Type 0) (stands : C → Stat
 
 -- ---- what is done with bytes that were read
 
-module _ {C : Type 0} (at : C → State → ℕ → Type 0) (stands : C → State → Type 0) where
+module _ {C : Type 0} (at : C → State → ℕ → Type 0) (stands : C → Outside → State → Type 0) where
   -- `read` is what was read, and `front` the part of the room that was used
   pub text_leads : (f into front : List ℕ) (act : List ℕ → Shell → Shell) (file : Option File) (read : FileKind × ℕ) (s : Shell) (c d : C)
       (result : Result (Unit {0}) SessionEnd)

@@ -1,6 +1,7 @@
 -- Rows of the table of commands: what a line leads to is what the object was led to.
 use Rattle.std.proofs.Common.{◌≡◌, ℕ, List, Option, Some, None, refl, sym, ap, subst}
 use Rattle.std.specs.Prelude.{Result, Ok, Err}
+use Rattle.edi_calls.specs.declared.ends.Outside.{Outside}
 use Rattle.edi_calls.specs.declared.kinds.FileKind.{FileKind}
 use Rattle.edi_calls.specs.declared.kinds.FileKind.TheVariants as file_kind
 use Rattle.edi_calls.specs.Choice.{Choices}
@@ -30,7 +31,7 @@ drawn_answered (Some why) f g slots s = refl
 
 -- ---- rows
 
-module _ {C : Type 0} (at : C → State → ℕ → Type 0) (stands : C → State → Type 0) where
+module _ {C : Type 0} (at : C → State → ℕ → Type 0) (stands : C → Outside → State → Type 0) where
   pub leads_does : (Row : Shell → AfterLine → Type 0) (s t : Shell) (result : Result (Unit {0}) SessionEnd) (c : C)
       → Row s (goes t) → IsLike s t → t.drawn ≡ s.drawn → Leads at stands result t c → LineDoes at stands Row result s.drawn s c
   leads_does Row s t (Ok x) c row like draws l = record { after = t; row = row; like = like; draws = draws; at_ = l }

@@ -1,6 +1,7 @@
 -- An execution of code is a row of the table.
 use Rattle.std.proofs.Common.{◌≡◌, ◌⊎◌, inl, inr, ℕ, List, [], ◌∷◌, ◌++◌, Option, Some, None, take, refl, sym, ap, subst, ◌∙◌}
 use Rattle.std.specs.Prelude.{Result, Ok, Err, codes}
+use Rattle.edi_calls.specs.declared.ends.Outside.{Outside}
 use Rattle.edi_calls.specs.Choice.{Choices}
 use Rattle.edi_calls.specs.Outcome as outcome
 use Rattle.edi_calls.specs.State.{State}
@@ -90,7 +91,7 @@ like_behind : (code : CodeParts) (bound : ℕ) (choices : Choices) (end : outcom
 like_behind code bound choices end drawn s after r =
     record { taken = ap (λ (u : Shell). u.taken) r.is; mode = ap (λ (u : Shell). u.mode) r.is; shown_before = ap (λ (u : Shell). u.shown_before) r.is }
 
-module _ {C : Type 0} (at : C → State → ℕ → Type 0) (stands : C → State → Type 0) (f : List ℕ) (code : CodeParts) (bound : ℕ) (choices : Choices) where
+module _ {C : Type 0} (at : C → State → ℕ → Type 0) (stands : C → Outside → State → Type 0) (f : List ℕ) (code : CodeParts) (bound : ℕ) (choices : Choices) where
   -- where the line of the ending leads
   row_of : (end : outcome.Ending) (drawn : ℕ) (s after : Shell) → HasRun code bound choices end drawn s after
       → ExecutesCode bound choices f code s (goes (ends_with (ending_line f end) after))
@@ -167,7 +168,7 @@ refused_bytes bound choices f bytes known s (fault.Operation at found) h = inl
 refused_bytes bound choices f bytes known s (fault.Jump at target) h = inl
     (subst (λ k. ExecutesBytes bound choices f bytes k s (goes (says (code_refusal f (fault.Jump at target)) s))) (sym h) refl)
 
-module _ {C : Type 0} (at : C → State → ℕ → Type 0) (stands : C → State → Type 0) (f : List ℕ) (bound : ℕ) (choices : Choices) where
+module _ {C : Type 0} (at : C → State → ℕ → Type 0) (stands : C → Outside → State → Type 0) (f : List ℕ) (bound : ℕ) (choices : Choices) where
   pub execute_reading_broke : (into : List ℕ) (file : Option File) (s : Shell) (c : C) (e : SessionEnd) → Reads at stands (Err e) (Some file_kind.Code) file f
       into s c
       → LineBreaks at stands (ExecutesFile bound choices f file) s c

@@ -1,7 +1,7 @@
 -- The list of the files, line by line.
 use Rattle.std.proofs.Common.{◌≡◌, ℕ, zero, suc, ◌+◌, ◌<◌, List, [], ◌∷◌, ◌++◌, length, take, drop, Option, Some, None, refl, sym, ap, subst, ◌∙◌}
 use Rattle.std.proofs.Common.{append_assoc, arith}
-use Rattle.std.specs.Prelude.{codes, Contains}
+use Rattle.std.specs.Prelude.{codes}
 use Rattle.std.specs.Fmt.{decimal}
 use Rattle.std.specs.Option.{option_map}
 use Rattle.edi_catalog.specs.declared.entry.Entry.{Entry}
@@ -9,7 +9,7 @@ use Rattle.edi_catalog.specs.InSlots.{entry_told}
 use Rattle.edi_shell.proofs.commands.Opening.{some_same}
 use Rattle.edi_calls.specs.State.{File, free, slot_at}
 use Rattle.edi_session.specs.Shell.{Shell, shown_by, state_in}
-use Rattle.edi_session.specs.Course.{Course, shows, becomes}
+use Rattle.edi_session.specs.Course.{Course, MayFail, states_of, shows, becomes}
 use Rattle.edi_session.specs.Texts.{file_lines, entry_line, catalogue_text}
 use Rattle.edi_shell.specs.commands.Files.{slot_line}
 use Rattle.edi_session.proofs.Later.{Later, shows_more, shows_on}
@@ -44,14 +44,14 @@ rest_of (suc n) (slot ∷ slots) =
 
 -- a first part of the list is shown on the way to the whole
 pub part_on : (n : ℕ) (s : Shell) → Later (shown_by (first_lines n (state_in s).slots) s) (shown_by (catalogue_text (state_in s)) s)
-part_on n s m h =
+part_on n s o m h =
     let slots = (state_in s).slots in
     let last = decimal (free (state_in s)) ++ codes " blocks free\n" in
     let whole : catalogue_text (state_in s) ≡ first_lines n slots ++ (file_lines (drop n slots) ++ last) =
     ap (λ ys. ys ++ last) (rest_of n slots) ∙ append_assoc (first_lines n slots) (file_lines (drop n slots)) last in
-    subst (λ c. Contains (c.now ∷ c.past) m)
+    subst (λ c. MayFail o (states_of c) m)
     (sym (ap (λ ys. shows ys s.system) whole ∙ shows_more (first_lines n slots) (file_lines (drop n slots) ++ last) s.system))
-    (shows_on (file_lines (drop n slots) ++ last) (shows (first_lines n slots) s.system) m h)
+    (shows_on (file_lines (drop n slots) ++ last) (shows (first_lines n slots) s.system) o m h)
 
 -- ---- a line that is shown
 

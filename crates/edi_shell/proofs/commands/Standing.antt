@@ -1,6 +1,7 @@
 -- Where an object stands after a fault, told of a later shell.
 use Rattle.std.proofs.Common.{◌≡◌, ℕ, true, subst, sym}
 use Rattle.std.specs.Prelude.{nat_le}
+use Rattle.edi_calls.specs.declared.ends.Outside.{Outside}
 use Rattle.edi_calls.specs.State.{State}
 use Rattle.edi_session.specs.declared.end.SessionEnd.{SessionEnd}
 use Rattle.edi_session.specs.declared.end.SessionEnd.TheVariants as end
@@ -10,17 +11,17 @@ use Rattle.edi_shell_io.specs.calls.Standing.{StandsIn, IsFault}
 use Rattle.edi_shell_io.proofs.calls.Faulted.{of_fault}
 use Rattle.edi_shell.specs.commands.Taking.{GivesNone, Stops}
 
-module _ {C : Type 0} (stands : C → State → Type 0) where
+module _ {C : Type 0} (stands : C → Outside → State → Type 0) where
   pub stands_later : (s t : Shell) (c : C) → Later s t → StandsIn stands s c → StandsIn stands t c
-  stands_later s t c on st = record { moment = st.moment; there = on st.moment st.there; is = st.is }
+  stands_later s t c on st = record { failed = st.failed; moment = st.moment; there = on st.failed st.moment st.there; is = st.is }
 
 -- no line is taken where an object has failed on the way to it
-pub fault_stops : {C : Type 0} (at : C → State → ℕ → Type 0) (stands : C → State → Type 0) (e : SessionEnd) (taken : Taken) (c : C)
+pub fault_stops : {C : Type 0} (at : C → State → ℕ → Type 0) (stands : C → Outside → State → Type 0) (e : SessionEnd) (taken : Taken) (c : C)
     → IsFault e → StandsIn stands (shell_of taken) c → Stops at stands e taken c
 fault_stops at stands e taken c fault st = of_fault (λ x. Stops at stands x taken c) st st st st e fault
 
 -- no byte is taken, and so neither a line nor a text
-pub nothing_stops : {C : Type 0} (at : C → State → ℕ → Type 0) (stands : C → State → Type 0) (s : Shell) (taken : Taken) (e : SessionEnd) (c : C)
+pub nothing_stops : {C : Type 0} (at : C → State → ℕ → Type 0) (stands : C → Outside → State → Type 0) (s : Shell) (taken : Taken) (e : SessionEnd) (c : C)
     → (nat_le limit s.taken ≡ true → taken ≡ limited s) → Later s (shell_of taken) → GivesNone at stands e s c → Stops at stands e taken c
 nothing_stops at stands s taken end.Halted c full on none = absurd none
 nothing_stops at stands s taken end.InputEnd c full on none = absurd none

@@ -4,6 +4,7 @@ use Rattle.std.proofs.Common.{refl, sym, ap, subst, ◌∙◌, arith, take-add, 
 use Rattle.std.specs.Prelude.{if◌then◌else◌, nat_lt, Result, codes}
 use Rattle.std.specs.Int.{div_ceil}
 use Rattle.std.proofs.lemmas.Grind.{div_ceil_times}
+use Rattle.edi_calls.specs.declared.ends.Outside.{Outside}
 use Rattle.edi_calls.specs.State.{File, State, free, most_bytes}
 use Rattle.edi_calls.specs.declared.kinds.FileKind.{FileKind}
 use Rattle.edi_calls.specs.declared.kinds.FileKind.TheVariants as file_kind
@@ -128,7 +129,7 @@ drawn_code g bytes s = drawn_code_by (nat_lt most_bytes (length bytes)) g bytes 
 
 -- ---- rows
 
-module _ {C : Type 0} (at : C → State → ℕ → Type 0) (stands : C → State → Type 0) (g text : List ℕ) where
+module _ {C : Type 0} (at : C → State → ℕ → Type 0) (stands : C → Outside → State → Type 0) (g text : List ℕ) where
   pub compiled_no_memory : (s : Shell) (result : Result (Unit {0}) SessionEnd) (items : List ℕ) (c : C) → items ≡ codes "no memory" ++ 10 ∷ []
       → Leads at stands result (shown_by items s) c → LineDoes at stands (CompilesText text g) result s.drawn s c
   compiled_no_memory s result items c is l =
@@ -158,7 +159,7 @@ module _ {C : Type 0} (at : C → State → ℕ → Type 0) (stands : C → Stat
     in_ = stands_later stands s (says_no_memory s) c (says_on (codes "no memory") s) st;
   }
 
-module _ {C : Type 0} (at : C → State → ℕ → Type 0) (stands : C → State → Type 0) (f g : List ℕ) where
+module _ {C : Type 0} (at : C → State → ℕ → Type 0) (stands : C → Outside → State → Type 0) (f g : List ℕ) where
   pub compile_was_refused : (file : Option File) (s : Shell) (c : C) → WasRefused at stands (Some file_kind.Text) file f s c
       → LineGoesOn at stands (CompilesFile f g file) s s.drawn c
   compile_was_refused file s c r =

@@ -37,7 +37,7 @@ pub record Underway (bound : ℕ) (choices : Choices) {C : Type 0} (at : C → S
 abbrev pub begun_at : (f : List ℕ) → List (List ℕ) → Shell → Shell
 begun_at f lines s = record s { mode = editing f (record { lines = lines; earlier = [] }) }
 
-module _ (bound : ℕ) (choices : Choices) {C : Type 0} (at : C → State → ℕ → Type 0) (stands : C → State → Type 0) where
+module _ (bound : ℕ) (choices : Choices) {C : Type 0} (at : C → State → ℕ → Type 0) (stands : C → Outside → State → Type 0) where
   -- ---- what lines come to
 
   -- the last line stops the session
@@ -193,7 +193,7 @@ module _ (bound : ℕ) (choices : Choices) {C : Type 0} (at : C → State → �
 
 -- ---- opening its text
 
-module _ {C : Type 0} (at : C → State → ℕ → Type 0) (stands : C → State → Type 0) where
+module _ {C : Type 0} (at : C → State → ℕ → Type 0) (stands : C → Outside → State → Type 0) where
   -- there is no such file
   pub opens_none : (f : List ℕ) (file : Option File) (into : List ℕ) (s : Shell) (c : C) → None ≡ option_map entry_told file → At at c s
       → OpensText at stands (Ok (Some 0)) f file into s c
@@ -224,7 +224,7 @@ module _ {C : Type 0} (at : C → State → ℕ → Type 0) (stands : C → Stat
   opens_text f (Some file) entry into s (Err fault) c e k r = record {
     next = edits_on f (record { lines = lines_of file.bytes; earlier = [] }) s;
     row = text_row f file s _ file.kind (kind_of file entry file_kind.Text e k) (inl refl);
-    in_ = record { moment = r.moment; there = r.there; is = r.is };
+    in_ = record { failed = r.failed; moment = r.moment; there = r.there; is = r.is };
   }
 
   -- it is a code, and that was shown

@@ -1,7 +1,7 @@
 -- The rows of an editing, from what the calls on the text and on the object say.
 use Rattle.std.proofs.Common.{◌≡◌, ℕ, ◌+◌, ◌<◌, Bool, true, false, List, [], ◌∷◌, ◌++◌, length, length-append, Option, Some, None, Result, Ok, Err, refl}
 use Rattle.std.proofs.Common.{◌⊎◌, sym, ap, subst, ◌∙◌, arith, inl, inr}
-use Rattle.std.specs.Prelude.{codes, Contains}
+use Rattle.std.specs.Prelude.{codes}
 use Rattle.edi_calls.specs.declared.ends.Outside.{Outside}
 use Rattle.edi_calls.specs.declared.kinds.FileKind.TheVariants as file_kind
 use Rattle.edi_calls.specs.State.{File, State, free}
@@ -16,7 +16,7 @@ use Rattle.edi_edit.specs.declared.EditEnd.{EditEnd}
 use Rattle.edi_edit.specs.declared.EditEnd.TheVariants as edit_end
 use Rattle.edi_edit.specs.Lines.{bytes_of_lines, size_of_lines}
 use Rattle.edi_session.proofs.Later.{shows_more, shows_on}
-use Rattle.edi_session.specs.Course.{states_of}
+use Rattle.edi_session.specs.Course.{MayFail, states_of}
 use Rattle.edi_session.specs.Files.{answered, why_line}
 use Rattle.edi_session.specs.Session.{AfterLine, ChangesLine, TakesBack, Writes, edit_refusal, edits_on, leaves, says_no_memory, written_back}
 use Rattle.edi_session.specs.Shell.{Shell, says, shown_by, state_in}
@@ -44,7 +44,7 @@ undo_row (text ∷ texts) before title s next some row = row
 follows_itself : (s : Shell) → IsBehindLine s s.taken s
 follows_itself s = record { taken_is = refl; drawn_is = refl; before_is = refl }
 
-module _ {C : Type 0} (at : C → State → ℕ → Type 0) (stands : C → State → Type 0) where
+module _ {C : Type 0} (at : C → State → ℕ → Type 0) (stands : C → Outside → State → Type 0) where
   -- an object failed, and so the session stops
   pub broke : (Row : AfterLine → Type 0) (e : SessionEnd) (s : Shell) (c : C) → IsFault e → EditingBreaks at stands Row c → EditingStops at stands e Row s c
   broke Row e s c fault b = of_fault (λ x. EditingStops at stands x Row s c) b b b b e fault
@@ -53,16 +53,17 @@ module _ {C : Type 0} (at : C → State → ℕ → Type 0) (stands : C → Stat
   breaks : (Row : AfterLine → Type 0) (title : List ℕ) (e : Editing) (t : Shell) (c : C) → Row (edits_on title e t) → StandsIn stands t c
       → EditingBreaks at stands Row c
   breaks Row title e t c row there =
-      record { next = edits_on title e t; row = row; in_ = record { moment = there.moment; there = there.there; is = there.is } }
+      record { next = edits_on title e t; row = row; in_ = record { failed = there.failed; moment = there.moment; there = there.there; is = there.is } }
 
   -- ---- `l N`
 
   -- a line is shown in two parts
   pub first_broke : (line : List ℕ) (s : Shell) (c : C) → StandsIn stands (shown_by line s) c → StandsIn stands (says line s) c
   first_broke line s c there = record {
+    failed = there.failed;
     moment = there.moment;
-    there = subst (λ d. Contains (states_of d) there.moment) (sym (shows_more line (10 ∷ []) s.system))
-        (shows_on (10 ∷ []) (shown_by line s).system there.moment there.there);
+    there = subst (λ d. MayFail there.failed (states_of d) there.moment) (sym (shows_more line (10 ∷ []) s.system))
+        (shows_on (10 ∷ []) (shown_by line s).system there.failed there.moment there.there);
     is = there.is;
   }
 
@@ -112,7 +113,7 @@ module _ {C : Type 0} (at : C → State → ℕ → Type 0) (stands : C → Stat
       record {
         next = leaves (with_slots (Wanted title (bytes_of_lines e.lines) s) s);
         row = stored_row title e s here.0;
-        in_ = record { moment = here.1.moment; there = here.1.there; is = here.1.is };
+        in_ = record { failed = here.1.failed; moment = here.1.moment; there = here.1.there; is = here.1.is };
       }
 
   -- a store that is refused
@@ -148,7 +149,7 @@ module _ {C : Type 0} (at : C → State → ℕ → Type 0) (stands : C → Stat
   undo_made before now title s c u a =
       (s, undo_row before.earlier before title s (edits_on title now s) u.0 (inl (ap (λ x. edits_on title x s) u.1)), follows_itself s, a)
 
-module _ {C : Type 0} (ready : C → Type 0) (failed : C → Option Outside) (at : C → State → ℕ → Type 0) (stands : C → State → Type 0) where
+module _ {C : Type 0} (ready : C → Type 0) (failed : C → Option Outside) (at : C → State → ℕ → Type 0) (stands : C → Outside → State → Type 0) where
   -- a line is shown, and the editing goes on
   pub said : (Row : AfterLine → Type 0) (title : List ℕ) (e : Editing) (text bytes : List ℕ) (s : Shell) (result : Result Bool SessionEnd) (c : C)
       → Row (edits_on title e (says text s)) → bytes ≡ text ++ 10 ∷ [] → IsLeft ready failed result c → SaysOn at stands result bytes s c

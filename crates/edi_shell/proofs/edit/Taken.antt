@@ -1,6 +1,7 @@
 -- A line behind a line that was taken.
 use Rattle.std.proofs.Common.{◌≡◌, ℕ, ◌+◌, Bool, true, false, inr, List, [], length, Option, Some, None, Result, Ok, Err, refl, sym, subst, ◌∙◌}
 use Rattle.std.specs.Prelude.{◌-◌, insert, slice_set, codes}
+use Rattle.edi_calls.specs.declared.ends.Outside.{Outside}
 use Rattle.edi_calls.specs.Choice.{Choices}
 use Rattle.edi_calls.specs.State.{State}
 use Rattle.edi_edit.specs.Editing.{Editing, changed, is_index, refusal}
@@ -26,7 +27,7 @@ change_comes : (why : Option EditEnd) (n : ℕ) (title : List ℕ) (before after
 change_comes (Some why) n title before after t = (edits_on title before (says (edit_refusal n why) t), refl, says_on (edit_refusal n why) t)
 change_comes None n title before after t = (edits_on title before (says_no_memory t), inr refl, says_on (codes "no memory") t)
 
-module _ {C : Type 0} (at : C → State → ℕ → Type 0) (stands : C → State → Type 0) where
+module _ {C : Type 0} (at : C → State → ℕ → Type 0) (stands : C → Outside → State → Type 0) where
   breaks_taking : (taken : Taken) (P : List ℕ → Shell → AfterLine → Type 0) (c : C) → ((bytes : List ℕ) (t : Shell) → total.Comes (P bytes) t)
       → StandsIn stands (shell_of taken) c → EditingBreaks at stands (BehindTaken taken P) c
   breaks_taking taken P c on there =

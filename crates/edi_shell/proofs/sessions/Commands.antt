@@ -19,7 +19,7 @@ use Rattle.edi_shell.proofs.sessions.Kept.{IsAlike, alike_done}
 use Rattle.edi_shell.proofs.sessions.Onward.{breaks_by}
 
 module _ (bound : ℕ) (choices : Choices) {C : Type 0} (ready : C → Type 0) (failed : C → Option Outside) (at : C → State → ℕ → Type 0)
-    (stands : C → State → Type 0) where
+    (stands : C → Outside → State → Type 0) where
   -- the object was led to the shell that the row has
   leads_comes : (Row : AfterLine → Type 0) (result : Result (Unit {0}) SessionEnd) (s t : Shell) (taken drawn : ℕ) (c c' : C) → Row (goes t) → IsAlike s t
       → Awaits at s taken drawn c → IsLeft ready failed result c' → Leads at stands result t c'

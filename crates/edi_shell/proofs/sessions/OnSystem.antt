@@ -39,16 +39,16 @@ failed_so ready failed end.TerminalFault c none h = h
 failed_so ready failed end.PrinterFault c none h = h
 
 -- how a session ends, told otherwise
-module _ (bound : ℕ) (choices : Choices) {C E : Type 0} (at : C → State → ℕ → Type 0) (stands : C → State → Type 0) (at' : E → State → ℕ → Type 0)
-    (stands' : E → State → Type 0) (c : C) (e : E) (at_so : (state : State) (n : ℕ) → at c state n → at' e state n)
-    (stands_so : (state : State) → stands c state → stands' e state) where
+module _ (bound : ℕ) (choices : Choices) {C E : Type 0} (at : C → State → ℕ → Type 0) (stands : C → Outside → State → Type 0) (at' : E → State → ℕ → Type 0)
+    (stands' : E → Outside → State → Type 0) (c : C) (e : E) (at_so : (state : State) (n : ℕ) → at c state n → at' e state n)
+    (stands_so : (failed : Outside) (state : State) → stands c failed state → stands' e failed state) where
   ended_otherwise : (start : Shell) (how : SessionEnd) (drawn : ℕ) → SessionHasEnded bound choices at stands start how drawn c
       → SessionHasEnded bound choices at' stands' start how drawn e
   ended_otherwise start how drawn h =
       record { after = h.after; session = h.session; drawn_is = h.drawn_is; at_ = at_so h.after.system.now h.after.shown_before h.at_ }
 
   failed_otherwise : (start : Shell) → SessionHasFailed bound choices at stands start c → SessionHasFailed bound choices at' stands' start e
-  failed_otherwise start h = record { moment = h.moment; comes = h.comes; is = stands_so h.moment h.is }
+  failed_otherwise start h = record { failed = h.failed; moment = h.moment; comes = h.comes; is = stands_so h.failed h.moment h.is }
 
   pub ends_otherwise : (start : Shell) (how : SessionEnd) (drawn : ℕ) → SessionEnds bound choices at stands start how drawn c
       → SessionEnds bound choices at' stands' start how drawn e

@@ -1,6 +1,7 @@
 -- What lines come to, told from other lines before them.
 use Rattle.std.proofs.Common.{◌≡◌, ℕ, zero, suc, refl, subst, ◌∙◌}
 use Rattle.std.specs.Prelude.{Result, Ok, Err}
+use Rattle.edi_calls.specs.declared.ends.Outside.{Outside}
 use Rattle.edi_calls.specs.Choice.{Choices}
 use Rattle.edi_calls.specs.State.{State}
 use Rattle.edi_session.specs.declared.end.SessionEnd.{SessionEnd}
@@ -24,7 +25,7 @@ module _ (bound : ℕ) (choices : Choices) where
   one_more zero s last after is g = (after, subst (λ x. Goes bound choices x (goes after)) is g, refl)
   one_more (suc n) s last after is g = (is.0, is.1, one_more n is.0 last after is.2 g)
 
-  module _ {C : Type 0} (at : C → State → ℕ → Type 0) (stands : C → State → Type 0) where
+  module _ {C : Type 0} (at : C → State → ℕ → Type 0) (stands : C → Outside → State → Type 0) where
     pub breaks_by : (Row : AfterLine → Type 0) (e : SessionEnd) (s : Shell) (taken drawn : ℕ) (c : C) → IsFault e
         → LinesBreakOff bound choices at stands Row c → LinesCome bound choices at stands Row (Err e) s taken drawn c
     breaks_by Row e s taken drawn c fault h =

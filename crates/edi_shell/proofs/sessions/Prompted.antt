@@ -45,9 +45,9 @@ module _ (bound : ℕ) (choices : Choices) where
   prompt_later s = take_line_on true (state_in (prompted bound choices s)).input [] (prompted bound choices s)
 
   pub fresh_later : (s : Shell) → Later (on_fresh_line s) (shell_of (next_line true (prompted bound choices s)))
-  fresh_later s m h = prompt_later s m (shown_on (codes "> ") (on_fresh_line s) m h)
+  fresh_later s o m h = prompt_later s o m (shown_on (codes "> ") (on_fresh_line s) o m h)
 
-  module _ {C : Type 0} (ready : C → Type 0) (failed : C → Option Outside) (at : C → State → ℕ → Type 0) (stands : C → State → Type 0) where
+  module _ {C : Type 0} (ready : C → Type 0) (failed : C → Option Outside) (at : C → State → ℕ → Type 0) (stands : C → Outside → State → Type 0) where
     row_breaks : (s : Shell) (c : C) → s.mode ≡ commanding → StandsIn stands (shell_of (next_line true (prompted bound choices s))) c
         → LinesBreakOff bound choices at stands (Goes bound choices s) c
     row_breaks s c mode st =

@@ -2,6 +2,7 @@
 use Rattle.std.proofs.Common.{◌≡◌, ◌<◌, ◌≤◌, ◌+◌, ◌-◌, ◌*◌, ℕ, zero, suc, true, false, refl, arith, rules}
 use Rattle.std.specs.Prelude.{Result, Ok, Err, IfOk}
 use Rattle.std.proofs.Math.Nat.{mul-le-mul_right}
+use Rattle.edi_calls.specs.declared.ends.Outside.{Outside}
 use Rattle.edi_calls.specs.Choice.{Choices}
 use Rattle.edi_calls.specs.State.{State}
 use Rattle.edi_session.specs.declared.end.SessionEnd.{SessionEnd}
@@ -48,7 +49,7 @@ pub if_ok : {A B : Type 0} (r : Result A B) (P : Type 0) → P → IfOk r (λ x.
 if_ok (Ok x) P p = p
 if_ok (Err e) P p = tt
 
-module _ (bound : ℕ) (choices : Choices) {C : Type 0} (at : C → State → ℕ → Type 0) (stands : C → State → Type 0) where
+module _ (bound : ℕ) (choices : Choices) {C : Type 0} (at : C → State → ℕ → Type 0) (stands : C → Outside → State → Type 0) where
   -- So far a session has come, which awaits a command line.
   pub record HasCome (start : Shell) (taken drawn : ℕ) (c : C) : Type 0 where
     pub now : Shell
@@ -85,6 +86,7 @@ module _ (bound : ℕ) (choices : Choices) {C : Type 0} (at : C → State → �
       let last = comes_of bound choices h.lines_ u.now h.next h.comes in
       let all = comes_then bound choices u.lines_ start u.now h.lines_ last.0 u.comes last.1 in
       record {
+        failed = h.in_.failed;
         moment = h.in_.moment;
         comes = record { lines_ = all.0; last = last.0; comes = all.1; next = h.next; goes_ = last.2; there = h.in_.there };
         is = h.in_.is;
@@ -137,6 +139,7 @@ module _ (bound : ℕ) (choices : Choices) {C : Type 0} (at : C → State → �
   unclosed start e drawn c c' broke h =
       let there = broke h.last h.at_ in
       record {
+        failed = there.failed;
         moment = there.moment;
         comes = record { lines_ = h.lines_; last = h.before; comes = h.comes; next = closes e h.last; goes_ = h.goes_; there = there.there };
         is = there.is;

@@ -1,5 +1,6 @@
 -- Words of contracts. A file that a command asks for.
 use Rattle.std.specs.Prelude.{◌≡◌, ◌⊎◌, ℕ, List, [], ◌++◌, take, Option, Some, None, Result, Ok, Err, codes}
+use Rattle.edi_calls.specs.declared.ends.Outside.{Outside}
 use Rattle.edi_calls.specs.declared.kinds.FileKind.{FileKind}
 use Rattle.edi_calls.specs.declared.kinds.FileKind.TheVariants as file_kind
 use Rattle.edi_calls.specs.State.{File, State}
@@ -48,7 +49,7 @@ pub record IsOpened (wanted : Option FileKind) (file : Option File) (opened : Fi
   pub is : file ≡ Some opened
   pub right : wrong wanted opened.kind ≡ None
 
-module _ {C : Type 0} (at : C → State → ℕ → Type 0) (stands : C → State → Type 0) where
+module _ {C : Type 0} (at : C → State → ℕ → Type 0) (stands : C → Outside → State → Type 0) where
   -- the refusal was shown, or an object failed in it
   pub record WasRefused (wanted : Option FileKind) (file : Option File) (f : List ℕ) (s : Shell) (c : C) : Type 0 where
     pub after : Shell

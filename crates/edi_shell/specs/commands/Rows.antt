@@ -1,5 +1,6 @@
 -- Words of contracts. What a line of the table of commands comes to, and where the object stands then.
 use Rattle.std.specs.Prelude.{◌≡◌, ℕ, List, Result, Ok, Err}
+use Rattle.edi_calls.specs.declared.ends.Outside.{Outside}
 use Rattle.edi_calls.specs.State.{State}
 use Rattle.edi_session.specs.declared.end.SessionEnd.{SessionEnd}
 use Rattle.edi_session.specs.declared.end.SessionEnd.TheVariants as end
@@ -17,7 +18,7 @@ pub record IsLike (s t : Shell) : Type 0 where
   pub mode : t.mode ≡ s.mode
   pub shown_before : t.shown_before ≡ s.shown_before
 
-module _ {C : Type 0} (at : C → State → ℕ → Type 0) (stands : C → State → Type 0) where
+module _ {C : Type 0} (at : C → State → ℕ → Type 0) (stands : C → Outside → State → Type 0) where
   -- the session goes on from a shell to which the line may lead, and so many choices have been drawn
   pub record LineGoesOn (Row : Shell → AfterLine → Type 0) (s : Shell) (drawn : ℕ) (c : C) : Type 0 where
     pub after : Shell

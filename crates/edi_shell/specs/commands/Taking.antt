@@ -39,7 +39,7 @@ module _ {C : Type 0} (ready : C → Type 0) (failed : C → Option Outside) whe
   IsLeftSo (Ok x) c = ready c
   IsLeftSo (Err e) c = Stays e c
 
-module _ {C : Type 0} (at : C → State → ℕ → Type 0) (stands : C → State → Type 0) where
+module _ {C : Type 0} (at : C → State → ℕ → Type 0) (stands : C → Outside → State → Type 0) where
   -- no byte is taken: the limit was reached, or an object has failed
   abbrev pub GivesNone : SessionEnd → Shell → C → Type 0
   GivesNone end.Limit s c = (nat_le limit s.taken ≡ true) × At at c s

@@ -1,5 +1,6 @@
 -- Words of contracts. Lines of a session that follow one another, and where the object stands behind them.
 use Rattle.std.specs.Prelude.{◌≡◌, ⊤, ℕ, zero, suc, Result, Ok, Err}
+use Rattle.edi_calls.specs.declared.ends.Outside.{Outside}
 use Rattle.edi_calls.specs.Choice.{Choices}
 use Rattle.edi_calls.specs.State.{State}
 use Rattle.edi_session.specs.declared.end.SessionEnd.{SessionEnd}
@@ -18,7 +19,7 @@ module _ (bound : ℕ) (choices : Choices) where
   Chain Row zero next = Row next
   Chain Row (suc n) next = (between : Shell) × Row (goes between) × IsEditing between.mode × Chain (Goes bound choices between) n next
 
-module _ (bound : ℕ) (choices : Choices) {C : Type 0} (at : C → State → ℕ → Type 0) (stands : C → State → Type 0) where
+module _ (bound : ℕ) (choices : Choices) {C : Type 0} (at : C → State → ℕ → Type 0) (stands : C → Outside → State → Type 0) where
   -- the session goes on behind them, at a command line; so many bytes have been taken, and so many choices drawn
   pub record LinesReturn (Row : AfterLine → Type 0) (s : Shell) (taken drawn : ℕ) (c : C) : Type 0 where
     pub after : Shell

@@ -1,5 +1,6 @@
 -- Helper. Where an object stands behind a line of an editing, told by the rows of the definition.
 use Rattle.std.specs.Prelude.{◌≡◌, ℕ, Bool, true, false, List, take, Option, Some, None, Result, Ok, Err}
+use Rattle.edi_calls.specs.declared.ends.Outside.{Outside}
 use Rattle.edi_calls.specs.State.{File, State}
 use Rattle.edi_edit.specs.Editing.{Editing}
 use Rattle.edi_edit.specs.Lines.{lines_of}
@@ -23,7 +24,7 @@ pub record IsBehindLine (s : Shell) (taken : ℕ) (after : Shell) : Type 0 where
   pub drawn_is : after.drawn ≡ s.drawn
   pub before_is : after.shown_before ≡ s.shown_before
 
-module _ {C : Type 0} (at : C → State → ℕ → Type 0) (stands : C → State → Type 0) where
+module _ {C : Type 0} (at : C → State → ℕ → Type 0) (stands : C → Outside → State → Type 0) where
   -- an object failed on the way to what the row has
   pub record EditingBreaks (Row : AfterLine → Type 0) (c : C) : Type 0 where
     pub next : AfterLine

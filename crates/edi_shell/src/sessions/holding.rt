@@ -23,7 +23,7 @@ pub fn hold<C: ShellCalls>(
 ) -> SessionEnd
     requires ready { C.ready calls.old }
     requires room { most_bytes ≤ length room.old }
-    // The session is one of the definition, or stands at one moment of it.
+    // The session is one of the definition, or stands at one moment of it, at which the object that has failed may fail.
     ensures exact { choices.old.drawn + LIMIT * bound < 2 ^ 64 → (start : Shell) → Awaits C.at start 0 choices.old.drawn calls.old → C.tells calls.new →
         SessionEnds bound choices.old.source C.at C.stands start result choices.new.drawn calls.new }
     // After the first three ends nothing has failed, after another this object has.

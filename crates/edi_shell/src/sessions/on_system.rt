@@ -28,8 +28,9 @@ pub fn session<D: Drive, S: Source, T: Sink, P: Sink>(
 ) -> SessionEnd
     requires ready { IsReady D.contents D.count system.old }
     requires room { most_bytes ≤ length room.old }
-    // Where the objects tell what they hold, they hold afterwards what a session of the definition leaves, or what a state has
-    // through which it comes. So many bytes had been shown before the session.
+    // Where the objects tell what they hold, they hold afterwards what a session of the definition leaves; or what a state has
+    // through which it comes and at which the object that has failed may fail: the terminal only where the session shows a byte, the
+    // printer only where it prints one. So many bytes had been shown before the session.
     ensures exact { choices.old.drawn + LIMIT * bound < 2 ^ 64 → (shown_before : ℕ) → IsDueSince T.taken system.old shown_before
         → WhereTold (state_of D.contents S.left T.taken P.taken system.old) (state_of D.contents S.left T.taken P.taken system.new)
         (λ before now. SessionLeaves bound choices.old.source (session_on before choices.old.drawn shown_before) result choices.new.drawn now) }

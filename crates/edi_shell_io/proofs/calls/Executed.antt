@@ -1,29 +1,33 @@
 -- An execution on a system, told by the shells of the definition.
-use Rattle.std.proofs.Common.{◌≡◌, ℕ, true, false, List, [], ◌∷◌, ◌++◌, Option, Some, None, refl, sym, ap, subst, ◌∙◌}
-use Rattle.std.specs.Prelude.{◌↔◌, IsSome, Contains}
-use Rattle.std.proofs.lemmas.List.Elements.{Contains-append_left, Contains-append_right}
+use Rattle.std.proofs.Common.{◌≡◌, ℕ, true, false, List, [], ◌∷◌, ◌++◌, Option, Some, None, refl, sym, ap, subst, ◌∙◌, inl, inr}
+use Rattle.std.specs.Prelude.{◌↔◌, IsSome}
 use Rattle.edi_told.specs.Told.{WhereTold}
 use Rattle.edi_calls.specs.Laws.{IsSameOutside}
 use Rattle.edi_calls.specs.Outcome as outcome
 use Rattle.edi_calls.specs.State.{State, fresh, moments_of}
 use Rattle.edi_calls.specs.declared.ends.Outside.{Outside}
-use Rattle.edi_execute.specs.Execution.{is_fault_ending, IsAtMoment}
+use Rattle.edi_calls.specs.Asked.{IsFollowed}
+use Rattle.edi_execute.specs.Execution.{is_fault_ending, IsAtCall}
+use Rattle.edi_kernel.specs.Passed.{past_at, IsFailedCall}
 use Rattle.edi_kernel.specs.Runs as kernel
 use Rattle.edi_kernel.specs.Runs.{RunsAs}
 use Rattle.edi_kernel.specs.declared.ends.Ending.{Ending}
 use Rattle.edi_kernel.specs.declared.ends.Ending.TheVariants as ending
 use Rattle.edi_system.specs.AsCalls.{KeepsDue}
+use Rattle.edi_system.specs.State.{failed_in}
 use Rattle.edi_system.specs.declared.system.System.{System}
-use Rattle.edi_target.proofs.Histories.{every_run_ends_through, comes_through_its_past}
+use Rattle.edi_target.proofs.Histories.{every_run_ends_through}
 use Rattle.edi_target.specs.Check.{CodeParts}
 use Rattle.edi_target.specs.Fetch.{fetch}
 use Rattle.edi_target.specs.Mach.{Machine}
-use Rattle.edi_target.specs.Moments.{ComesThrough, EndsThrough, history_from_start}
+use Rattle.edi_target.specs.Moments.{EndsThrough, history_from_start}
 use Rattle.edi_trace.specs.Drawn.{Drawn}
-use Rattle.edi_session.specs.Course.{states_of}
+use Rattle.edi_session.specs.Course.{IsFollowedBy, states_of}
+use Rattle.edi_session.proofs.Faults.{followed_before, followed_on}
 use Rattle.edi_session.specs.Session.{behind}
 use Rattle.edi_session.specs.Shell.{Shell, state_in}
 use Rattle.edi_shell_io.specs.calls.Standing.{At, RunBreaks, RunsTo}
+use Rattle.edi_shell_io.proofs.calls.Failing.{at_call, followed_in_whole, in_moments}
 use Rattle.edi_shell_io.proofs.calls.Told.{at, pair, stands, stands_at, stands_in, told, due}
 
 -- where no object has failed, the ending is none of a fault
@@ -31,12 +35,6 @@ pub no_fault : (failed : Option Outside) (e : Ending) → IsSome failed ↔ (e �
 no_fault failed ending.Fault same none = absurd (let some : IsSome failed = same.1 refl in let wrong : IsSome {T = Outside} None = subst IsSome none some in
     let so : false ≡ true = wrong in cc)
 no_fault failed _ same none = refl
-
-some_is : (failed : Option Outside) (o : Outside) → failed ≡ Some o → IsSome failed
-some_is failed o e = subst IsSome (sym e) refl
-
-pub a_fault : (failed : Option Outside) (o : Outside) (e : Ending) → IsSome failed ↔ (e ≡ ending.Fault) → failed ≡ Some o → e ≡ ending.Fault
-a_fault failed o e same is = same.0 (some_is failed o is)
 
 as_run : (code : CodeParts) (system : State) (bound : ℕ) (old : Drawn) (e : Ending) (words : List ℕ) (used : ℕ) (now : State) (new : Drawn) → is_fault_ending e ≡ false
     → kernel.RunsTo code system bound old e words used now new → RunsAs code system bound old e words used now new
@@ -80,30 +78,43 @@ module _ {D S T P : Type 0} (contents : D → Option (List (List ℕ))) (left : 
             (ap fresh (sym r.system_is)) (due contents left shown printed old new s at_old tells keeps) refl;
       }
 
-  comes_moved : (x moment : State) → fresh x ≡ fresh (state_in s)
-      → ComesThrough (fetch code.words) code.entry code.calls (fresh x) bound before.source before.drawn moment
-      → ComesThrough (fetch code.words) code.entry code.calls (fresh (state_in s)) bound before.source s.drawn moment
-  comes_moved x moment alike comes =
-      subst (λ d. ComesThrough (fetch code.words) code.entry code.calls (fresh (state_in s)) bound before.source d moment) (sym so_many)
-      (subst (λ z. ComesThrough (fetch code.words) code.entry code.calls z bound before.source before.drawn moment) alike comes)
+  call_moved : (x now : State) (outside : Outside) (n : ℕ) → fresh x ≡ fresh (state_in s)
+      → IsFailedCall outside (fresh x) (past_at code (fresh x) bound before.source before.drawn n) now
+      → IsFailedCall outside (fresh (state_in s)) (past_at code (fresh (state_in s)) bound before.source s.drawn n) now
+  call_moved x now outside n alike h =
+      subst (λ d. IsFailedCall outside (fresh (state_in s)) (past_at code (fresh (state_in s)) bound before.source d n) now) (sym so_many)
+      (subst (λ z. IsFailedCall outside z (past_at code z bound before.source before.drawn n) now) alike h)
 
-  pub run_breaks : WhereTold (told contents left shown printed old) (told contents left shown printed new) (λ x y. IsAtMoment code (fresh x) bound before y)
+  -- the two states of a call follow one another in the course of the whole run
+  in_course : (past : List State) (after : State) (drawn : ℕ) (one next : State) → IsFollowed (fresh (state_in s)) past one next
+      → IsFollowedBy (states_of (behind after past drawn s).system) one next
+  in_course past after drawn one next h =
+      followed_on (after ∷ []) (moments_of (fresh (state_in s)) past ++ states_of s.system) one next
+      (followed_before (moments_of (fresh (state_in s)) past) (states_of s.system) one next (in_moments (fresh (state_in s)) past one next h))
+
+  -- This object has failed in a call of the run.
+  pub run_breaks : (outside : Outside) → failed_in new ≡ Some outside
+      → WhereTold (told contents left shown printed old) (told contents left shown printed new) (λ x y. IsAtCall code (fresh x) bound before outside y)
       → RunBreaks (at contents left shown printed) (stands contents left shown printed) code bound before.source s new
-  run_breaks so =
-      let p = pair contents left shown printed old new s at_old tells keeps (λ x y. IsAtMoment code (fresh x) bound before y) so in
+  run_breaks outside blamed so =
+      let p = pair contents left shown printed old new s at_old tells keeps (λ x y. IsAtCall code (fresh x) bound before outside y) so in
       let whole = every_run_ends_through code.words code.entry code.calls (fresh (state_in s)) bound before.source s.drawn in
       let past : List State = whole.3 in
-      let there : Contains (moments_of (fresh (state_in s)) past) p.so.moment =
-      (comes_through_its_past (fetch code.words) code.entry code.calls (fresh (state_in s)) bound before.source s.drawn whole.0 whole.1 whole.2 past
-      p.so.moment whole.4).0
-      (comes_moved p.before p.so.moment p.alike p.so.comes) in
+      let failing = call_moved p.before p.after outside p.so.0 p.alike p.so.1 in
       let after_all : Shell = behind whole.1.system past whole.2 s in
+      let follows = in_course past whole.1.system whole.2 failing.before failing.next
+      (followed_in_whole (fetch code.words) code.entry code.calls (fresh (state_in s)) bound before.source s.drawn whole.0 whole.1 whole.2 past
+      failing.before failing.next p.so.0 whole.4 failing.follows) in
+      let both = at_call outside (states_of after_all.system) failing.before failing.next follows failing.asks in
       record {
         ending_ = whole.0;
         drawn = whole.2;
         after = after_all;
         runs = record { machine = whole.1; past = past; ends = whole.4; is = refl };
-        in_ = stands_in contents left shown printed new after_all p.after p.so.moment p.is (same_outside p.so.moment p.after p.so.same)
-            (Contains-append_right (whole.1.system ∷ []) (moments_of (fresh (state_in s)) past ++ states_of s.system) p.so.moment
-            (Contains-append_left (moments_of (fresh (state_in s)) past) (states_of s.system) p.so.moment there));
+        in_ = elim failing.at [
+          | inl same ↦ stands_in contents left shown printed new after_all p.after failing.before outside p.is
+              (same_outside failing.before p.after same) blamed both.0
+          | inr same ↦ stands_in contents left shown printed new after_all p.after failing.next outside p.is
+              (same_outside failing.next p.after same) blamed both.1
+        ];
       }

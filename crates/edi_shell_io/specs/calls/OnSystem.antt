@@ -26,6 +26,12 @@ pub record StandsAt {D S T P : Type 0} (contents : D → Option (List (List ℕ)
   pub has : HasState (state_of contents left shown printed system) state
   pub due : IsDueSince shown system shown_before
 
+-- This object has failed, and the system stands there.
+pub record FailsAt {D S T P : Type 0} (contents : D → Option (List (List ℕ))) (left : S → Option (List ℕ)) (shown : T → Option (List ℕ))
+    (printed : P → Option (List ℕ)) (system : System D S T P) (failed : Outside) (state : State) : Type 0 where
+  pub blamed : failed_in system ≡ Some failed
+  pub has : HasState (state_of contents left shown printed system) state
+
 -- ---- what every call keeps
 
 -- What calls in a row leave of a system whatever they answer. The objects are the same ones, no count of faults falls, and an object

@@ -1,5 +1,5 @@
 -- Words of contracts. Where an object stands on which the shell works, told by the shells of the definition of a session.
-use Rattle.std.specs.Prelude.{◌≡◌, ◌*◌, ℕ, List, [], ◌∷◌, drop, take, Option, Some, None, Result, Ok, Err, Contains, ⊤}
+use Rattle.std.specs.Prelude.{◌≡◌, ◌*◌, ℕ, List, [], ◌∷◌, drop, take, Option, Some, None, Result, Ok, Err, ⊤}
 use Rattle.edi_calls.specs.declared.ends.Outside.{Outside}
 use Rattle.edi_calls.specs.declared.ends.Outside.TheVariants as outside
 use Rattle.edi_calls.specs.Choice.{Choices}
@@ -15,7 +15,7 @@ use Rattle.edi_target.specs.Mach.{Machine}
 use Rattle.edi_target.specs.Moments.{EndsThrough}
 use Rattle.edi_session.specs.declared.end.SessionEnd.{SessionEnd}
 use Rattle.edi_session.specs.declared.end.SessionEnd.TheVariants as end
-use Rattle.edi_session.specs.Course.{has_slots, states_of}
+use Rattle.edi_session.specs.Course.{MayFail, has_slots, states_of}
 use Rattle.edi_session.specs.Shell.{Shell, state_in, took_byte}
 use Rattle.edi_session.specs.Session.{behind}
 
@@ -56,11 +56,12 @@ module _ {C : Type 0} (ready : C → Type 0) (failed : C → Option Outside) whe
 abbrev pub At : {C : Type 0} → (at : C → State → ℕ → Type 0) → C → Shell → Type 0
 At at c s = at c (state_in s) s.shown_before
 
--- it stands at a state through which this shell came
-pub record StandsIn {C : Type 0} (stands : C → State → Type 0) (s : Shell) (c : C) : Type 0 where
+-- An object outside has failed, and it stands at a state through which this shell came and at which that object may fail.
+pub record StandsIn {C : Type 0} (stands : C → Outside → State → Type 0) (s : Shell) (c : C) : Type 0 where
+  pub failed : Outside
   pub moment : State
-  pub there : Contains (states_of s.system) moment
-  pub is : stands c moment
+  pub there : MayFail failed (states_of s.system) moment
+  pub is : stands c failed moment
 
 -- so many bytes of these are those of the file, if there is one
 abbrev pub HasRead : Option ℕ → Option File → (part : List ℕ → List ℕ) → (into : List ℕ) → Type 0
@@ -79,7 +80,7 @@ pub record HasRun (code : CodeParts) (bound : ℕ) (choices : Choices) (ending_ 
   pub ends : EndsThrough (fetch code.words) code.entry code.calls (fresh (state_in s)) bound choices s.drawn ending_ machine drawn past
   pub is : after ≡ behind machine.system past drawn s
 
-module _ {C : Type 0} (at : C → State → ℕ → Type 0) (stands : C → State → Type 0) where
+module _ {C : Type 0} (at : C → State → ℕ → Type 0) (stands : C → Outside → State → Type 0) where
   -- a call leads to this shell, or a fault on the way there
   abbrev pub Leads : {X : Type 0} → Result X SessionEnd → Shell → C → Type 0
   Leads (Ok x) s c = At at c s

@@ -26,7 +26,8 @@ pub type OrEnd<T> = Result<T, SessionEnd>;
 /// An object that the shell works on: files, an input, a terminal and a printer, on which programs run.
 ///
 /// What a call does is told by shells of the definition: where the object stands at one before the call, it stands afterwards at
-/// the one that the definition has. After a fault it stands at a state through which that one came.
+/// the one that the definition has. After a fault it stands at a state through which that one came, at which the object that has
+/// failed may fail: the terminal and the printer only where a byte is shown or printed.
 pub trait ShellCalls {
     /// A call may be made: nothing has failed.
     ghost ready: { Self → Type 0 };
@@ -37,8 +38,8 @@ pub trait ShellCalls {
     /// All objects outside tell what they hold.
     ghost tells: { Self → Type 0 };
 
-    /// What they hold is what this state has.
-    ghost stands: { Self → State → Type 0 };
+    /// This object outside has failed, and what they hold is what this state has.
+    ghost stands: { Self → Outside → State → Type 0 };
 
     /// The same, where so many bytes had been shown before the session; and whether a line is due is told by those behind them.
     ghost at: { Self → State → ℕ → Type 0 };
@@ -53,14 +54,14 @@ pub trait ShellCalls {
         ensures left { IsLeft ready failed result self.new }
         ensures lasts { lasts self.old self.new };
 
-    /// Shows these bytes.
+    /// Shows these bytes. Where there are none the terminal is not asked.
     fn show(&mut self, bytes: &[u8]) -> OrEnd<()>
         requires ready { ready self.old }
         ensures exact { (s : Shell) → At at self.old s → tells self.new → Leads at stands result (shown_by bytes.now s) self.new }
         ensures left { IsLeft ready failed result self.new }
         ensures lasts { lasts self.old self.new };
 
-    /// Prints these bytes.
+    /// Prints these bytes. Where there are none the printer is not asked.
     fn print_out(&mut self, bytes: &[u8]) -> OrEnd<()>
         requires ready { ready self.old }
         ensures exact { (s : Shell) → At at self.old s → tells self.new → Leads at stands result (printed_by bytes.now s) self.new }

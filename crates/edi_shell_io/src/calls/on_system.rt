@@ -79,7 +79,7 @@ impl<'d, 'c, 'i, 't, 'p, 'b, D: Drive, S: Source, T: Sink, P: Sink> ShellCalls
     for System<'d, 'c, 'i, 't, 'p, 'b, D, S, T, P> {
     ghost use Rattle.std.specs.Prelude.{IsSome};
     ghost use Rattle.edi_system.specs.State.{failed_in, state_of, IsReady};
-    ghost use Rattle.edi_shell_io.specs.calls.OnSystem.{HasState, StandsAt, SystemLasts};
+    ghost use Rattle.edi_shell_io.specs.calls.OnSystem.{FailsAt, StandsAt, SystemLasts};
     ghost use Rattle.edi_shell_io.specs.calls.Lasting.{lasts_itself, lasts_then, told_before};
 
     ghost ready = { λ system. IsReady D.contents D.count system };
@@ -88,7 +88,7 @@ impl<'d, 'c, 'i, 't, 'p, 'b, D: Drive, S: Source, T: Sink, P: Sink> ShellCalls
 
     ghost tells = { λ system. IsSome (state_of D.contents S.left T.taken P.taken system) };
 
-    ghost stands = { λ system state. HasState (state_of D.contents S.left T.taken P.taken system) state };
+    ghost stands = { λ system outside state. FailsAt D.contents S.left T.taken P.taken system outside state };
 
     ghost at = { λ system state shown_before. StandsAt D.contents S.left T.taken P.taken system state shown_before };
 
@@ -105,10 +105,16 @@ impl<'d, 'c, 'i, 't, 'p, 'b, D: Drive, S: Source, T: Sink, P: Sink> ShellCalls
     }
 
     fn show(&mut self, bytes: &[u8]) -> OrEnd<()> {
+        if bytes.is_empty() {
+            return Ok(());
+        }
         put_by(System::show(self, bytes), SessionEnd::TerminalFault)
     }
 
     fn print_out(&mut self, bytes: &[u8]) -> OrEnd<()> {
+        if bytes.is_empty() {
+            return Ok(());
+        }
         put_by(System::print_out(self, bytes), SessionEnd::PrinterFault)
     }
 

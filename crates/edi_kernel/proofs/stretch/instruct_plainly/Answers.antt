@@ -1,10 +1,10 @@
 -- One plain instruction of the code is one of the definition.
-use Rattle.std.proofs.Common.{◌≡◌, ◌∙◌, ap, refl, subst, true}
+use Rattle.std.proofs.Common.{◌≡◌, ◌∙◌, ap, refl, subst, sym, true}
 use Rattle.edi_machine.specs.Plain.{is_looped}
 use Rattle.edi_machine.specs.declared.ends.StepEnd.{StepEnd}
 use Rattle.edi_machine.specs.declared.ends.StepEnd.TheVariants as end
 use Rattle.edi_machine.specs.declared.ends.TurnKind.TheVariants as kind
-use Rattle.edi_kernel.proofs.Plain.{failed_same, given_as, on_falls, on_in_phase, one_arrival, one_on, one_round, refused_same}
+use Rattle.edi_kernel.proofs.Plain.{arrival_by, failed_same, given_as, on_falls, on_in_phase, one_arrival, one_on, one_round, refused_same}
 use Rattle.edi_kernel.proofs.stretch.instruct_plainly.Goals as goal
 
 pub returns-in-Some-On-clause-exact : goal.returns-in-Some-On-clause-exact
@@ -28,41 +28,26 @@ returns-in-Some-On-clause-falls c = λ is.
     c.args.progress.now c.in-Some-On.field-0
     end.On c.in-Some-On.field-0-is c.in-Some-On.ensures.exact)
 
-pub returns-in-Some-Turn-Loop-clause-exact : goal.returns-in-Some-Turn-Loop-clause-exact
-returns-in-Some-Turn-Loop-clause-exact c =
-    let n = c.in-Some-Turn-Loop in
-    let turned : n.field-0 ≡ end.Turn kind.Loop = n.field-0-is ∙ ap end.Turn n.field-0-0-is in
+pub returns-then-goes_on-clause-exact : goal.returns-then-goes_on-clause-exact
+returns-then-goes_on-clause-exact c =
+    let n = c.in-Some-Turn in
+    let turned : n.field-0 ≡ end.Turn n.kind = n.field-0-is in
     one_round c.args.words.now c.args.store.now c.step_plainly.new.store c.args.activity.now c.step_plainly.new.activity c.args.progress.now c.requires.phase
-    kind.Loop refl (subst (λ (e : StepEnd). is_looped c.args.progress.now.left e ≡ true) turned n.ensures.looped.looped)
+    n.kind (sym c.goes_on.ensures ∙ c.if-goes_on.true)
+    (subst (λ (e : StepEnd). is_looped c.args.progress.now.left e ≡ true) turned n.ensures.looped.looped)
     (given_as c.args.words.now c.args.store.now c.step_plainly.new.store c.args.activity.now c.step_plainly.new.activity c.args.progress.now
-    n.field-0 (end.Turn kind.Loop) turned n.ensures.exact) c.go_round.new.progress c.go_round.ensures.left c.go_round.ensures.cleared
+    n.field-0 (end.Turn n.kind) turned n.ensures.exact) c.go_round.new.progress c.go_round.ensures.left c.go_round.ensures.cleared
 
-pub returns-in-Some-Turn-Enter-clause-exact : goal.returns-in-Some-Turn-Enter-clause-exact
-returns-in-Some-Turn-Enter-clause-exact c =
-    let n = c.in-Some-Turn-Enter in
-    let turned : n.field-0 ≡ end.Turn kind.Enter = n.field-0-is ∙ ap end.Turn n.field-0-0-is in
-    one_round c.args.words.now c.args.store.now c.step_plainly.new.store c.args.activity.now c.step_plainly.new.activity c.args.progress.now c.requires.phase
-    kind.Enter refl (subst (λ (e : StepEnd). is_looped c.args.progress.now.left e ≡ true) turned n.ensures.looped.looped)
-    (given_as c.args.words.now c.args.store.now c.step_plainly.new.store c.args.activity.now c.step_plainly.new.activity c.args.progress.now
-    n.field-0 (end.Turn kind.Enter) turned n.ensures.exact) c.go_round-in-Some-Turn-Enter.new.progress c.go_round-in-Some-Turn-Enter.ensures.left c.go_round-in-Some-Turn-Enter.ensures.cleared
-
-pub returns-in-Some-Turn-End-clause-exact : goal.returns-in-Some-Turn-End-clause-exact
-returns-in-Some-Turn-End-clause-exact c =
-    let n = c.in-Some-Turn-End in
-    let turned : n.field-0 ≡ end.Turn kind.End = n.field-0-is ∙ ap end.Turn n.field-0-0-is in
-    one_round c.args.words.now c.args.store.now c.step_plainly.new.store c.args.activity.now c.step_plainly.new.activity c.args.progress.now c.requires.phase
-    kind.End refl (subst (λ (e : StepEnd). is_looped c.args.progress.now.left e ≡ true) turned n.ensures.looped.looped)
-    (given_as c.args.words.now c.args.store.now c.step_plainly.new.store c.args.activity.now c.step_plainly.new.activity c.args.progress.now
-    n.field-0 (end.Turn kind.End) turned n.ensures.exact) c.go_round-in-Some-Turn-End.new.progress c.go_round-in-Some-Turn-End.ensures.left c.go_round-in-Some-Turn-End.ensures.cleared
-
-pub returns-in-Some-Turn-Arrive-clause-exact : goal.returns-in-Some-Turn-Arrive-clause-exact
-returns-in-Some-Turn-Arrive-clause-exact c =
-    let arrival : c.in-Some-Turn-Arrive.field-0 ≡ end.Turn kind.Arrive = c.in-Some-Turn-Arrive.field-0-is ∙ ap end.Turn c.in-Some-Turn-Arrive.field-0-0-is in
+pub returns-else-goes_on-clause-exact : goal.returns-else-goes_on-clause-exact
+returns-else-goes_on-clause-exact c =
+    let n = c.in-Some-Turn in
+    let may = subst (λ (e : StepEnd). is_looped c.args.progress.now.left e ≡ true) n.field-0-is n.ensures.looped.looped in
+    let stops = arrival_by c.args.progress.now.left n.kind may (sym c.goes_on.ensures ∙ c.if-goes_on.false) in
+    let arrival : n.field-0 ≡ end.Turn kind.Arrive = n.field-0-is ∙ ap end.Turn stops in
     one_arrival c.args.words.now c.args.store.now c.step_plainly.new.store c.args.activity.now c.step_plainly.new.activity c.args.progress.now c.requires.phase
-    (subst (λ (e : StepEnd). is_looped c.args.progress.now.left e ≡ true) arrival c.in-Some-Turn-Arrive.ensures.looped.looped)
+    (subst (λ (e : StepEnd). is_looped c.args.progress.now.left e ≡ true) arrival n.ensures.looped.looped)
     (given_as c.args.words.now c.args.store.now c.step_plainly.new.store c.args.activity.now c.step_plainly.new.activity c.args.progress.now
-    c.in-Some-Turn-Arrive.field-0 (end.Turn kind.Arrive) arrival c.in-Some-Turn-Arrive.ensures.exact) c.cleared_after-progress.result
-    c.cleared_after-progress.ensures
+    n.field-0 (end.Turn kind.Arrive) arrival n.ensures.exact) c.args.progress.now.cleared
 
 pub returns-in-Some-Fail-clause-exact : goal.returns-in-Some-Fail-clause-exact
 returns-in-Some-Fail-clause-exact c =

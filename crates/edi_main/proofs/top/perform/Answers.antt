@@ -1,4 +1,4 @@
-use Rattle.std.proofs.Common.{◌∙◌, None, Some, ap, false, option_map, refl, rules, sym, true≢false}
+use Rattle.std.proofs.Common.{◌∙◌, Some, ap, false, option_map, refl, rules, sym, true≢false}
 use Rattle.edi_words.specs.Words as words
 use Rattle.edi_words.specs.View.{exploring_of, options_of, view}
 use Rattle.edi_words.specs.declared.commands.Command.{Command}
@@ -424,5 +424,5 @@ returns-in-TimeCode-clause-came g c =
 
 pub returns-in-Boot-clause-came : goal.returns-in-Boot-clause-came
 returns-in-Boot-clause-came g c =
-    came_run (Some (view c.args.command)) c.boot.result.status c.boot.result.due _ _ _ _ _ _ (ap (λ x. command_does uses_devices (Some (view x))) c.in-Boot.is) c.boot.ensures.cause None tt
-    (obeyed_so c.args.command (command.Boot c.in-Boot.options) c.boot.result.status c.boot.result.due _ _ _ c.in-Boot.is c.boot.ensures.came)
+    run_so c.args.command (command.Boot c.in-Boot.options) c.boot.result.status c.boot.result.due _ _ _ _ _ _
+    c.in-Boot.is refl c.boot.ensures.cause c.boot.ensures.came

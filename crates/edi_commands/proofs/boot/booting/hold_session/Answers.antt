@@ -1,30 +1,35 @@
 -- The exits of a session on the objects of a command.
-use Rattle.std.proofs.Common.{rules, ◌≡◌, ◌∙◌, ◌+◌, ◌*◌, ◌<◌, ◌^◌, true, false, option_map, arith, refl, sym, subst, ap}
+use Rattle.std.proofs.Common.{rules, ◌≡◌, ◌∙◌, ◌+◌, ◌*◌, ◌<◌, ◌^◌, true, false, None, option_map, arith, refl, sym, subst, ap}
+use Rattle.edi_execute.specs.Objects.{objects}
 use Rattle.edi_shell.specs.sessions.Ends.{ends_by_fault}
+use Rattle.edi_shell_io.specs.calls.Standing.{failed_by}
 use Rattle.edi_statuses.specs.Counts.{Counts, HasCause, counts_of}
-use Rattle.edi_statuses.specs.Outside.{kernel_of}
+use Rattle.edi_statuses.specs.Outside.{kernel_of, lent}
 use Rattle.edi_commands.proofs.run.Counted.{none_falls, record_cause}
 use Rattle.edi_commands.specs.steps.NotMounted.{mount_status}
 use Rattle.edi_statuses.specs.Sessions.{session_status}
 use Rattle.edi_commands.proofs.run.Mounting.{left_on}
 use Rattle.edi_commands.proofs.run.Past.{never_at, past_so, record_past, session_past}
 use Rattle.edi_commands.proofs.run.Asked.{asked_so, record_asked, unmounted_asked}
-use Rattle.edi_commands.proofs.boot.Exits.{broke, ended_asked, ended_cause, ended_so, unmounted, with_bound}
+use Rattle.edi_commands.proofs.boot.Exits.{blamed_end, broke, ended_asked, ended_cause, ended_so, unmounted, with_bound}
 use Rattle.edi_commands.proofs.boot.booting.hold_session.Goals as goal
 
 pub returns-in-Err-clause-came : goal.returns-in-Err-clause-came
 returns-in-Err-clause-came g c =
-    let n = c.in-Err.ensures.nothing_begun in
-    unmounted c.args.turns c.args.choices.now.source (option_map (λ name. name.now) c.args.record_file) c.stopped.result.status c.stopped.result.due _ _ _
-    c.in-Err.why (c.stopped.ensures.status_is ∙ c.mount_status.ensures.exact) c.stopped.ensures.due
-    (record {
-      files = refl;
-      blocks = c.in-Err.ensures.not_mounted;
-      input = ap g.S.Source.left n.0;
-      shown = ap g.T.Sink.taken n.1;
-      printed = ap g.P.Sink.taken n.2;
-      kernel_same = ap (λ k. kernel_of k.store k.used) n.3;
-    })
+    let n = c.in-Err.ensures.nothing_begun in (
+      None,
+      tt,
+      unmounted c.args.turns c.args.choices.now.source (option_map (λ name. name.now) c.args.record_file) c.stopped.result.status c.stopped.result.due _ _ _
+          c.in-Err.why (c.stopped.ensures.status_is ∙ c.mount_status.ensures.exact) c.stopped.ensures.due
+          (record {
+            files = refl;
+            blocks = c.in-Err.ensures.not_mounted;
+            input = ap g.S.Source.left n.0;
+            shown = ap g.T.Sink.taken n.1;
+            printed = ap g.P.Sink.taken n.2;
+            kernel_same = ap (λ k. kernel_of k.store k.used) n.3;
+          }),
+    )
 
 pub returns-in-Err-clause-later : goal.returns-in-Err-clause-later
 returns-in-Err-clause-later g c =
@@ -35,11 +40,18 @@ pub returns-then-ends_by_fault-clause-came : goal.returns-then-ends_by_fault-cla
 returns-then-ends_by_fault-clause-came g c =
     let l = c.in-Ok.ensures.leaves in
     let few : c.args.choices.now.drawn + 4194304 * c.from.result < 2 ^ 64 = search rules in
-    let failed : ends_by_fault c.in-Ok.exit.end ≡ true = search rules in
-    with_bound c.from.result c.args.turns (search rules) _ _ _ _ _ _ _
-    (broke c.from.result c.args.choices.now c.requires.none_drawn c.in-Ok.exit.due c.in-Ok.exit.end _ _
-    (left_on _ _ _ c.in-Ok.ensures.mounted l.told l.due) _ c.hold_on.new.choices (l.ends few)
-    (option_map (λ name. name.now) c.args.record_file) c.session_status.result c.session_status.ensures.exact failed refl)
+    let failed : ends_by_fault c.in-Ok.exit.end ≡ true = search rules in (
+      failed_by c.in-Ok.exit.end,
+      blamed_end g.D.Drive.faults g.S.Source.faults g.T.Sink.faults g.P.Sink.faults
+          (objects c.args.drive.now c.args.input.now c.args.terminal.now c.args.printer.now)
+          (objects c.hold_on.new.drive c.hold_on.new.input c.hold_on.new.terminal c.hold_on.new.printer) c.session_status.result
+          (failed_by c.in-Ok.exit.end) c.in-Ok.ensures.blame,
+      with_bound c.from.result c.args.turns (search rules) _ _ _ _ _ _ _
+          (broke c.from.result c.args.choices.now c.requires.none_drawn c.in-Ok.exit.due c.in-Ok.exit.end _ _
+          (left_on _ _ _ c.in-Ok.ensures.mounted l.told l.due)
+          (lent c.args.kernel.now.store c.args.kernel.now.used c.hold_on.new.kernel.store c.hold_on.new.kernel.used) c.hold_on.new.choices (l.ends few)
+          (option_map (λ name. name.now) c.args.record_file) c.session_status.result c.session_status.ensures.exact failed refl),
+    )
 
 pub returns-then-ends_by_fault-clause-later : goal.returns-then-ends_by_fault-clause-later
 returns-then-ends_by_fault-clause-later g c =
@@ -50,13 +62,16 @@ pub returns-clause-came : goal.returns-clause-came
 returns-clause-came g c =
     let l = c.in-Ok.ensures.leaves in
     let few : c.args.choices.now.drawn + 4194304 * c.from.result < 2 ^ 64 = search rules in
-    let unfailed : ends_by_fault c.in-Ok.exit.end ≡ false = search rules in
-    rw c.end_with_record.ensures.due
-    (with_bound c.from.result c.args.turns (search rules) _ _ _ _ _ _ _
-    (ended_so c.from.result c.args.choices.now c.requires.none_drawn c.in-Ok.exit.due c.in-Ok.exit.end _ _
-    (left_on _ _ _ c.in-Ok.ensures.mounted l.told l.due) _ c.hold_on.new.choices (l.ends few)
-    unfailed (omega (arith, c.hold_on.ensures.drawn, c.requires.none_drawn)) (option_map (λ name. name.now) c.args.record_file)
-    c.session_status.result c.end_with_record.result.status c.session_status.ensures.exact c.hold_on.ensures.source c.end_with_record.ensures.keeps))
+    let unfailed : ends_by_fault c.in-Ok.exit.end ≡ false = search rules in (
+      None,
+      tt,
+      rw c.end_with_record.ensures.due
+          (with_bound c.from.result c.args.turns (search rules) _ _ _ _ _ _ _
+          (ended_so c.from.result c.args.choices.now c.requires.none_drawn c.in-Ok.exit.due c.in-Ok.exit.end _ _
+          (left_on _ _ _ c.in-Ok.ensures.mounted l.told l.due) _ c.hold_on.new.choices (l.ends few)
+          unfailed (omega (arith, c.hold_on.ensures.drawn, c.requires.none_drawn)) (option_map (λ name. name.now) c.args.record_file)
+          c.session_status.result c.end_with_record.result.status c.session_status.ensures.exact c.hold_on.ensures.source c.end_with_record.ensures.keeps)),
+    )
 
 pub returns-clause-later : goal.returns-clause-later
 returns-clause-later g c =

@@ -11,15 +11,15 @@ use Rattle.edi_explain.proofs.told.explained.syntax_text.Goals as goal
 pub returns : goal.returns
 returns c =
     let marks : List Mark = c.args.symbols.now.marks in
-    let front : c.in_ok-before.before.items ≡ take (index_of c.args.fault) marks =
-    c.in_ok-before.ensures.exact (marks, c.args.symbols.now.last) c.requires.known ∙ ap (λ n. take n marks) c.index_of-index.ensures.exact in
+    let front : c.marks_to.result.now ≡ take (index_of c.args.fault) marks =
+    c.marks_to.ensures.exact ∙ ap (λ l. take c.index_of-index.result l) c.as_slice.ensures.all ∙ ap (λ n. take n marks) c.index_of-index.ensures.exact in
     record {
       exact = record {
         fault = c.args.fault;
         is = c.requires.is_fault;
         may = may_of c.in_ok-expected.expected;
         exact = λ k. subst (λ l. May l k (slice_index_or c.in_ok-expected.expected.kinds k false)) front
-            (exact_everywhere c.in_ok-before.before.items c.in_ok-expected.expected.kinds (search rules) c.in_ok-expected.ensures.exact k);
+            (exact_everywhere c.marks_to.result.now c.in_ok-expected.expected.kinds (search rules) c.in_ok-expected.ensures.exact k);
         shown_is =
             c.in_ok-put_advice.ensures ∙ (λ i. c.in_ok-put_wrong.ensures i ++ advice_of (c.kind_of_fault.ensures.exact i))
             ∙ (λ i. (c.new-out.ensures.items i

@@ -16,7 +16,7 @@ returns-in_err-n-clause-exact g c = λ s a t.
     rw p.1
     (text_reading_broke g.C.ShellCalls.at g.C.ShellCalls.stands c.args.f.now c.read_file.new.room (λ bytes s. on_fresh_line (shown_by bytes s))
     (file_in s c.args.f.now) s c.read_file.new.calls
-    c.in_err-n.field-0.0 (λ bytes m h. fresh_on (shown_by bytes s) m (shown_on bytes s m h)) (c.in_err-n.ensures.exact s a t))
+    c.in_err-n.field-0.0 (λ bytes o m h. fresh_on (shown_by bytes s) o m (shown_on bytes s o m h)) (c.in_err-n.ensures.exact s a t))
 
 pub returns-in_err-show-clause-exact : goal.returns-in_err-show-clause-exact
 returns-in_err-show-clause-exact g c = λ s a t.

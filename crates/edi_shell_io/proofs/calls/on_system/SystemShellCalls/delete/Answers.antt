@@ -10,4 +10,4 @@ returns-clause-exact g c = λ s at tells.
     answers g.D.Drive.contents g.S.Source.left g.T.Sink.taken g.P.Sink.taken c.args.self.now c.delete.new.self s at tells c.delete.ensures.due
     (λ (x : State). no_deletion (find_file x.slots c.args.title.now)) (λ (x : State). slots_changed deleted c.args.title.now x.slots) fresh (λ x. refl)
     (λ x. refl) (λ x slots. refl)
-    c.delete.result c.delete.ensures.exact
+    c.delete.result c.delete.ensures.failed c.delete.ensures.exact

@@ -10,4 +10,4 @@ returns-clause-exact g c = λ s at tells.
     answers g.D.Drive.contents g.S.Source.left g.T.Sink.taken g.P.Sink.taken c.args.self.now c.rename.new.self s at tells c.rename.ensures.due
     (λ (x : State). no_renaming (find_file x.slots c.args.old.now) (find_file x.slots c.args.new.now))
     (λ (x : State). slots_changed (file_renamed c.args.new.now) c.args.old.now x.slots) fresh (λ x. refl) (λ x. refl) (λ x slots. refl)
-    c.rename.result c.rename.ensures.exact
+    c.rename.result c.rename.ensures.failed c.rename.ensures.exact
