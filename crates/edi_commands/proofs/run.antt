@@ -7,6 +7,7 @@ pub mod Asked
 pub mod Demonstrated
 pub mod Endings
 pub mod Exits
+pub mod Kept
 pub mod Left
 pub mod LogKept
 pub mod Meaning
@@ -15,9 +16,10 @@ pub mod OfFiles
 pub mod Past
 pub mod PointsRead
 pub mod Shown
+pub mod Stopping
 pub mod TimedDemo
 pub mod TimedEnds
-pub mod TimedExits
+pub mod TimeMeans
 pub mod TimedKept
 pub mod Told
 pub mod WalkEnds

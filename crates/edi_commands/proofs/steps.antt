@@ -1,5 +1,6 @@
 pub mod LoadedFiles
 pub mod OnFilesLemmas
+pub mod Opens
 pub mod Shown
 pub mod Units
 pub mod Unmounted

@@ -3,6 +3,7 @@ pub mod Blaming
 pub mod CodeRan
 pub mod Demonstrated
 pub mod FileSteps
+pub mod OnKept
 pub mod OnMounted
 pub mod OnTimed
 pub mod OnWalked

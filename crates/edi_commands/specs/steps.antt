@@ -3,3 +3,4 @@ pub mod Loaded
 pub mod NotMounted
 pub mod OnFiles
 pub mod OnTerminal
+pub mod Opening

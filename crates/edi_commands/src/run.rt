@@ -5,13 +5,13 @@ mod code;
 mod demonstration;
 mod files;
 mod logging;
+mod texts;
 mod timelines;
 mod timing;
 mod walking;
 mod watching;
 
 pub use demonstration::demonstrate;
-pub use files::{Form, run_file};
-pub use timing::time_file;
+pub use files::{Form, run_file, time_file};
 pub use walking::walk_file;
 pub use watching::watch_file;

@@ -6,7 +6,6 @@ use Rattle.edi_statuses.specs.declared.status.Status.TheVariants as status
 use Rattle.edi_statuses.specs.Outside.{Outside}
 use Rattle.edi_statuses.specs.Steps.{Fetches, goes}
 use Rattle.edi_commands.specs.steps.Loaded.{LoadStep}
-use Rattle.edi_commands.specs.steps.OnFiles.{FetchStep}
 use Rattle.edi_commands.proofs.steps.LoadedFiles.{loads_all, stops_all}
 use Rattle.edi_commands.specs.code.CodeCommands.{ListsBytes, ListsFile}
 
@@ -21,10 +20,3 @@ pub file_listed : {V : Type 0} (items : V → List ℕ) (o : Outside) (name byte
 file_listed items o name bytes all fetched front (Ok v) h = (h.0, inr (all, fetched, loads_all all bytes h.0 front h.1), h.2)
 file_listed items o name bytes all fetched front (Err s) (inl none) = inl none
 file_listed items o name bytes all fetched front (Err s) (inr stopped) = inr (inr (inr (all, fetched, stops_all all bytes s front stopped)))
-
--- nothing was fetched
-pub not_fetched : {V W : Type 0} (items : V → List ℕ) (others : W → List ℕ) (o : Outside) (name : List ℕ) (limit : ℕ) (s : Status)
-    → FetchStep items o name limit (Err s) → ListsFile others o name (Err s)
-not_fetched items others o name limit status.NoMemory h = inl refl
-not_fetched items others o name limit status.FileFault h = inr (inl (refl, h))
-not_fetched items others o name limit s h = inr (inr (inl h))

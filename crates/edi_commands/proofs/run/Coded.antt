@@ -13,17 +13,17 @@ use Rattle.edi_statuses.specs.Executions.{text}
 use Rattle.edi_statuses.specs.Lines.{feed, is_due}
 use Rattle.edi_statuses.specs.Timelines.{timable}
 use Rattle.edi_commands.specs.run.Demonstrated.{is_ok}
-use Rattle.edi_commands.specs.run.OnTimed.{ReadsTimed}
+use Rattle.edi_commands.specs.run.FileSteps.{TextStep}
 
 pub demo_coded : (n : ℕ) (own bytes : List ℕ) (parts : CodeParts) (symbols : ℕ) → own ≡ demo_text n → symbols ≡ count_in (symbols_of own)
-    → bytes ≡ demo_text n → ReadsTimed bytes (Ok parts)
+    → bytes ≡ demo_text n → TextStep bytes (Ok parts)
     → IsOf (timable (text (demo_text n))) parts × (symbols ≡ count_in (symbols_of (demo_text n)))
 demo_coded n own bytes parts symbols is counted are reads =
-    let h = subst (λ t. ReadsTimed t (Ok parts)) are reads in
+    let h = subst (λ t. TextStep t (Ok parts)) are reads in
     ((h.0, h.1.front.unit_is, h.1.front.can, h.1.code_is), counted ∙ ap (λ t. count_in (symbols_of t)) is)
 
 -- its text has no fault, so that memory was wanting where it has no code
-pub demo_wants : (n : ℕ) → 1 ≤ n → n ≤ 1000 → (bytes : List ℕ) (s : Status) → bytes ≡ demo_text n → ReadsTimed bytes (Err s) → s ≡ status.NoMemory
+pub demo_wants : (n : ℕ) → 1 ≤ n → n ≤ 1000 → (bytes : List ℕ) (s : Status) → bytes ≡ demo_text n → TextStep bytes (Err s) → s ≡ status.NoMemory
 demo_wants n some many bytes s are (inl none) = none
 demo_wants n some many bytes s are (inr (kind, line, is, refused)) =
     absurd ((demonstrations_are_accepted n some many).no_fault refused.0 kind line (subst (λ t. IsFault t refused.0 kind line) are refused.1))

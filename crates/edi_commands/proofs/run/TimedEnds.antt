@@ -1,9 +1,8 @@
 -- The exits of a run with a timeline: the drive is not mounted, an object has failed, the files are kept, or they are not.
-use Rattle.std.proofs.Common.{◌≡◌, ◌∙◌, ◌≤◌, ◌⊎◌, ℕ, Bool, false, List, [], Option, Some, None, IsSome, refl, sym, subst, inl, inr}
+use Rattle.std.proofs.Common.{◌≡◌, ◌≤◌, ◌++◌, ℕ, Bool, false, List, [], Option, Some, None, refl, sym, subst, inl, inr}
 use Rattle.edi_told.specs.Faults.{CountRose}
 use Rattle.edi_told.specs.Told.{WhereTold}
 use Rattle.edi_calls.specs.declared.ends.Outside as failing
-use Rattle.edi_calls.specs.declared.ends.Outside.TheVariants as object
 use Rattle.edi_calls.specs.Choice.{Choices}
 use Rattle.edi_calls.specs.Outcome as outcome
 use Rattle.edi_execute.specs.Objects as execute
@@ -11,7 +10,6 @@ use Rattle.edi_execute.specs.Objects.{HasRun, StandsAtCall}
 use Rattle.edi_host.specs.declared.files.KeepEnd.{KeepEnd}
 use Rattle.edi_host.specs.declared.files.KeepEnd.TheVariants as keep
 use Rattle.edi_image.specs.declared.faults.MountFault.{MountFault}
-use Rattle.edi_image.specs.declared.faults.MountFault.TheVariants as mount
 use Rattle.edi_kernel.specs.declared.ends.Ending.{Ending}
 use Rattle.edi_target.specs.Check.{CodeParts}
 use Rattle.edi_trace.specs.Drawn.{Drawn}
@@ -23,19 +21,21 @@ use Rattle.edi_timeline.specs.Timelines.{Told}
 use Rattle.edi_statuses.specs.declared.status.Status.{Status}
 use Rattle.edi_statuses.specs.declared.status.Status.TheVariants as status
 use Rattle.edi_statuses.specs.Counts.{Counts, HasCause}
-use Rattle.edi_statuses.specs.Outside.{Kept, Outside, seen, system_on, SameFiles, Lent}
+use Rattle.edi_statuses.specs.Outside.{Kept, Outside, seen, system_on, Lent}
 use Rattle.edi_statuses.specs.Executions.{Runnable, text, code, HasCode, BrokeRun, object_status, status_of}
 use Rattle.edi_statuses.specs.Commands.{IsNothing}
 use Rattle.edi_statuses.specs.Explored.{KeepsFirst, LosesNext}
-use Rattle.edi_statuses.specs.Timelines.{HasTimed, IsTimeline, KeepsAll, TimedInPart, TimedLost, Times, timable, timed_files}
+use Rattle.edi_statuses.specs.Timelines.{HasTimed, IsTimeline, KeepsAll, TimedInPart, TimedLost, Times, timable, timed_files, timeline_names}
+use Rattle.edi_statuses.specs.Broken.{names_in}
 use Rattle.edi_statuses.proofs.EachLeft.{each_same}
 use Rattle.edi_statuses.proofs.Told.{same_told, still, shows_nothing, told_so}
 use Rattle.edi_commands.specs.steps.NotMounted.{mount_status}
 use Rattle.edi_commands.specs.run.CodeRan.{RanCode, ending_status}
-use Rattle.edi_commands.specs.run.OnMounted.{DriveAsked, OnMounted}
-use Rattle.edi_commands.specs.run.OnTimed.{OnTimed, ProgramTimed, RanTimed, RanWith, timed_status}
+use Rattle.edi_commands.specs.run.OnMounted.{DriveAsked}
+use Rattle.edi_commands.specs.run.OnTimed.{ProgramTimed, RanTimed, RanWith, timed_status}
 use Rattle.edi_commands.proofs.run.Asked.{asked_so}
 use Rattle.edi_commands.proofs.run.Endings.{broke_run, has_ran, status_is}
+use Rattle.edi_commands.proofs.run.Kept.{broke_kept, ended_kept, unmounted_kept}
 use Rattle.edi_commands.proofs.run.Left.{devices_told, ending_of, told_by, IsNoFault}
 use Rattle.edi_commands.proofs.run.Mounting.{IsLeft, IsUnmounted, left_due, left_each, left_shows, mounts, shown_in, unmounted_by, unmounted_each}
 use Rattle.edi_commands.proofs.run.Past.{IsPast, past_so}
@@ -60,23 +60,6 @@ ran_plainly parts bound choices name s due before after kernel r = record {
 
 -- ---- nothing was kept
 
-not_there : (name : Option (List ℕ)) → name ≡ None → IsSome name → ⊥
-not_there None e there = absurd (cc)
-not_there (Some name) e there = absurd (cc)
-
--- a drive that was not mounted
-unmounted_timed : (out : List ℕ) (name : Option (List ℕ)) (broken whole wants lost : Type 0) (comes comes' : Status → Type 0) (before after : Outside)
-    (shown : List ℕ) (kernel : Lent) (why : MountFault) → OnMounted None broken whole comes (mount_status why) before after shown kernel
-    → OnTimed out name broken wants lost comes' (mount_status why) before after shown kernel
-unmounted_timed out name broken whole wants lost comes comes' before after shown kernel mount.Fault h = h
-unmounted_timed out name broken whole wants lost comes comes' before after shown kernel mount.NoMemory (inl h) = inl h
-unmounted_timed out name broken whole wants lost comes comes' before after shown kernel mount.NoMemory (inr h) = absurd (not_there None refl h.0)
-unmounted_timed out name broken whole wants lost comes comes' before after shown kernel mount.Short h = h
-unmounted_timed out name broken whole wants lost comes comes' before after shown kernel mount.Header h = h
-unmounted_timed out name broken whole wants lost comes comes' before after shown kernel (mount.Entry slot) h = h
-unmounted_timed out name broken whole wants lost comes comes' before after shown kernel (mount.Page slot block) h = h
-unmounted_timed out name broken whole wants lost comes comes' before after shown kernel (mount.Shared block) h = h
-
 module _ (parts : CodeParts) (bound : ℕ) (out : List ℕ) (name : Option (List ℕ)) (before after : Outside) where
   -- memory ran out before the drive was asked
   pub no_timeline : (choices : Choices) (s : Status) (due : Bool) (kernel : Lent) → s ≡ status.NoMemory → due ≡ false
@@ -100,7 +83,7 @@ module _ (parts : CodeParts) (bound : ℕ) (out : List ℕ) (name : Option (List
         let lost : Type 0 = TimedLost program bound choices out name x after [] kernel in
         let comes : Status → Type 0 = λ end. Times program bound choices out name end x after [] kernel in
         subst (λ t. ProgramTimed program bound choices out name t x after [] kernel) (sym is)
-        (unmounted_timed out name broken wants wants lost comes comes x after [] kernel why
+        (unmounted_kept (timeline_names out ++ names_in name) broken wants lost comes x after [] kernel wants comes why
         (unmounted_by before after kernel why h None broken wants comes));
     shows = shows_nothing before.shown after.shown h.shown;
     due_is = silent;
@@ -111,21 +94,17 @@ module _ (parts : CodeParts) (bound : ℕ) (out : List ℕ) (name : Option (List
     abbrev shown_now : List ℕ
     shown_now = shown_in due before after
 
-    broke_timed : (program : Runnable) (failed : failing.Outside) (kernel : Lent) → SameFiles (seen before after) after
-        → BrokeRun (object_status failed) kernel.failed program bound old.source (seen before after) after shown_now
-        → ProgramTimed program bound old.source out name (object_status failed) (seen before after) after shown_now kernel
-    broke_timed program object.Drive kernel files broke = (files, inr (mounts due before after left, broke))
-    broke_timed program object.Input kernel files broke = (files, mounts due before after left, broke)
-    broke_timed program object.Terminal kernel files broke = (files, mounts due before after left, broke)
-    broke_timed program object.Printer kernel files broke = (files, mounts due before after left, broke)
-
     pub failed_so : (s : Status) (failed : failing.Outside) (kernel : Lent) → kernel.failed ≡ Some failed → s ≡ object_status failed
         → after.files ≡ before.files → WhereTold (told_by before) (told_by after) (StandsAtCall parts bound old failed)
         → RanTimed parts bound old.source out name s due before after kernel
     failed_so s failed kernel named is files at = record {
       shown = shown_now;
       ran = λ program of. subst (λ t. ProgramTimed program bound old.source out name t (seen before after) after shown_now kernel) (sym is)
-          (broke_timed program failed kernel (same_told before.files after.files files)
+          (broke_kept (timeline_names out ++ names_in name) (BrokeRun (object_status failed) kernel.failed program bound old.source (seen before after) after shown_now)
+          (TimedInPart program bound old.source out name (seen before after) after shown_now kernel)
+          (TimedLost program bound old.source out name (seen before after) after shown_now kernel)
+          (λ end. Times program bound old.source out name end (seen before after) after shown_now kernel) (seen before after) after shown_now kernel failed
+          (mounts due before after left) (same_told before.files after.files files)
           (broke_run parts bound old none due before after left failed kernel.failed named at program (has_code program parts of)));
       shows = left_shows due before after left;
       due_is = left_due due before after left;
@@ -160,19 +139,20 @@ module _ (parts : CodeParts) (bound : ℕ) (out : List ℕ) (name : Option (List
           files = files;
         }
 
-        ended_by : (end : outcome.Ending) → HasTimed KeepsAll program bound old.source out name end (seen before after) after shown_now kernel
+        ended_by : (end : outcome.Ending) → Times program bound old.source out name (status_of end) (seen before after) after shown_now kernel
             → ProgramTimed program bound old.source out name (status_of end) (seen before after) after shown_now kernel
-        ended_by outcome.done h = (mounts due before after left, (outcome.done, refl, h))
-        ended_by (outcome.halted line) h = (mounts due before after left, (outcome.halted line, refl, h))
-        ended_by (outcome.failed why line) h = (mounts due before after left, (outcome.failed why line, refl, h))
-        ended_by outcome.turns h = (mounts due before after left, (outcome.turns, refl, h))
-        ended_by outcome.standstill h = (mounts due before after left, (outcome.standstill, refl, h))
-        ended_by (outcome.bad address) h = (mounts due before after left, (outcome.bad address, refl, h))
+        ended_by end h =
+            ended_kept (timeline_names out ++ names_in name) (BrokeRun (status_of end) kernel.failed program bound old.source (seen before after) after shown_now)
+            (TimedInPart program bound old.source out name (seen before after) after shown_now kernel)
+            (TimedLost program bound old.source out name (seen before after) after shown_now kernel)
+            (λ s. Times program bound old.source out name s (seen before after) after shown_now kernel) (seen before after) after shown_now kernel end
+            (mounts due before after left) h
 
         timed_end : (end : KeepEnd) → WhereTold (seen before after).files after.files (KeepsInTurn end all_files)
             → ProgramTimed program bound old.source out name (timed_status end (status_of (ending_of e))) (seen before after) after shown_now kernel
         timed_end keep.Ok h =
-            ended_by (ending_of e) (timed KeepsAll (told_so (KeepsInTurn keep.Ok all_files) _ (seen before after).files after.files (all_kept all_files) h))
+            ended_by (ending_of e)
+            (ending_of e, refl, timed KeepsAll (told_so (KeepsInTurn keep.Ok all_files) _ (seen before after).files after.files (all_kept all_files) h))
         timed_end keep.Failed h = (
           lost_timed old.source new.drawn out told name (seen before after).files after.files h,
           mounts due before after left,

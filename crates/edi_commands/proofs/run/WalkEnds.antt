@@ -1,5 +1,5 @@
 -- The exits of a walk: the drive is not mounted, an object has failed, memory ran out, or the walk has come to its end.
-use Rattle.std.proofs.Common.{◌≡◌, ◌∙◌, ◌++◌, ℕ, Bool, false, List, [], Option, Some, None, IsSome, unwrap_or, refl, sym, ap, subst, inl, inr}
+use Rattle.std.proofs.Common.{◌≡◌, ◌∙◌, ◌++◌, ℕ, Bool, false, List, [], Option, Some, None, unwrap_or, refl, sym, ap, subst, inl, inr}
 use Rattle.std.specs.Prelude.{Contains}
 use Rattle.edi_told.specs.Told.{WhereTold}
 use Rattle.edi_calls.specs.declared.ends.Outside as failing
@@ -31,7 +31,6 @@ use Rattle.edi_statuses.specs.declared.status.Status.TheVariants as status
 use Rattle.edi_statuses.specs.Counts.{Counts, HasCause}
 use Rattle.edi_statuses.specs.EachObject.{MayBeImage}
 use Rattle.edi_statuses.specs.Outside.{Outside, DevicesAreAt, KernelLeft, Lent, blaming, idle, seen, system_on}
-use Rattle.edi_statuses.specs.Steps.{goes, Mounts}
 use Rattle.edi_statuses.specs.Executions.{FailedAt, StandsAt, object_status, status_of}
 use Rattle.edi_statuses.specs.Walked.{BrokeWalk, FailedWalk, HasWalked, Walks}
 use Rattle.edi_statuses.proofs.Told.{same_told, shows_nothing}
@@ -39,7 +38,7 @@ use Rattle.edi_commands.specs.steps.NotMounted.{mount_status}
 use Rattle.edi_commands.specs.run.OnMounted.{DriveAsked, OnMounted}
 use Rattle.edi_commands.specs.run.OnWalked.{end_status, OnWalked, RanWalk, TextWalked}
 use Rattle.edi_commands.proofs.run.Asked.{asked_so, ended_asked}
-use Rattle.edi_commands.proofs.run.Endings.{ended_cause}
+use Rattle.edi_commands.proofs.run.Kept.{not_there}
 use Rattle.edi_commands.proofs.run.Left.{devices, devices_told, told_by}
 use Rattle.edi_commands.proofs.run.Mounting.{IsLeft, IsUnmounted, left_due, left_each, left_shows, mounts, shown_in, unmounted_by, unmounted_each}
 
@@ -180,10 +179,6 @@ module _ (unit : ProgramUnit) (bytes : List ℕ) (is : IsUnit bytes unit) (bound
 
 -- ---- the drive is not mounted
 
-none_there : (name : Option (List ℕ)) → name ≡ None → IsSome name → ⊥
-none_there None e there = absurd (cc)
-none_there (Some name) e there = absurd (cc)
-
 unmounted_walked : (failed whole broken : Type 0) (comes comes' : Status → Type 0) (before after : Outside) (shown : List ℕ) (kernel : Lent) (why : MountFault)
     → OnMounted None failed whole comes (mount_status why) before after shown kernel
     → OnWalked broken failed comes' (mount_status why) before after shown kernel
@@ -192,7 +187,7 @@ unmounted_walked failed whole broken comes comes' before after shown kernel moun
   | inr far ↦ inr far
 ]
 unmounted_walked failed whole broken comes comes' before after shown kernel mount.NoMemory (inl h) = inl h
-unmounted_walked failed whole broken comes comes' before after shown kernel mount.NoMemory (inr h) = absurd (none_there None refl h.0)
+unmounted_walked failed whole broken comes comes' before after shown kernel mount.NoMemory (inr h) = absurd (not_there None refl h.0)
 unmounted_walked failed whole broken comes comes' before after shown kernel mount.Short h = h
 unmounted_walked failed whole broken comes comes' before after shown kernel mount.Header h = h
 unmounted_walked failed whole broken comes comes' before after shown kernel (mount.Entry slot) h = h

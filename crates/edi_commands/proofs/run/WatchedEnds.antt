@@ -1,14 +1,12 @@
 -- The exits of a watched run: the drive is not mounted, an object has failed, the log and the record are kept, or they are not.
-use Rattle.std.proofs.Common.{◌≡◌, ◌≤◌, ℕ, Bool, false, List, [], ◌∷◌, Option, Some, None, IsSome, refl, sym, subst, inl, inr, ◌∙◌}
+use Rattle.std.proofs.Common.{◌≡◌, ◌⊎◌, ◌≤◌, ℕ, Bool, false, List, [], ◌∷◌, Option, Some, None, refl, sym, subst, inl, inr, ◌∙◌}
 use Rattle.edi_told.specs.Told.{WhereTold}
 use Rattle.edi_calls.specs.declared.ends.Outside as failing
-use Rattle.edi_calls.specs.declared.ends.Outside.TheVariants as object
 use Rattle.edi_calls.specs.Choice.{Choices}
 use Rattle.edi_calls.specs.Outcome as outcome
 use Rattle.edi_execute.specs.Objects as execute
 use Rattle.edi_execute.specs.Objects.{HasRun, StandsAtCall}
 use Rattle.edi_image.specs.declared.faults.MountFault.{MountFault}
-use Rattle.edi_image.specs.declared.faults.MountFault.TheVariants as mount
 use Rattle.edi_kernel.specs.declared.ends.Ending.{Ending}
 use Rattle.edi_trace.specs.Drawn.{Drawn}
 use Rattle.edi_scheme.specs.Laws.{parts_of}
@@ -20,18 +18,18 @@ use Rattle.edi_runs.specs.watch.Watchable.{IsWatchable, IsWhole, program_in}
 use Rattle.edi_runs.proofs.watch.Meant.{unit_is}
 use Rattle.edi_statuses.specs.declared.status.Status.{Status}
 use Rattle.edi_statuses.specs.declared.status.Status.TheVariants as status
-use Rattle.edi_statuses.specs.Outside.{Outside, seen, system_on, with_kept, SameFiles, Lent}
+use Rattle.edi_statuses.specs.Outside.{Outside, seen, system_on, with_kept, SameBut, SameFiles, Lent}
 use Rattle.edi_statuses.specs.Executions.{text, HasCode, BrokeRun, object_status, record_of, status_of}
-use Rattle.edi_statuses.specs.Commands.{Runs, Watches, IsLog, IsNothing}
-use Rattle.edi_statuses.specs.Broken.{KeepsLog, LosesRecord, RanWhole}
+use Rattle.edi_statuses.specs.Commands.{Watches, IsLog, IsNothing}
+use Rattle.edi_statuses.specs.Broken.{KeepsLog, LosesRecord, RanWhole, names_in}
 use Rattle.edi_statuses.proofs.EachLeft.{each_same}
 use Rattle.edi_statuses.proofs.Told.{same_told, still, shows_nothing}
 use Rattle.edi_commands.specs.steps.NotMounted.{mount_status}
 use Rattle.edi_commands.specs.run.CodeRan.{ending_status}
-use Rattle.edi_commands.specs.run.OnMounted.{OnMounted}
-use Rattle.edi_commands.specs.run.OnWatched.{LogEnd, LogUnkept, OnWatched, RanWatched, TextWatched}
+use Rattle.edi_commands.specs.run.OnWatched.{LogEnd, LogUnkept, RanWatched, TextWatched}
 use Rattle.edi_commands.proofs.run.Endings.{broke_run, has_ran, status_is, whole}
 use Rattle.edi_commands.proofs.run.LogKept.{lost_but}
+use Rattle.edi_commands.proofs.run.Kept.{broke_kept, ended_kept, unmounted_kept}
 use Rattle.edi_commands.proofs.run.Left.{devices_told, ending_of, told_by, IsNoFault}
 use Rattle.edi_commands.proofs.run.Mounting.{IsLeft, IsUnmounted, left_due, left_each, left_shows, mounts, shown_in, unmounted_by, unmounted_each}
 
@@ -41,23 +39,6 @@ has_code bytes w is =
     texts_do_as_meant bytes is.whole.unit (unit_is bytes (program_in w) is.whole.unit is.whole.resolved is.tree_is)
 
 -- ---- nothing was kept
-
-not_there : (name : Option (List ℕ)) → name ≡ None → IsSome name → ⊥
-not_there None e there = absurd (cc)
-not_there (Some name) e there = absurd (cc)
-
--- a drive that was not mounted
-unmounted_watched : (out : List ℕ) (name : Option (List ℕ)) (broken whole_ logged lost : Type 0) (comes comes' : Status → Type 0) (before after : Outside)
-    (shown : List ℕ) (kernel : Lent) (why : MountFault) → OnMounted None broken whole_ comes (mount_status why) before after shown kernel
-    → OnWatched out name broken whole_ logged lost comes' (mount_status why) before after shown kernel
-unmounted_watched out name broken whole_ logged lost comes comes' before after shown kernel mount.Fault h = h
-unmounted_watched out name broken whole_ logged lost comes comes' before after shown kernel mount.NoMemory (inl h) = inl h
-unmounted_watched out name broken whole_ logged lost comes comes' before after shown kernel mount.NoMemory (inr h) = absurd (not_there None refl h.0)
-unmounted_watched out name broken whole_ logged lost comes comes' before after shown kernel mount.Short h = h
-unmounted_watched out name broken whole_ logged lost comes comes' before after shown kernel mount.Header h = h
-unmounted_watched out name broken whole_ logged lost comes comes' before after shown kernel (mount.Entry slot) h = h
-unmounted_watched out name broken whole_ logged lost comes comes' before after shown kernel (mount.Page slot block) h = h
-unmounted_watched out name broken whole_ logged lost comes comes' before after shown kernel (mount.Shared block) h = h
 
 module _ (w : Watchable) (points : List Watched) (bound : ℕ) (out : List ℕ) (name : Option (List ℕ)) (before after : Outside) where
   -- memory ran out before the drive was asked
@@ -79,11 +60,10 @@ module _ (w : Watchable) (points : List Watched) (bound : ℕ) (out : List ℕ) 
         let x : Outside = seen before after in
         let broken : Type 0 = BrokeRun (mount_status why) kernel.failed (text bytes) bound choices x after [] in
         let whole_ : Type 0 = RanWhole (text bytes) bound choices x after [] kernel in
-        let comes : Status → Type 0 = λ end. Runs (text bytes) bound choices None end x after [] kernel in
-        let comes' : Status → Type 0 = λ end. Watches bytes points bound choices out name end x after [] kernel in
+        let comes : Status → Type 0 = λ end. Watches bytes points bound choices out name end x after [] kernel in
         subst (λ t. TextWatched bytes points bound choices out name t x after [] kernel) (sym is)
-        (unmounted_watched out name broken whole_ (KeepsLog bytes points bound choices out name x after)
-        (LosesRecord bytes points bound choices out name x after) comes comes' x after [] kernel why
+        (unmounted_kept (out ∷ names_in name) broken (whole_ × (SameFiles x after ⊎ KeepsLog bytes points bound choices out name x after))
+        (whole_ × (SameBut (out ∷ []) x after ⊎ LosesRecord bytes points bound choices out name x after)) comes x after [] kernel whole_ comes why
         (unmounted_by before after kernel why h None broken whole_ comes));
     shows = shows_nothing before.shown after.shown h.shown;
     due_is = silent;
@@ -94,13 +74,19 @@ module _ (w : Watchable) (points : List Watched) (bound : ℕ) (out : List ℕ) 
     abbrev shown_now : List ℕ
     shown_now = shown_in due before after
 
-    broke_watched : (bytes : List ℕ) (failed : failing.Outside) (kernel : Lent) → SameFiles (seen before after) after
-        → BrokeRun (object_status failed) kernel.failed (text bytes) bound old.source (seen before after) after shown_now
-        → TextWatched bytes points bound old.source out name (object_status failed) (seen before after) after shown_now kernel
-    broke_watched bytes object.Drive kernel files broke = (files, inr (mounts due before after left, broke))
-    broke_watched bytes object.Input kernel files broke = (files, mounts due before after left, broke)
-    broke_watched bytes object.Terminal kernel files broke = (files, mounts due before after left, broke)
-    broke_watched bytes object.Printer kernel files broke = (files, mounts due before after left, broke)
+    module _ (bytes : List ℕ) (kernel : Lent) where
+      abbrev Wants : Type 0
+      Wants =
+          RanWhole (text bytes) bound old.source (seen before after) after shown_now kernel
+          × (SameFiles (seen before after) after ⊎ KeepsLog bytes points bound old.source out name (seen before after) after)
+
+      abbrev Lost : Type 0
+      Lost =
+          RanWhole (text bytes) bound old.source (seen before after) after shown_now kernel
+          × (SameBut (out ∷ []) (seen before after) after ⊎ LosesRecord bytes points bound old.source out name (seen before after) after)
+
+      abbrev Comes : Status → Type 0
+      Comes end = Watches bytes points bound old.source out name end (seen before after) after shown_now kernel
 
     pub failed_so : (s : Status) (failed : failing.Outside) (kernel : Lent) → kernel.failed ≡ Some failed → s ≡ object_status failed
         → after.files ≡ before.files → ((v : IsWhole w) → WhereTold (told_by before) (told_by after) (StandsAtCall (parts_of v.unit) bound old failed))
@@ -108,7 +94,9 @@ module _ (w : Watchable) (points : List Watched) (bound : ℕ) (out : List ℕ) 
     failed_so s failed kernel named is files at = record {
       shown = shown_now;
       ran = λ bytes whose. subst (λ t. TextWatched bytes points bound old.source out name t (seen before after) after shown_now kernel) (sym is)
-          (broke_watched bytes failed kernel (same_told before.files after.files files)
+          (broke_kept (out ∷ names_in name) (BrokeRun (object_status failed) kernel.failed (text bytes) bound old.source (seen before after) after shown_now)
+          (Wants bytes kernel) (Lost bytes kernel) (Comes bytes kernel) (seen before after) after shown_now kernel failed (mounts due before after left)
+          (same_told before.files after.files files)
           (broke_run (parts_of whose.whole.unit) bound old none due before after left failed kernel.failed named (at whose.whole) (text bytes) (has_code bytes w whose)));
       shows = left_shows due before after left;
       due_is = left_due due before after left;
@@ -137,12 +125,9 @@ module _ (w : Watchable) (points : List Watched) (bound : ℕ) (out : List ℕ) 
         ended_by : (end : outcome.Ending)
             → Watches bytes points bound old.source out name (status_of end) (seen before after) after shown_now kernel
             → TextWatched bytes points bound old.source out name (status_of end) (seen before after) after shown_now kernel
-        ended_by outcome.done h = (mounts due before after left, h)
-        ended_by (outcome.halted line) h = (mounts due before after left, h)
-        ended_by (outcome.failed why line) h = (mounts due before after left, h)
-        ended_by outcome.turns h = (mounts due before after left, h)
-        ended_by outcome.standstill h = (mounts due before after left, h)
-        ended_by (outcome.bad address) h = (mounts due before after left, h)
+        ended_by end h =
+            ended_kept (out ∷ names_in name) (BrokeRun (status_of end) kernel.failed (text bytes) bound old.source (seen before after) after shown_now)
+            (Wants bytes kernel) (Lost bytes kernel) (Comes bytes kernel) (seen before after) after shown_now kernel end (mounts due before after left) h
 
         watched_kept : new.source ≡ old.source
             → WhereTold before.files after.files (λ a b. b ≡ with_kept ((out, log) ∷ record_of name new.source new.drawn) a)

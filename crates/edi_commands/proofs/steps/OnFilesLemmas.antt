@@ -12,7 +12,7 @@ use Rattle.edi_statuses.specs.declared.status.Status.{Status}
 use Rattle.edi_statuses.specs.declared.status.Status.TheVariants as status
 use Rattle.edi_statuses.specs.EachObject.{FitsCount}
 use Rattle.edi_statuses.specs.Outside.{Outside, IsSomeFile}
-use Rattle.edi_statuses.specs.Steps.{goes, stops, Fetches, GivesChoices, ReadsChoices}
+use Rattle.edi_statuses.specs.Steps.{AfterStep, goes, stops, ◌>>=◌, Fetches, GivesChoices, ReadsChoices}
 use Rattle.edi_commands.specs.steps.OnFiles.{FetchStep, FileChoices, ChoicesStep}
 
 -- why nothing was fetched
@@ -21,6 +21,14 @@ pub fetch_stopped : {V : Type 0} (items : V → List ℕ) (o : Outside) (name : 
 fetch_stopped items o name limit status.NoMemory h = inl refl
 fetch_stopped items o name limit status.FileFault h = inr (inl (refl, h))
 fetch_stopped items o name limit s h = inr (inr h)
+
+-- so the first step of a command stops it
+pub first_stops : {V A : Type 0} (items : V → List ℕ) (more : List ℕ → AfterStep A → Type 0) (o : Outside) (name : List ℕ) (limit : ℕ) (s : Status)
+    → FetchStep items o name limit (Err s)
+    → (s ≡ status.NoMemory) ⊎ (((s ≡ status.FileFault) × IsSomeFile o name) ⊎ (Fetches o name >>= more) (stops s))
+first_stops items more o name limit status.NoMemory h = inl refl
+first_stops items more o name limit status.FileFault h = inr (inl (refl, h))
+first_stops items more o name limit s h = inr (inr (inl h))
 
 -- what was fetched is there
 pub fetched_there : (o : Outside) (name all : List ℕ) → Fetches o name (goes all) → IsSomeFile o name

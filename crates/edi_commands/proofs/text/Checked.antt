@@ -18,8 +18,7 @@ use Rattle.edi_statuses.specs.Outside.{Lent, Outside}
 use Rattle.edi_statuses.specs.Commands.{IsNothing, TextSteps}
 use Rattle.edi_statuses.specs.Means.{MeansOf}
 use Rattle.edi_statuses.specs.Steps.{Fetches, goes, stops}
-use Rattle.edi_commands.specs.steps.OnFiles.{FetchStep, files_only}
-use Rattle.edi_commands.proofs.steps.OnFilesLemmas.{fetch_stopped}
+use Rattle.edi_commands.specs.steps.OnFiles.{files_only}
 use Rattle.edi_commands.proofs.steps.Shown.{ShowsOf}
 use Rattle.edi_commands.specs.text.TextCommands.{IsReportOf, ReportsFile, ReportsText}
 
@@ -31,18 +30,6 @@ pub reported : {V : Type 0} (items : V → List ℕ) (text : List ℕ) (unit : U
 reported items text unit v answers few report =
     let front : IsFrontOf text (unit_of unit) = answers.gives in
     (unit_of unit, front.unit_is, report front.can.fits (omega (arith, few)))
-
--- nothing was fetched
-pub not_fetched : {V W : Type 0} (items : V → List ℕ) (others : W → List ℕ) (o : Outside) (name : List ℕ) (limit : ℕ) (s : Status)
-    → FetchStep items o name limit (Err s) → ReportsFile others o name (Err s)
-not_fetched items others o name limit s h = elim (fetch_stopped items o name limit s h) [
-  | inl none ↦ inl none
-  | inr more ↦
-      elim more [
-        | inl failed ↦ inr (inl failed)
-        | inr absent ↦ inr (inr (inl absent))
-      ]
-]
 
 -- the first bytes of a file decide
 pub file_reported : {V : Type 0} (items : V → List ℕ) (o : Outside) (name bytes text : List ℕ) (r : Result V Status) → Fetches o name (goes text)

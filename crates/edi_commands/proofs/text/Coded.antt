@@ -11,8 +11,6 @@ use Rattle.edi_texts.specs.Run.{IsCodeFor}
 use Rattle.edi_statuses.specs.declared.status.Status.{Status}
 use Rattle.edi_statuses.specs.Outside.{Outside}
 use Rattle.edi_statuses.specs.Steps.{goes, Fetches}
-use Rattle.edi_commands.specs.steps.OnFiles.{FetchStep}
-use Rattle.edi_commands.proofs.steps.OnFilesLemmas.{fetch_stopped}
 use Rattle.edi_commands.proofs.steps.Units.{unit_there}
 use Rattle.edi_commands.specs.text.TextCommands.{CodesText, CodesFile}
 
@@ -21,18 +19,6 @@ pub coded : {V : Type 0} (items : V → List ℕ) (text : List ℕ) (code : Code
 coded items text code v answers bytes =
     let unit = unit_there (IsCodeFor text) text code answers in
     (unit.0, unit.1, code, answers.gives, bytes)
-
--- nothing was fetched
-pub not_fetched : {V W : Type 0} (items : V → List ℕ) (others : W → List ℕ) (o : Outside) (name : List ℕ) (limit : ℕ) (s : Status)
-    → FetchStep items o name limit (Err s) → CodesFile others o name (Err s)
-not_fetched items others o name limit s h = elim (fetch_stopped items o name limit s h) [
-  | inl none ↦ inl none
-  | inr more ↦
-      elim more [
-        | inl failed ↦ inr (inl failed)
-        | inr absent ↦ inr (inr (inl absent))
-      ]
-]
 
 -- the first bytes of a file decide
 pub file_coded : {V : Type 0} (items : V → List ℕ) (o : Outside) (name bytes text : List ℕ) (r : Result V Status) → Fetches o name (goes text)

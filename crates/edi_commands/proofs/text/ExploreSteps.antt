@@ -6,8 +6,6 @@ use Rattle.std.specs.Global.{Vec}
 use Rattle.edi_told.specs.Told.{WhereTold}
 use Rattle.edi_lex.specs.Limit.{most_fetched}
 use Rattle.edi_unit.specs.Tree.{ProgramUnit}
-use Rattle.edi_unit.specs.View.{unit_of}
-use Rattle.edi_unit.specs.declared.units.Unit.{Unit}
 use Rattle.edi_scheme.specs.Code.{code_of}
 use Rattle.edi_compile.specs.Compiled.{IsFrontOf, IsShort}
 use Rattle.edi_texts.specs.Fetched.{Tells}
@@ -19,14 +17,12 @@ use Rattle.edi_runs.specs.explore.Input.{most_input}
 use Rattle.edi_runs.specs.explore.Told.{HasTakenSome, Reads}
 use Rattle.edi_statuses.specs.declared.status.Status.{Status}
 use Rattle.edi_statuses.specs.declared.status.Status.TheVariants as status
-use Rattle.edi_statuses.specs.Explored.{IsTooLong, LosesSome}
+use Rattle.edi_statuses.specs.Explored.{LosesSome}
 use Rattle.edi_statuses.specs.Outside.{Outside}
 use Rattle.edi_statuses.specs.Steps.{Fetches, goes}
 use Rattle.edi_statuses.proofs.Told.{told_so}
 use Rattle.edi_commands.specs.declared.text.explore.programs.Explorable.{Explorable}
-use Rattle.edi_commands.specs.steps.OnFiles.{FetchStep}
-use Rattle.edi_commands.specs.text.ExploreCommand.{GivesProgram, IsExplorable, ReadsProgram, TakesInput, input_status}
-use Rattle.edi_commands.proofs.steps.OnFilesLemmas.{fetch_stopped}
+use Rattle.edi_commands.specs.text.ExploreCommand.{GivesProgram, ReadsProgram, TakesInput, input_status}
 
 -- ---- the program
 
@@ -51,18 +47,6 @@ file_program o name bytes text (Err s) fetched first (inr refused) =
     let tells : Tells (take most_fetched text) text = fetched_bytes_decide.there text in
     let is = subst (λ t. IsRefused t refused.0 refused.1) first refused.3 in
     inr (inr (inr (text, fetched, inl (refused.0, refused.1, refused.2, (is.0, tells.fault is.0 refused.0 refused.1 is.1)))))
-
--- nothing was fetched
-pub program_not_fetched : {V : Type 0} (items : V → List ℕ) (o : Outside) (name : List ℕ) (limit : ℕ) (s : Status)
-    → FetchStep items o name limit (Err s) → GivesProgram o name (Err s)
-program_not_fetched items o name limit s h = elim (fetch_stopped items o name limit s h) [
-  | inl none ↦ inl none
-  | inr more ↦
-      elim more [
-        | inl failed ↦ inr (inl failed)
-        | inr absent ↦ inr (inr (inl absent))
-      ]
-]
 
 -- ---- the input
 

@@ -6,8 +6,6 @@ use Rattle.edi_calls.specs.Choice.{Choices}
 use Rattle.edi_kernel.specs.declared.ends.Ending.{Ending}
 use Rattle.edi_kernel.specs.declared.ends.Ending.TheVariants as ending
 use Rattle.edi_target.specs.Check.{CodeParts}
-use Rattle.edi_texts.specs.declared.refusal.Refusal.{Refusal}
-use Rattle.edi_texts.specs.declared.refusal.Refusal.TheVariants.{At, NoMemory}
 use Rattle.edi_statuses.specs.declared.status.Status.{Status}
 use Rattle.edi_statuses.specs.declared.status.Status.TheVariants as status
 use Rattle.edi_statuses.specs.EachObject.{LeavesEach}
@@ -19,11 +17,6 @@ use Rattle.edi_statuses.specs.Broken.{RanWhole}
 use Rattle.edi_commands.specs.run.OnMounted.{OnMounted}
 
 -- ---- statuses
-
--- of a refused text
-abbrev pub refusal_status : Refusal → Status
-refusal_status (At pass kind line) = status.Refused kind line
-refusal_status NoMemory = status.NoMemory
 
 -- of a run that has come to its ending; after a fault it has come to none
 abbrev pub ending_status : Ending → Option Status

@@ -1,35 +1,65 @@
--- Words of contracts. The command that runs the program of a file: its form, and the step from the bytes of the file to their code.
-use Rattle.std.specs.Prelude.{◌≡◌, ℕ, List, Result, Ok, Err}
+-- Words of contracts. The commands that run the program of a file: its form, and the steps from the bytes of the file to its unit and its code.
+use Rattle.std.specs.Prelude.{◌≡◌, ◌⊎◌, ℕ, List, Option, Some, None, Result, Ok, Err}
+use Rattle.edi_compile.specs.Compiled.{IsFrontOf}
 use Rattle.edi_lex.specs.Limit as texts
+use Rattle.edi_scheme.specs.Laws.{parts_of}
 use Rattle.edi_target.specs.Limit as codes
 use Rattle.edi_target.specs.Check.{CodeParts}
-use Rattle.edi_texts.specs.declared.refusal.Refusal.{Refusal}
-use Rattle.edi_texts.specs.Answers.{TextAnswers}
-use Rattle.edi_texts.specs.Run.{IsCodeFor}
+use Rattle.edi_unit.specs.Tree.{ProgramUnit}
+use Rattle.edi_unit.specs.View.{unit_of}
+use Rattle.edi_unit.specs.declared.units.Unit.{Unit}
 use Rattle.edi_words.specs.Words as words
 use Rattle.edi_words.specs.Words.{Command, Options}
 use Rattle.edi_statuses.specs.declared.status.Status.{Status}
+use Rattle.edi_statuses.specs.declared.status.Status.TheVariants as status
+use Rattle.edi_statuses.specs.Steps.{Accepts, stops}
 use Rattle.edi_commands.specs.steps.Loaded.{LoadStep}
-use Rattle.edi_commands.specs.run.CodeRan.{refusal_status}
 use Rattle.edi_commands.specs.declared.run.files.Form.{Form}
 use Rattle.edi_commands.specs.declared.run.files.Form.TheVariants as form
+
+-- ---- the commands
 
 -- a text is for `run`, a code file for `exec`
 abbrev pub command_with : Form → (file : List ℕ) → Options → Command
 command_with form.Text file o = words.run file o
 command_with form.Code file o = words.exec file o
 
+-- so where the timeline is kept
+abbrev pub timed_with : Form → (file out : List ℕ) → Options → Command
+timed_with form.Text file out o = words.time file out o
+timed_with form.Code file out o = words.time_code file out o
+
+-- with a name for the timeline, or without one
+abbrev pub command_for : Form → (timeline : Option (List ℕ)) → (file : List ℕ) → Options → Command
+command_for f None file o = command_with f file o
+command_for f (Some out) file o = timed_with f file out o
+
 -- as many bytes as decide what the file is
 abbrev pub limit_of : Form → ℕ
 limit_of form.Text = texts.most_fetched
 limit_of form.Code = codes.most_fetched
 
--- the code of a text, or why the command stops there
-abbrev pub CompileStep : (bytes : List ℕ) → Result CodeParts Status → Type 0
-CompileStep bytes (Ok parts) = TextAnswers (IsCodeFor bytes) bytes (Ok parts)
-CompileStep bytes (Err s) = (refusal : Refusal) × (s ≡ refusal_status refusal) × TextAnswers (IsCodeFor bytes) bytes (Err refusal)
+-- ---- the steps
+
+-- why a command stops at a text: it is refused; and memory may run out at any text
+abbrev pub TextStops : (bytes : List ℕ) → Status → Type 0
+TextStops bytes s = (s ≡ status.NoMemory) ⊎ Accepts bytes (stops s)
+
+-- the unit of a text
+abbrev pub UnitStep : (bytes : List ℕ) → Result Unit Status → Type 0
+UnitStep bytes (Ok unit) = IsFrontOf bytes (unit_of unit)
+UnitStep bytes (Err s) = TextStops bytes s
+
+-- the code of the unit of a text
+pub record IsTextCode (bytes : List ℕ) (unit : ProgramUnit) (parts : CodeParts) : Type 0 where
+  pub front : IsFrontOf bytes unit
+  pub code_is : parts ≡ parts_of unit
+
+abbrev pub TextStep : (bytes : List ℕ) → Result CodeParts Status → Type 0
+TextStep bytes (Ok parts) = (unit : ProgramUnit) × IsTextCode bytes unit parts
+TextStep bytes (Err s) = TextStops bytes s
 
 -- the code of the bytes of a file, or why the command stops there
 abbrev pub CodeStep : Form → (bytes : List ℕ) → Result CodeParts Status → Type 0
-CodeStep form.Text bytes result = CompileStep bytes result
+CodeStep form.Text bytes result = TextStep bytes result
 CodeStep form.Code bytes result = LoadStep bytes result

@@ -1,14 +1,11 @@
 -- Words of contracts. What is left where the program of a text is walked through on a drive that is mounted for it.
-use Rattle.std.specs.Prelude.{◌≡◌, ◌⊎◌, ℕ, Bool, List, Option, Some, None, Result, Ok, Err}
+use Rattle.std.specs.Prelude.{◌≡◌, ◌⊎◌, ℕ, Bool, List, Option, Some, None}
 use Rattle.edi_calls.specs.declared.kinds.Cause.TheVariants as cause
 use Rattle.edi_calls.specs.Choice.{Choices}
 use Rattle.edi_unit.specs.Tree.{ProgramUnit}
-use Rattle.edi_unit.specs.View.{unit_of}
-use Rattle.edi_unit.specs.declared.units.Unit.{Unit}
 use Rattle.edi_walk.specs.declared.walking.WalkEnd.{WalkEnd}
 use Rattle.edi_walk.specs.declared.walking.WalkEnd.TheVariants as end
-use Rattle.edi_texts.specs.declared.kind.RefusalKind.{RefusalKind}
-use Rattle.edi_texts.specs.Texts.{IsRefused, IsUnit}
+use Rattle.edi_texts.specs.Texts.{IsUnit}
 use Rattle.edi_statuses.specs.declared.status.Status.{Status}
 use Rattle.edi_statuses.specs.declared.status.Status.TheVariants as status
 use Rattle.edi_statuses.specs.EachObject.{LeavesEach}
@@ -18,12 +15,6 @@ use Rattle.edi_statuses.specs.Steps.{goes, stops, Mounts}
 use Rattle.edi_statuses.specs.Commands.{IsNothing}
 use Rattle.edi_statuses.specs.Broken.{HasNotBegun}
 use Rattle.edi_statuses.specs.Walked.{BrokeWalk, FailedWalk, Walks}
-
--- the unit of the bytes of a file, or their text is refused; memory may run out at any text
-abbrev pub UnitStep : (bytes : List ℕ) → Result Unit Status → Type 0
-UnitStep bytes (Ok unit) = IsUnit bytes (unit_of unit)
-UnitStep bytes (Err s) =
-    (s ≡ status.NoMemory) ⊎ ((kind : RefusalKind) × (line : ℕ) × (s ≡ status.Refused kind line) × IsRefused bytes kind line)
 
 -- the status of a walk that has come to its end; after a fault it has come to none
 abbrev pub end_status : WalkEnd → Option Status

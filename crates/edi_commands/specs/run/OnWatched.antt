@@ -12,10 +12,10 @@ use Rattle.edi_statuses.specs.declared.status.Status.TheVariants as status
 use Rattle.edi_statuses.specs.EachObject.{LeavesEach}
 use Rattle.edi_statuses.specs.Outside.{Outside, SameBut, SameFiles, Lent, Shows, seen, with_kept, without_names}
 use Rattle.edi_statuses.specs.Lines.{is_due}
-use Rattle.edi_statuses.specs.Steps.{goes, stops, Mounts}
 use Rattle.edi_statuses.specs.Executions.{text, BrokeRun, record_of}
-use Rattle.edi_statuses.specs.Commands.{IsNothing, Watches}
-use Rattle.edi_statuses.specs.Broken.{HasNotBegun, KeepsLog, LosesRecord, RanWhole, names_in}
+use Rattle.edi_statuses.specs.Commands.{Watches}
+use Rattle.edi_commands.specs.run.OnKept.{OnKept}
+use Rattle.edi_statuses.specs.Broken.{KeepsLog, LosesRecord, RanWhole, names_in}
 
 -- ---- the files
 
@@ -36,29 +36,15 @@ LogEnd out log name choices came ends before after =
 
 -- ---- all of it
 
--- The drive was not mounted; or the run was `broken` off, for an object had failed; or it came to its end, `whole`, and then the log or the record
--- wanted memory, where the log may be `logged`, or the files failed, where the record may be `lost`; or both were kept, and the status says to which
--- end it `comes`.
-abbrev pub OnWatched : (out : List ℕ) → (name : Option (List ℕ)) → (broken whole logged lost : Type 0) → (comes : Status → Type 0) → Status → Outside
-    → Outside → (shown : List ℕ) → Lent → Type 0
-OnWatched out name broken whole logged lost comes status.NoMemory before after shown kernel =
-    IsNothing before after shown kernel ⊎ (Mounts before (goes tt) × (whole × (SameFiles before after ⊎ logged)))
-OnWatched out name broken whole logged lost comes status.FileFault before after shown kernel =
-    SameBut (out ∷ names_in name) before after × Mounts before (goes tt) × (whole × (SameBut (out ∷ []) before after ⊎ lost))
-OnWatched out name broken whole logged lost comes status.DriveFault before after shown kernel =
-    SameFiles before after × (HasNotBegun before after shown kernel ⊎ (Mounts before (goes tt) × broken))
-OnWatched out name broken whole logged lost comes status.InputFault before after shown kernel = SameFiles before after × Mounts before (goes tt) × broken
-OnWatched out name broken whole logged lost comes status.OutputFault before after shown kernel = SameFiles before after × Mounts before (goes tt) × broken
-OnWatched out name broken whole logged lost comes (status.BadImage fault) before after shown kernel =
-    Mounts before (stops (status.BadImage fault)) × IsNothing before after shown kernel
-OnWatched out name broken whole logged lost comes s before after shown kernel = Mounts before (goes tt) × comes s
-
--- so of a text with these points
+-- The drive was not mounted; or the run was broken off; or it came to its end, and then the log or the record wanted memory, where the log may be kept,
+-- or the files failed, where the record may be lost; or both were kept. So it is of a text with these points.
 abbrev pub TextWatched : (bytes : List ℕ) → List Watched → (bound : ℕ) → Choices → (out : List ℕ) → (record_file : Option (List ℕ)) → Status
     → Outside → Outside → (shown : List ℕ) → Lent → Type 0
 TextWatched bytes points bound choices out name s before after shown kernel =
-    OnWatched out name (BrokeRun s kernel.failed (text bytes) bound choices before after shown) (RanWhole (text bytes) bound choices before after shown kernel)
-    (KeepsLog bytes points bound choices out name before after) (LosesRecord bytes points bound choices out name before after)
+    OnKept (out ∷ names_in name) (BrokeRun s kernel.failed (text bytes) bound choices before after shown)
+    (RanWhole (text bytes) bound choices before after shown kernel × (SameFiles before after ⊎ KeepsLog bytes points bound choices out name before after))
+    (RanWhole (text bytes) bound choices before after shown kernel
+    × (SameBut (out ∷ []) before after ⊎ LosesRecord bytes points bound choices out name before after))
     (λ end. Watches bytes points bound choices out name end before after shown kernel) s before after shown kernel
 
 -- And so of every text of this program; a line feed is due before the line of the status, or not.

@@ -1,8 +1,6 @@
 -- Words of contracts. The steps of `watch` from the bytes of its files to what they are.
 use Rattle.std.specs.Prelude.{◌≡◌, ℕ, List, Result, Ok, Err, ⊤}
 use Rattle.edi_tree.specs.Tree.{Program}
-use Rattle.edi_texts.specs.declared.refusal.Refusal.{Refusal}
-use Rattle.edi_texts.specs.Answers.{TextAnswers}
 use Rattle.edi_debug.specs.declared.answer.Points.{Points}
 use Rattle.edi_debug.specs.Points.{bad_line, read, read_of, watched_in}
 use Rattle.edi_runs.specs.declared.watch.source.Watchable.{Watchable}
@@ -11,12 +9,12 @@ use Rattle.edi_statuses.specs.declared.status.Status.{Status}
 use Rattle.edi_statuses.specs.declared.status.Status.TheVariants as status
 use Rattle.edi_statuses.specs.Outside.{Outside, IsSomeFile}
 use Rattle.edi_statuses.specs.Steps.{goes, stops, Fetches}
-use Rattle.edi_commands.specs.run.CodeRan.{refusal_status}
+use Rattle.edi_commands.specs.run.FileSteps.{TextStops}
 
 -- the program of a text, or why the command stops there
 abbrev pub WatchableStep : (bytes : List ℕ) → Result Watchable Status → Type 0
-WatchableStep bytes (Ok w) = TextAnswers (IsWatchable bytes) bytes (Ok w)
-WatchableStep bytes (Err s) = (refusal : Refusal) × (s ≡ refusal_status refusal) × TextAnswers (IsWatchable bytes) bytes (Err refusal)
+WatchableStep bytes (Ok w) = IsWatchable bytes w
+WatchableStep bytes (Err s) = TextStops bytes s
 
 -- the bytes of a file of points are read
 abbrev pub FilePoints : Program → (bytes : List ℕ) → Result Points Status → Type 0

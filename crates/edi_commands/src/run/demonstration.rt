@@ -14,7 +14,8 @@ ghost use Rattle.edi_statuses.specs.Showing.{ShowsBytes};
 ghost use Rattle.edi_commands.specs.run.Blaming.{Blaming};
 ghost use Rattle.edi_commands.specs.run.Demonstrated.{CameAlone, DemoStep, HasCauseAlone, RanAlone, demo_with, is_ok};
 
-use crate::run::timing::{run_with, timed_text};
+use crate::run::texts::code_of_text;
+use crate::run::timing::run_with;
 use crate::steps::{read_from, stopped};
 use arrayvec::ArrayString;
 use edi_host::{Files, Sink, SteadyDrive, SteadySource};
@@ -56,7 +57,7 @@ fn demo_code(alloc: Global, n: u32) -> Result<Demo, Status>
 {
     let text = demo(alloc, n)?;
     let symbols = count_symbols(alloc, &text)?;
-    match timed_text(alloc, &text) {
+    match code_of_text(alloc, &text) {
         Ok(code) => Ok(Demo { code, symbols }),
         Err(status) => Err(status),
     }

@@ -1,18 +1,17 @@
-//! The commands that run the program of a file: `run`, and `replay`, that of a text, `exec` that of a code file.
+//! The commands that run the program of a file: `run`, and `replay`, that of a text, `exec` that of a code file; and the same with a timeline.
 
-ghost use Rattle.std.specs.Prelude.{◌≡◌, true, Some};
+ghost use Rattle.std.specs.Prelude.{◌≡◌, true, Some, option_map};
 ghost use Rattle.edi_words.specs.View.{options_of};
 ghost use Rattle.edi_statuses.specs.EachObject.{DevicesStay, FitsCount, RunStays, handed, is_at_drive, is_before_drive};
 ghost use Rattle.edi_statuses.specs.Outside.{lent, outside_of};
 ghost use Rattle.edi_statuses.specs.Counts.{counts_of, HasCause, NoneFalls};
 ghost use Rattle.edi_statuses.specs.Decided.{Came};
 ghost use Rattle.edi_commands.specs.run.Blaming.{Blaming};
-ghost use Rattle.edi_commands.specs.run.CodeRan.{refusal_status};
-ghost use Rattle.edi_commands.specs.run.FileSteps.{CodeStep, CompileStep, command_with, limit_of};
+ghost use Rattle.edi_commands.specs.run.FileSteps.{CodeStep, command_for, command_with, limit_of, timed_with};
 
-use crate::run::code::run_code;
-use crate::steps::{fetch, load_code, read_from, stopped};
-use edi_compile::{Refusal, compile};
+use crate::run::texts::code_of_text;
+use crate::run::timing::run_with;
+use crate::steps::{load_code, open_program, stopped};
 use edi_host::{Drive, Files, Sink, Source};
 use edi_kernel::Kernel;
 use edi_statuses::{Ended, Status};
@@ -39,34 +38,73 @@ pub(crate) fn limit_of(form: Form) -> usize
     }
 }
 
-/// The status of a command whose text is refused.
-pub(crate) fn refusal_status(refusal: Refusal) -> Status
-    ensures exact { result ≡ refusal_status refusal }
-{
-    match refusal {
-        Refusal::At { kind, line, .. } => Status::Refused(kind, line),
-        Refusal::NoMemory => Status::NoMemory,
-    }
-}
-
-/// The code of a text, or why the command stops there.
-fn compile_text(alloc: Global, bytes: &[u8]) -> Result<Code, Status>
-    ensures compiles { CompileStep bytes.now result }
-{
-    match compile(alloc, bytes) {
-        Ok(code) => Ok(code),
-        Err(refusal) => Err(refusal_status(refusal)),
-    }
-}
-
 /// The code of the bytes of a file, or why the command stops there.
 fn code_of(alloc: Global, form: Form, bytes: &[u8]) -> Result<Code, Status>
     ensures gives { CodeStep form bytes.now result }
 {
     match form {
-        Form::Text => compile_text(alloc, bytes),
+        Form::Text => code_of_text(alloc, bytes),
         Form::Code => load_code(alloc, bytes),
     }
+}
+
+/// Runs the program of a file, and keeps its timeline if there is a name for that: fetches the file, reads the choices, compiles the text or loads the
+/// code, mounts the drive, runs, and keeps the record and the timeline, in this order.
+fn run_form<F: Files, D: Drive, S: Source, T: Sink, P: Sink>(
+    alloc: Global,
+    form: Form,
+    file: &str,
+    timeline: Option<&str>,
+    options: Options<'_>,
+    files: &mut F,
+    drive: &mut D,
+    input: &mut S,
+    terminal: &mut T,
+    printer: &mut P,
+    kernel: &mut Kernel,
+) -> Ended
+    ensures came { Blaming result.status (T.faults terminal.old) (T.faults terminal.new) (P.faults printer.old) (P.faults printer.new)
+        (Came result.status result.due (Some (command_for form (option_map (λ name. name.now) timeline.entry) file.now (options_of options.entry)))
+        (outside_of F.contents D.contents S.left T.taken P.taken files.old drive.old input.old terminal.old printer.old)
+        (outside_of F.contents D.contents S.left T.taken P.taken files.new drive.new input.new terminal.new printer.new))
+        (lent kernel.old.store kernel.old.used kernel.new.store kernel.new.used) }
+    ensures cause { HasCause result.status
+        (counts_of F.faults D.faults S.faults T.faults P.faults files.old drive.old input.old terminal.old printer.old)
+        (counts_of F.faults D.faults S.faults T.faults P.faults files.new drive.new input.new terminal.new printer.new) }
+    ensures later { NoneFalls
+        (counts_of F.faults D.faults S.faults T.faults P.faults files.old drive.old input.old terminal.old printer.old)
+        (counts_of F.faults D.faults S.faults T.faults P.faults files.new drive.new input.new terminal.new printer.new) }
+    ensures size { D.count drive.new ≡ D.count drive.old }
+    ensures fits { FitsCount result.status (D.count drive.old) }
+    ensures early { is_before_drive result.status ≡ true
+        → DevicesStay (handed files.old drive.old input.old terminal.old printer.old kernel.old)
+        (handed files.new drive.new input.new terminal.new printer.new kernel.new) }
+    ensures unmounted { is_at_drive result.status ≡ true
+        → RunStays (handed files.old drive.old input.old terminal.old printer.old kernel.old)
+        (handed files.new drive.new input.new terminal.new printer.new kernel.new) }
+{
+    let mut opened = match open_program(alloc, files, file, limit_of(form), options.choices) {
+        Ok(opened) => opened,
+        Err(status) => return stopped(status),
+    };
+    let code = match code_of(alloc, form, &opened.bytes) {
+        Ok(code) => code,
+        Err(status) => return stopped(status),
+    };
+    run_with(
+        alloc,
+        &code,
+        options.turns,
+        timeline,
+        options.record_file,
+        &mut opened.choices,
+        files,
+        drive,
+        input,
+        terminal,
+        printer,
+        kernel,
+    )
 }
 
 /// `run FILE`, or `exec CODEFILE` where the file has code: fetches the file, reads the choices, compiles the text or loads the code,
@@ -111,24 +149,54 @@ pub fn run_file<F: Files, D: Drive, S: Source, T: Sink, P: Sink>(
         → RunStays (handed files.old drive.old input.old terminal.old printer.old kernel.old)
         (handed files.new drive.new input.new terminal.new printer.new kernel.new) }
 {
-    let bytes = match fetch(alloc, files, file, limit_of(form)) {
-        Ok(bytes) => bytes,
-        Err(status) => return stopped(status),
-    };
-    let mut choices = match read_from(alloc, files, options.choices) {
-        Ok(choices) => choices,
-        Err(status) => return stopped(status),
-    };
-    let code = match code_of(alloc, form, &bytes) {
-        Ok(code) => code,
-        Err(status) => return stopped(status),
-    };
-    run_code(
+    run_form(
+        alloc, form, file, None, options, files, drive, input, terminal, printer, kernel,
+    )
+}
+
+/// `run FILE --timeline OUT`, or `exec CODEFILE --timeline OUT` where the file has code: as `run_file`, and then keeps the timeline of the run, as lines
+/// under the name `OUT.txt` and as a picture under the name `OUT.svg`. The record is kept before them.
+///
+/// Want of memory comes only before the first effect, or where a file is to be kept; no file is kept where an object has failed.
+pub fn time_file<F: Files, D: Drive, S: Source, T: Sink, P: Sink>(
+    alloc: Global,
+    form: Form,
+    file: &str,
+    out: &str,
+    options: Options<'_>,
+    files: &mut F,
+    drive: &mut D,
+    input: &mut S,
+    terminal: &mut T,
+    printer: &mut P,
+    kernel: &mut Kernel,
+) -> Ended
+    ensures came { Blaming result.status (T.faults terminal.old) (T.faults terminal.new) (P.faults printer.old) (P.faults printer.new)
+        (Came result.status result.due (Some (timed_with form file.now out.now (options_of options.entry)))
+        (outside_of F.contents D.contents S.left T.taken P.taken files.old drive.old input.old terminal.old printer.old)
+        (outside_of F.contents D.contents S.left T.taken P.taken files.new drive.new input.new terminal.new printer.new))
+        (lent kernel.old.store kernel.old.used kernel.new.store kernel.new.used) }
+    ensures cause { HasCause result.status
+        (counts_of F.faults D.faults S.faults T.faults P.faults files.old drive.old input.old terminal.old printer.old)
+        (counts_of F.faults D.faults S.faults T.faults P.faults files.new drive.new input.new terminal.new printer.new) }
+    ensures later { NoneFalls
+        (counts_of F.faults D.faults S.faults T.faults P.faults files.old drive.old input.old terminal.old printer.old)
+        (counts_of F.faults D.faults S.faults T.faults P.faults files.new drive.new input.new terminal.new printer.new) }
+    ensures size { D.count drive.new ≡ D.count drive.old }
+    ensures fits { FitsCount result.status (D.count drive.old) }
+    ensures early { is_before_drive result.status ≡ true
+        → DevicesStay (handed files.old drive.old input.old terminal.old printer.old kernel.old)
+        (handed files.new drive.new input.new terminal.new printer.new kernel.new) }
+    ensures unmounted { is_at_drive result.status ≡ true
+        → RunStays (handed files.old drive.old input.old terminal.old printer.old kernel.old)
+        (handed files.new drive.new input.new terminal.new printer.new kernel.new) }
+{
+    run_form(
         alloc,
-        &code,
-        options.turns,
-        options.record_file,
-        &mut choices,
+        form,
+        file,
+        Some(out),
+        options,
         files,
         drive,
         input,

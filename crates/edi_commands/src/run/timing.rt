@@ -1,21 +1,17 @@
-//! A run with a timeline: `run`, `replay` and `exec` with `--timeline OUT`, and what they have in common with `demo`.
+//! A run with a timeline, and a run with one or without.
 
-ghost use Rattle.std.specs.Prelude.{◌≡◌, ⊤, Some, None, true, option_map};
+ghost use Rattle.std.specs.Prelude.{◌≡◌, ⊤, None, true, option_map};
 ghost use Rattle.edi_told.specs.Told.{WhereTold};
-ghost use Rattle.edi_words.specs.View.{options_of};
 ghost use Rattle.edi_statuses.specs.Outside.{lent, outside_of};
 ghost use Rattle.edi_statuses.specs.Counts.{counts_of, HasCause, NoneFalls};
-ghost use Rattle.edi_statuses.specs.Decided.{Came};
-ghost use Rattle.edi_statuses.specs.EachObject.{DevicesStay, FitsCount, RunStays, handed, is_at_drive, is_before_drive};
+ghost use Rattle.edi_statuses.specs.EachObject.{RunStays, handed, is_at_drive};
 ghost use Rattle.edi_commands.specs.run.Blaming.{Blaming};
 ghost use Rattle.edi_commands.specs.run.OnMounted.{DriveAsked};
-ghost use Rattle.edi_commands.specs.run.OnTimed.{RanTimed, RanWith, ReadsTimed, TimedStep, timed_with};
+ghost use Rattle.edi_commands.specs.run.OnTimed.{RanTimed, RanWith};
 
 use crate::run::code::{ending_status, object_status, run_code};
-use crate::run::files::{Form, limit_of};
 use crate::run::timelines::{keep_timed, timed_status};
-use crate::steps::{fetch, load_code, mount_status, read_from, stopped};
-use edi_compile::{Refusal, front, translate};
+use crate::steps::{mount_status, stopped};
 use edi_host::{Drive, Files, Sink, Source};
 use edi_kernel::Kernel;
 use edi_statuses::{Ended, Status};
@@ -23,7 +19,6 @@ use edi_target::Code;
 use edi_timed::on::time_on;
 use edi_timeline::Timeline;
 use edi_trace::Choices;
-use edi_words::Options;
 use std::alloc::Global;
 
 /// Mounts the drive, runs the code on it, on an input, a terminal and a printer, and keeps the record of the choices that it drew, if there is to be
@@ -158,92 +153,4 @@ pub(crate) fn run_with<F: Files, D: Drive, S: Source, T: Sink, P: Sink>(
             kernel,
         ),
     }
-}
-
-/// The code of a text, or why the command stops there.
-pub(crate) fn timed_text(alloc: Global, bytes: &[u8]) -> Result<Code, Status>
-    ensures reads { ReadsTimed bytes.now result }
-{
-    let unit = match front(alloc, bytes) {
-        Ok(unit) => unit,
-        Err(Refusal::At { kind, line, .. }) => return Err(Status::Refused(kind, line)),
-        Err(Refusal::NoMemory) => return Err(Status::NoMemory),
-    };
-    let code = translate(alloc, &unit)?;
-    Ok(code)
-}
-
-/// The code of the bytes of a file, or why the command stops there.
-fn timed_code(alloc: Global, form: Form, bytes: &[u8]) -> Result<Code, Status>
-    ensures gives { TimedStep form bytes.now result }
-{
-    match form {
-        Form::Text => timed_text(alloc, bytes),
-        Form::Code => load_code(alloc, bytes),
-    }
-}
-
-/// `run FILE --timeline OUT`, or `exec CODEFILE --timeline OUT` where the file has code: as `run_file`, and then keeps the timeline of the run, as lines
-/// under the name `OUT.txt` and as a picture under the name `OUT.svg`. The record is kept before them.
-///
-/// Want of memory comes only before the first effect, or where a file is to be kept; no file is kept where an object has failed.
-pub fn time_file<F: Files, D: Drive, S: Source, T: Sink, P: Sink>(
-    alloc: Global,
-    form: Form,
-    file: &str,
-    out: &str,
-    options: Options<'_>,
-    files: &mut F,
-    drive: &mut D,
-    input: &mut S,
-    terminal: &mut T,
-    printer: &mut P,
-    kernel: &mut Kernel,
-) -> Ended
-    ensures came { Blaming result.status (T.faults terminal.old) (T.faults terminal.new) (P.faults printer.old) (P.faults printer.new)
-        (Came result.status result.due (Some (timed_with form file.now out.now (options_of options.entry)))
-        (outside_of F.contents D.contents S.left T.taken P.taken files.old drive.old input.old terminal.old printer.old)
-        (outside_of F.contents D.contents S.left T.taken P.taken files.new drive.new input.new terminal.new printer.new))
-        (lent kernel.old.store kernel.old.used kernel.new.store kernel.new.used) }
-    ensures cause { HasCause result.status
-        (counts_of F.faults D.faults S.faults T.faults P.faults files.old drive.old input.old terminal.old printer.old)
-        (counts_of F.faults D.faults S.faults T.faults P.faults files.new drive.new input.new terminal.new printer.new) }
-    ensures later { NoneFalls
-        (counts_of F.faults D.faults S.faults T.faults P.faults files.old drive.old input.old terminal.old printer.old)
-        (counts_of F.faults D.faults S.faults T.faults P.faults files.new drive.new input.new terminal.new printer.new) }
-    ensures size { D.count drive.new ≡ D.count drive.old }
-    ensures fits { FitsCount result.status (D.count drive.old) }
-    ensures early { is_before_drive result.status ≡ true
-        → DevicesStay (handed files.old drive.old input.old terminal.old printer.old kernel.old)
-        (handed files.new drive.new input.new terminal.new printer.new kernel.new) }
-    ensures unmounted { is_at_drive result.status ≡ true
-        → RunStays (handed files.old drive.old input.old terminal.old printer.old kernel.old)
-        (handed files.new drive.new input.new terminal.new printer.new kernel.new) }
-{
-    let bytes = match fetch(alloc, files, file, limit_of(form)) {
-        Ok(bytes) => bytes,
-        Err(status) => return stopped(status),
-    };
-    let mut choices = match read_from(alloc, files, options.choices) {
-        Ok(choices) => choices,
-        Err(status) => return stopped(status),
-    };
-    let code = match timed_code(alloc, form, &bytes) {
-        Ok(code) => code,
-        Err(status) => return stopped(status),
-    };
-    time_code(
-        alloc,
-        &code,
-        options.turns,
-        out,
-        options.record_file,
-        &mut choices,
-        files,
-        drive,
-        input,
-        terminal,
-        printer,
-        kernel,
-    )
 }

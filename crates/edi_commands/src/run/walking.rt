@@ -10,12 +10,12 @@ ghost use Rattle.edi_statuses.specs.Counts.{counts_of, counts_with, HasCause, No
 ghost use Rattle.edi_statuses.specs.Decided.{Came};
 ghost use Rattle.edi_commands.specs.run.Blaming.{Blaming};
 ghost use Rattle.edi_commands.specs.run.OnMounted.{DriveAsked};
-ghost use Rattle.edi_commands.specs.run.OnWalked.{end_status, RanWalk, UnitStep};
+ghost use Rattle.edi_commands.specs.run.OnWalked.{end_status, RanWalk};
 
 use crate::run::code::object_status;
-use crate::steps::{fetch, mount_status, read_from, stopped};
+use crate::run::texts::{LIMIT, unit_of_text};
+use crate::steps::{mount_status, open_program, stopped};
 use edi_calls::Cause;
-use edi_compile::{Refusal, front};
 use edi_host::{Drive, Files, Sink, Source};
 use edi_runs::walk::walk_on;
 use edi_statuses::{Ended, Status};
@@ -24,20 +24,6 @@ use edi_unit::Unit;
 use edi_walk::WalkEnd;
 use edi_words::ChoicesFrom;
 use std::alloc::Global;
-
-/// As many bytes as decide what a text is.
-const LIMIT: usize = 262_145;
-
-/// The unit of a text, or why the command stops there.
-fn unit_of_text(alloc: Global, bytes: &[u8]) -> Result<Unit, Status>
-    ensures reads { UnitStep bytes.now result }
-{
-    match front(alloc, bytes) {
-        Ok(unit) => Ok(unit),
-        Err(Refusal::At { kind, line, .. }) => Err(Status::Refused(kind, line)),
-        Err(Refusal::NoMemory) => Err(Status::NoMemory),
-    }
-}
 
 /// The status of a command whose walk has come to this end, which is no fault.
 fn end_status(end: WalkEnd) -> Status
@@ -144,15 +130,11 @@ pub fn walk_file<F: Files, D: Drive, S: Source, T: Sink, P: Sink>(
         (handed files.new drive.new input.new terminal.new printer.new (tt {0})) }
     ensures unmounted { is_at_drive result.status ≡ true → (input.new ≡ input.old) × (printer.new ≡ printer.old) }
 {
-    let bytes = match fetch(alloc, files, file, LIMIT) {
-        Ok(bytes) => bytes,
+    let mut opened = match open_program(alloc, files, file, LIMIT, ChoicesFrom::File(choices)) {
+        Ok(opened) => opened,
         Err(status) => return stopped(status),
     };
-    let mut chosen = match read_from(alloc, files, ChoicesFrom::File(choices)) {
-        Ok(chosen) => chosen,
-        Err(status) => return stopped(status),
-    };
-    let unit = match unit_of_text(alloc, &bytes) {
+    let unit = match unit_of_text(alloc, &opened.bytes) {
         Ok(unit) => unit,
         Err(status) => return stopped(status),
     };
@@ -160,7 +142,7 @@ pub fn walk_file<F: Files, D: Drive, S: Source, T: Sink, P: Sink>(
         alloc,
         &unit,
         turns,
-        &mut chosen,
+        &mut opened.choices,
         drive,
         input,
         terminal,

@@ -10,9 +10,10 @@ ghost use Rattle.edi_statuses.specs.Decided.{Came};
 ghost use Rattle.edi_commands.specs.run.Blaming.{Blaming};
 ghost use Rattle.edi_commands.specs.run.WatchedFiles.{WatchableStep};
 
-use crate::run::files::refusal_status;
 use crate::run::logging::{points_from, watch_program};
-use crate::steps::{fetch, read_from, stopped};
+use crate::run::texts::LIMIT;
+use crate::steps::{open_program, stopped};
+use edi_compile::Refusal;
 use edi_host::{Drive, Files, Sink, Source};
 use edi_kernel::Kernel;
 use edi_runs::watch::{Watchable, read_watchable};
@@ -20,16 +21,14 @@ use edi_statuses::{Ended, Status};
 use edi_words::Options;
 use std::alloc::Global;
 
-/// As many bytes as decide what a text is.
-const LIMIT: usize = 262_145;
-
 /// The program of a text, or why the command stops there.
 fn watchable_text(alloc: Global, bytes: &[u8]) -> Result<Watchable, Status>
     ensures reads { WatchableStep bytes.now result }
 {
     match read_watchable(alloc, bytes) {
         Ok(watched) => Ok(watched),
-        Err(refusal) => Err(refusal_status(refusal)),
+        Err(Refusal::At { kind, line, .. }) => Err(Status::Refused(kind, line)),
+        Err(Refusal::NoMemory) => Err(Status::NoMemory),
     }
 }
 
@@ -71,15 +70,11 @@ pub fn watch_file<F: Files, D: Drive, S: Source, T: Sink, P: Sink>(
         → RunStays (handed files.old drive.old input.old terminal.old printer.old kernel.old)
         (handed files.new drive.new input.new terminal.new printer.new kernel.new) }
 {
-    let bytes = match fetch(alloc, files, file, LIMIT) {
-        Ok(bytes) => bytes,
+    let mut opened = match open_program(alloc, files, file, LIMIT, options.choices) {
+        Ok(opened) => opened,
         Err(status) => return stopped(status),
     };
-    let mut choices = match read_from(alloc, files, options.choices) {
-        Ok(choices) => choices,
-        Err(status) => return stopped(status),
-    };
-    let watched = match watchable_text(alloc, &bytes) {
+    let watched = match watchable_text(alloc, &opened.bytes) {
         Ok(watched) => watched,
         Err(status) => return stopped(status),
     };
@@ -94,7 +89,7 @@ pub fn watch_file<F: Files, D: Drive, S: Source, T: Sink, P: Sink>(
         options.turns,
         out,
         options.record_file,
-        &mut choices,
+        &mut opened.choices,
         files,
         drive,
         input,

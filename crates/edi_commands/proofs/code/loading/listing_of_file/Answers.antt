@@ -2,7 +2,9 @@
 use Rattle.std.proofs.Common.{◌∙◌, ℕ, Vec, Global}
 use Rattle.edi_statuses.specs.Outside.{Outside, still_told}
 use Rattle.edi_commands.specs.steps.OnFiles.{files_only}
-use Rattle.edi_commands.proofs.code.Listed.{file_listed, not_fetched}
+use Rattle.edi_statuses.specs.Steps.{Loads}
+use Rattle.edi_commands.proofs.steps.OnFilesLemmas.{first_stops}
+use Rattle.edi_commands.proofs.code.Listed.{file_listed}
 use Rattle.edi_commands.proofs.code.loading.listing_of_file.Goals as goal
 
 pub returns-in-Ok-clause-lists : goal.returns-in-Ok-clause-lists
@@ -15,4 +17,4 @@ returns-in-Ok-clause-lists g c =
 pub returns-in-Err-clause-lists : goal.returns-in-Err-clause-lists
 returns-in-Err-clause-lists g c =
     let o : Outside = files_only (still_told (g.F.Files.contents c.args.files.now) (g.F.Files.contents c.fetch.new.files)) in
-    not_fetched (λ (v : Vec ℕ Global). v.items) (λ (v : Vec ℕ Global). v.items) o c.args.file.now 8388641 c.in-Err.status c.in-Err.ensures.fetched
+    first_stops (λ (v : Vec ℕ Global). v.items) Loads o c.args.file.now 8388641 c.in-Err.status c.in-Err.ensures.fetched

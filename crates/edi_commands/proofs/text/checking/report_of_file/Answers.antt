@@ -1,8 +1,11 @@
 -- The first bytes of the file decide what its text is.
-use Rattle.std.proofs.Common.{◌∙◌, ℕ, Vec, Global}
+use Rattle.std.proofs.Common.{◌∙◌, ℕ, List, Vec, Global}
+use Rattle.edi_unit.specs.Tree.{ProgramUnit}
 use Rattle.edi_statuses.specs.Outside.{Outside, still_told}
 use Rattle.edi_commands.specs.steps.OnFiles.{files_only}
-use Rattle.edi_commands.proofs.text.Checked.{file_reported, not_fetched}
+use Rattle.edi_statuses.specs.Steps.{◌>>=◌, Ready, Accepts}
+use Rattle.edi_commands.proofs.steps.OnFilesLemmas.{first_stops}
+use Rattle.edi_commands.proofs.text.Checked.{file_reported}
 use Rattle.edi_commands.proofs.text.checking.report_of_file.Goals as goal
 
 pub returns-in-Ok-clause-reports : goal.returns-in-Ok-clause-reports
@@ -15,4 +18,5 @@ returns-in-Ok-clause-reports g c =
 pub returns-in-Err-clause-reports : goal.returns-in-Err-clause-reports
 returns-in-Err-clause-reports g c =
     let o : Outside = files_only (still_told (g.F.Files.contents c.args.files.now) (g.F.Files.contents c.fetch.new.files)) in
-    not_fetched (λ (v : Vec ℕ Global). v.items) (λ (v : Vec ℕ Global). v.items) o c.args.file.now 262145 c.in-Err.status c.in-Err.ensures.fetched
+    first_stops {A = List ℕ × ProgramUnit} (λ (v : Vec ℕ Global). v.items) (λ bytes. Accepts bytes >>= λ unit. Ready (bytes, unit)) o c.args.file.now 262145
+    c.in-Err.status c.in-Err.ensures.fetched
