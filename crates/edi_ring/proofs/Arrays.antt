@@ -1,5 +1,6 @@
 -- The arrays and the lists that they hold.
-use Rattle.std.proofs.Common.{◌≡◌, ℕ, suc, zero, ◌<◌, List, [], ◌∷◌, length, refl, sym, ◌∙◌, ap, arith, subst, get_or, set, get_or-set_same, get_or-set_other}
+use Rattle.std.proofs.Common.{◌≡◌, ℕ, suc, zero, ◌-◌, ◌<◌, List, [], ◌∷◌, length, refl, sym, ◌∙◌, ap, arith, subst}
+use Rattle.std.proofs.Common.{get_or, set, get_or-set_same, get_or-set_other}
 use Rattle.std.specs.Prelude.{Option, Some, None, slice_get}
 use Rattle.std.proofs.lemmas.List.{same_lists, length-map, get_or_default, get_or-map}
 use Rattle.edi_ring.specs.declared.Ends.{Ends}
@@ -39,6 +40,20 @@ next-slice_get next prev first last b (y ∷ []) zero x r h = let same : y ≡ x
 next-slice_get next prev first last b (y ∷ z ∷ ys) zero x r h = let same : y ≡ x = cc in subst (λ (w : ℕ). get_or next w None ≡ Some z) same r.2.0
 next-slice_get next prev first last b (y ∷ ys) (suc k) x r h = next-slice_get next prev first last (Some y) ys k x r.2 h
 
+-- and back
+pub prev-slice_get : (next prev : List (Option ℕ)) (first last b : Option ℕ) (xs : List ℕ) (k x : ℕ) → Runs (step next first) (step prev last) b xs
+    → slice_get xs (suc k) ≡ Some x → get_or prev x None ≡ slice_get xs k
+prev-slice_get next prev first last b [] k x r h = cc
+prev-slice_get next prev first last b (y ∷ []) k x r h = let none : None ≡ Some x = h in absurd (cc)
+prev-slice_get next prev first last b (y ∷ z ∷ ys) zero x r h = let same : z ≡ x = cc in subst (λ (w : ℕ). get_or prev w None ≡ Some y) same r.2.1
+prev-slice_get next prev first last b (y ∷ z ∷ ys) (suc k) x r h = prev-slice_get next prev first last (Some y) (z ∷ ys) k x r.2 h
+
+-- the last place of a chain
+last-slice_get : (next prev : List (Option ℕ)) (first last b : Option ℕ) (x : ℕ) (xs : List ℕ) → Runs (step next first) (step prev last) b (x ∷ xs)
+    → last ≡ slice_get (x ∷ xs) (length xs)
+last-slice_get next prev first last b x [] r = r.2.1
+last-slice_get next prev first last b x (y ∷ ys) r = last-slice_get next prev first last (Some x) y ys r.2
+
 pub walk-Stands : (next prev : List (Option ℕ)) (e : Ends) (xs : List ℕ) → ListStands next prev e xs → walk next e.first e.len ≡ xs
 walk-Stands next prev e xs s = rw s.counted (walk-Runs next prev e.first e.last None xs s.runs)
 
@@ -58,6 +73,14 @@ lists_in-IsLinked next prev home ends lists h =
 pub first-Stands : (next prev : List (Option ℕ)) (e : Ends) (xs : List ℕ) → ListStands next prev e xs → e.first ≡ slice_get xs 0
 first-Stands next prev e [] s = s.runs.0
 first-Stands next prev e (x ∷ xs) s = s.runs.0
+
+-- the last place of a chain is its last node
+pub last-Stands : (next prev : List (Option ℕ)) (e : Ends) (xs : List ℕ) → ListStands next prev e xs → 0 < length xs
+    → e.last ≡ slice_get xs (length xs - 1)
+last-Stands next prev e [] s lt = absurd (omega (arith, lt))
+last-Stands next prev e (x ∷ xs) s lt =
+    let front : length (x ∷ xs) - 1 ≡ length xs = omega arith in
+    rw front (last-slice_get next prev e.first e.last None x xs s.runs)
 
 -- what the arrays hold is what callers see
 pub IsLinked-view : (next prev home : List (Option ℕ)) (ends : List Ends) (lists : List (List ℕ))

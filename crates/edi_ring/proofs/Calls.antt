@@ -1,5 +1,5 @@
 -- What a call leaves behind, as its clauses say it.
-use Rattle.std.proofs.Common.{◌≡◌, ℕ, zero, suc, ◌+◌, ◌<◌, ◌≤◌, inl, inr, cond, List, [], ◌∷◌, ◌++◌, length, refl, sym, ◌∙◌, ap, arith, subst, eqb}
+use Rattle.std.proofs.Common.{◌≡◌, ℕ, zero, suc, ◌+◌, ◌-◌, ◌<◌, ◌≤◌, inl, inr, cond, List, [], ◌∷◌, ◌++◌, length, refl, sym, ◌∙◌, ap, arith, subst, eqb}
 use Rattle.std.proofs.Common.{eq-eqb, get_or, set, get_or-set_same, get_or-set_other, length-set, add-one}
 use Rattle.std.specs.Prelude.{Option, Some, None, IsSome, slice_get}
 use Rattle.std.proofs.lemmas.Bool.{cases_eq, ne_eqb}
@@ -8,7 +8,7 @@ use Rattle.edi_ring.specs.declared.Ends.{Ends}
 use Rattle.edi_ring.specs.Lists.{list_at, home_of, appended, without, IsSound}
 use Rattle.edi_ring.specs.Links.{lists_in, redirected, redirected_end, shortened, step, IsLinked, IsAmong, no_ends}
 use Rattle.edi_ring.proofs.Chain.{before_first}
-use Rattle.edi_ring.proofs.Arrays.{IsLinked-view, IsLinked-again, lists_in-IsLinked, first-Stands, next-slice_get}
+use Rattle.edi_ring.proofs.Arrays.{IsLinked-view, IsLinked-again, lists_in-IsLinked, first-Stands, last-Stands, next-slice_get, prev-slice_get}
 use Rattle.edi_ring.proofs.Homes.{IsSound-IsLinked, home_of-IsLinked, length-le-nodes}
 use Rattle.edi_ring.proofs.Moves as moves
 
@@ -71,6 +71,10 @@ module _ (nodes count : ℕ) (next prev home : List (Option ℕ)) (ends : List E
   pub first_index : (list : ℕ) → list < count → (get_or ends list no_ends).first ≡ slice_get (list_at lists list) 0
   first_index list lt = first-Stands next prev (get_or ends list no_ends) (list_at lists list) (linked.stands list (omega (arith, many)))
 
+  pub last_index : (list : ℕ) → list < count → 0 < length (list_at lists list)
+      → (get_or ends list no_ends).last ≡ slice_get (list_at lists list) (length (list_at lists list) - 1)
+  last_index list lt some = last-Stands next prev (get_or ends list no_ends) (list_at lists list) (linked.stands list (omega (arith, many))) some
+
   pub counted : (list : ℕ) → list < count → (get_or ends list no_ends).len ≡ length (list_at lists list)
   counted list lt = (linked.stands list (omega (arith, many))).counted
 
@@ -85,6 +89,10 @@ module _ (nodes count : ℕ) (next prev home : List (Option ℕ)) (ends : List E
       (k + 1)
   next_index list k node lt at_k =
       rw add-one (next-slice_get next prev _ _ _ (list_at lists list) k node (linked.stands list (omega (arith, many))).runs at_k)
+
+  pub previous_index : (list k node : ℕ) → list < count → slice_get (list_at lists list) (suc k) ≡ Some node
+      → get_or prev node None ≡ slice_get (list_at lists list) k
+  previous_index list k node lt at_k = prev-slice_get next prev _ _ _ (list_at lists list) k node (linked.stands list (omega (arith, many))).runs at_k
 
   module _ (list node : ℕ) (is_list : list < count) (is_node : node < nodes) (free : home_of lists node ≡ None) where
     abbrev e : Ends
@@ -163,6 +171,32 @@ module _ (nodes count : ℕ) (next prev home : List (Option ℕ)) (ends : List E
       some_there =
           let counted = (linked.stands list (let lt = is_list in omega (arith, many))).counted in
           let some = some_among node (list_at lists list) (linked.among_list list node its_home) in omega arith
+
+  -- the node at an index of a list
+  module _ (list k node : ℕ) (is_list : list < count) (at_k : slice_get (list_at lists list) k ≡ Some node) where
+    home_at : get_or home node None ≡ Some list
+    home_at = linked.homes list node (among_at (list_at lists list) k node at_k)
+
+    listed_at : IsSome (home_of lists node)
+    listed_at = rw (home_is node ∙ home_at) refl
+
+    is_within : node < nodes
+    is_within = index_within list k node at_k
+
+    pub before_within : (c : ℕ) → get_or prev node None ≡ Some c → c < nodes
+    before_within = preceding_within node is_within listed_at list home_at
+
+    pub after_within : (c : ℕ) → get_or next node None ≡ Some c → c < nodes
+    after_within = following_within node is_within listed_at list home_at
+
+    pub some_here : 1 ≤ (get_or ends list no_ends).len
+    some_here = some_there node is_within listed_at list home_at
+
+    pub place_leaves : Leaves nodes count (redirected next (get_or prev node None) (get_or next node None))
+        (redirected prev (get_or next node None) (get_or prev node None)) (set home node None)
+        (set ends list (shortened (get_or ends list no_ends) (get_or prev node None) (get_or next node None)))
+        (without lists node) (λ q. cond (eqb q node) None (home_of lists q))
+    place_leaves = take_leaves node is_within listed_at list home_at
 
   -- the first node of a list
   module _ (list node : ℕ) (is_list : list < count) (is_first : (get_or ends list no_ends).first ≡ Some node) where

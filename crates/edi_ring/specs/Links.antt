@@ -1,5 +1,5 @@
 -- Helper. How the arrays hold the lists.
-use Rattle.std.specs.Prelude.{◌≡◌, ℕ, zero, suc, ◌-◌, ◌<◌, ◌⊎◌, Option, Some, None, List, [], ◌∷◌, length, map, slice_index_or, slice_set}
+use Rattle.std.specs.Prelude.{◌≡◌, ℕ, zero, suc, ◌+◌, ◌-◌, ◌<◌, ◌⊎◌, Option, Some, None, List, [], ◌∷◌, length, map, slice_index_or, slice_set}
 use Rattle.edi_ring.specs.declared.Ends.{Ends}
 use Rattle.edi_ring.specs.Lists.{list_at}
 
@@ -27,6 +27,10 @@ redirected links (Some node) target = slice_set links node target
 abbrev pub redirected_end : Option ℕ → Option ℕ → Option ℕ → Option ℕ
 redirected_end end None target = target
 redirected_end end (Some node) target = end
+
+-- the ends of a list whose links lead on to one more node, the one at this place
+abbrev pub lengthened : Ends → Option ℕ → Ends
+lengthened e here = record { first = redirected_end e.first e.last here; last = here; len = e.len + 1 }
 
 -- the ends of a list whose links lead past one of its nodes, the one between these two places
 abbrev pub shortened : Ends → Option ℕ → Option ℕ → Ends

@@ -1,10 +1,10 @@
 //! Lists linked by index: `M` doubly linked lists over the nodes `0` to `N - 1`, kept in fixed arrays.
 #![tactic(auto)]
 
-ghost use Rattle.std.specs.Prelude.{◌≡◌, ℕ, ◌+◌, ◌<◌, ◌≤◌, ◌==◌, ◌^◌, if◌then◌else◌, Some, None, [], length, replicate, IsSome, IfSome, slice_get, slice_index_or};
+ghost use Rattle.std.specs.Prelude.{◌≡◌, ℕ, ◌+◌, ◌-◌, ◌<◌, ◌≤◌, ◌==◌, ◌^◌, if◌then◌else◌, Some, None, [], length, replicate, IsSome, IfSome, slice_get, slice_index_or, slice_set};
 ghost use Rattle.std.specs.Option.{ForSome};
 ghost use Rattle.edi_ring.specs.Lists.{list_at, home_of, appended, without, IsSound};
-ghost use Rattle.edi_ring.specs.Links.{no_ends, redirected, redirected_end, shortened};
+ghost use Rattle.edi_ring.specs.Links.{no_ends, redirected, redirected_end, lengthened, shortened};
 
 use std::marker::Model;
 
@@ -74,7 +74,7 @@ struct Ends {
 /// `M` lists of nodes. A node is a number below `N`, and it stands in one list at most.
 ///
 /// Contracts see the lists themselves, each as the list of its nodes from the front to the back.
-/// Every call but `nth` and `at` takes a few steps, whatever the lengths of the lists, and none allocates.
+/// Every call but `nth`, `at` and `take_at` takes a few steps, whatever the lengths of the lists, and none allocates.
 #[derive(Debug, Drop)]
 pub struct Lists<const N: usize, const M: usize> {
     ends: [Ends; M],
@@ -136,6 +136,60 @@ fn lead_past<const N: usize>(
     ends.len -= 1;
 }
 
+// The same where the ends are those of one list among others.
+#[tactic(auto, using(crate::proofs::Elements::ends_there))]
+#[inline(always)]
+fn lead_past_in<const N: usize, const M: usize>(
+    next: &mut [Link; N],
+    prev: &mut [Link; N],
+    ends: &mut [Ends; M],
+    list: usize,
+    before: Link,
+    after: Link,
+)
+    requires list_in_range { list < M }
+    requires before_in_range { ForSome before (λ node. node < N) }
+    requires after_in_range { ForSome after (λ node. node < N) }
+    requires some { 0 < (slice_index_or ends.old list no_ends).len }
+    ensures next { next.new ≡ redirected next.old before after }
+    ensures prev { prev.new ≡ redirected prev.old after before }
+    ensures ends { ends.new ≡ slice_set ends.old list (shortened (slice_index_or ends.old list no_ends) before after) }
+{
+    lead_past(next, prev, &mut ends[list], before, after);
+}
+
+// Leads the links of a list on to the node behind its last one, and counts one more.
+#[inline(always)]
+fn lead_on<const N: usize>(next: &mut [Link; N], ends: &mut Ends, here: Link)
+    requires last_in_range { ForSome ends.old.last (λ node. node < N) }
+    requires room { ends.old.len + 1 < 2 ^ 64 }
+    ensures next { next.new ≡ redirected next.old ends.old.last here }
+    ensures ends { ends.new ≡ lengthened ends.old here }
+{
+    let last = ends.last;
+    redirect(next, &mut ends.first, last, here);
+    ends.last = here;
+    ends.len += 1;
+}
+
+// The same where the ends are those of one list among others.
+#[tactic(auto, using(crate::proofs::Elements::ends_there))]
+#[inline(always)]
+fn lead_on_in<const N: usize, const M: usize>(
+    next: &mut [Link; N],
+    ends: &mut [Ends; M],
+    list: usize,
+    here: Link,
+)
+    requires list_in_range { list < M }
+    requires last_in_range { ForSome (slice_index_or ends.old list no_ends).last (λ node. node < N) }
+    requires room { (slice_index_or ends.old list no_ends).len + 1 < 2 ^ 64 }
+    ensures next { next.new ≡ redirected next.old (slice_index_or ends.old list no_ends).last here }
+    ensures ends { ends.new ≡ slice_set ends.old list (lengthened (slice_index_or ends.old list no_ends) here) }
+{
+    lead_on(next, &mut ends[list], here);
+}
+
 impl<const N: usize, const M: usize> Model for Lists<N, M> {
     ghost use Rattle.std.specs.Prelude.{ℕ, List};
     ghost use Rattle.edi_ring.specs.Links.{lists_in, IsLinked};
@@ -177,20 +231,14 @@ impl<const N: usize, const M: usize> Lists<N, M> {
         ensures homes { (q : ℕ) → home_of self.new q ≡ (if q == node then Some list else home_of self.old q) }
         ensures sound { IsSound N M self.new }
     {
-        let ends = ends_at(&self.ends, list);
+        let last = ends_at(&self.ends, list).last;
         let here = Link::to(node);
         let home = Link::to(list);
         let none = Link::none();
-        let mut first = ends.first;
         self.next[node] = none;
-        self.prev[node] = ends.last;
+        self.prev[node] = last;
         self.home[node] = home;
-        redirect(&mut self.next, &mut first, ends.last, here);
-        self.ends[list] = Ends {
-            first,
-            last: here,
-            len: ends.len + 1,
-        };
+        lead_on_in(&mut self.next, &mut self.ends, list, here);
     }
 
     /// Removes the node, which is in a list, from there.
@@ -206,9 +254,14 @@ impl<const N: usize, const M: usize> Lists<N, M> {
         let before = link_at(&self.prev, node);
         let after = link_at(&self.next, node);
         let none = Link::none();
-        let mut ends = ends_at(&self.ends, list);
-        lead_past(&mut self.next, &mut self.prev, &mut ends, before, after);
-        self.ends[list] = ends;
+        lead_past_in(
+            &mut self.next,
+            &mut self.prev,
+            &mut self.ends,
+            list,
+            before,
+            after,
+        );
         self.home[node] = none;
     }
 
@@ -222,12 +275,45 @@ impl<const N: usize, const M: usize> Lists<N, M> {
         ensures homes { (q : ℕ) → home_of self.new q ≡ (if q == result then None else home_of self.old q) }
         ensures sound { IsSound N M self.new }
     {
-        let mut ends = ends_at(&self.ends, list);
-        let node = ends.first.there();
+        let node = ends_at(&self.ends, list).first.there();
         let after = link_at(&self.next, node);
         let none = Link::none();
-        lead_past(&mut self.next, &mut self.prev, &mut ends, none, after);
-        self.ends[list] = ends;
+        lead_past_in(
+            &mut self.next,
+            &mut self.prev,
+            &mut self.ends,
+            list,
+            none,
+            after,
+        );
+        self.home[node] = none;
+        node
+    }
+
+    /// Removes the node at index `i` of the list, which has one there, from there; counted from 0 at the front. It goes from node to node, as
+    /// `at` does.
+    #[tactic(auto, using(crate::proofs::Calls::before_within, crate::proofs::Calls::after_within, crate::proofs::Calls::some_here))]
+    pub fn take_at(&mut self, list: usize, i: usize) -> usize
+        requires list_in_range { list < M }
+        requires there { i < length (list_at self.old list) }
+        ensures was { slice_get (list_at self.old list) i ≡ Some result }
+        ensures within { result < N }
+        ensures exact { self.new ≡ without self.old result }
+        ensures homes { (q : ℕ) → home_of self.new q ≡ (if q == result then None else home_of self.old q) }
+        ensures sound { IsSound N M self.new }
+    {
+        let node = self.at(list, i);
+        let before = link_at(&self.prev, node);
+        let after = link_at(&self.next, node);
+        let none = Link::none();
+        lead_past_in(
+            &mut self.next,
+            &mut self.prev,
+            &mut self.ends,
+            list,
+            before,
+            after,
+        );
         self.home[node] = none;
         node
     }
@@ -269,7 +355,36 @@ impl<const N: usize, const M: usize> Lists<N, M> {
         index
     }
 
-    /// The node at index `i` of the list, which has one there; counted from 0 at the front. It goes from node to node, as `nth` does.
+    // The node at index `i` of the list, by the links from its front.
+    fn from_front(&self, list: usize, i: usize) -> usize
+        requires list_in_range { list < M }
+        requires there { i < length (list_at self.now list) }
+        ensures exact { slice_get (list_at self.now list) i ≡ Some result }
+        ensures within { result < N }
+    {
+        let mut place = ends_at(&self.ends, list).first;
+        for _step in 0..i {
+            place = link_at(&self.next, place.there());
+        }
+        place.there()
+    }
+
+    // The node that stands so many before the last one of the list, by the links from its back.
+    fn from_back(&self, list: usize, before: usize) -> usize
+        requires list_in_range { list < M }
+        requires there { before < length (list_at self.now list) }
+        ensures exact { slice_get (list_at self.now list) (length (list_at self.now list) - 1 - before) ≡ Some result }
+        ensures within { result < N }
+    {
+        let mut place = ends_at(&self.ends, list).last;
+        for _step in 0..before {
+            place = link_at(&self.prev, place.there());
+        }
+        place.there()
+    }
+
+    /// The node at index `i` of the list, which has one there; counted from 0 at the front. It goes from node to node, as `nth` does, but from
+    /// the nearer end.
     pub fn at(&self, list: usize, i: usize) -> usize
         requires list_in_range { list < M }
         requires there { i < length (list_at self.now list) }
@@ -277,11 +392,11 @@ impl<const N: usize, const M: usize> Lists<N, M> {
         ensures within { result < N }
         ensures sound { IsSound N M self.now }
     {
-        let mut place = ends_at(&self.ends, list).first;
-        for _step in 0..i {
-            place = link_at(&self.next, place.there());
+        let len = self.len(list);
+        if i < len / 2 {
+            return self.from_front(list, i);
         }
-        place.there()
+        self.from_back(list, len - 1 - i)
     }
 
     /// How many nodes the list has.
