@@ -21,10 +21,10 @@ use Rattle.edi_kernel.specs.Table.{is_waiting, no_marks, with_process}
 use Rattle.edi_kernel.specs.TableIsMachine.{IsTable, IsTaken, IsBetween}
 use Rattle.edi_kernel.specs.Stretch.{Allows}
 use Rattle.edi_kernel.specs.Forks.{HaveBegun}
-use Rattle.edi_kernel.specs.Kernel.{Handles, HandlesTurn}
+use Rattle.edi_kernel.specs.Kernel.{Handles, HandlesTurn, IsTakenIn, taken_after}
 use Rattle.edi_kernel.proofs.Lists.{put_table, written_table, none_marked}
 use Rattle.edi_kernel.proofs.Sharing.{added_table}
-use Rattle.edi_kernel.proofs.Switches.{unmarked_table, unmarked_taken, marked_table, marked_taken, stood_between}
+use Rattle.edi_kernel.proofs.Switches.{unmarked_table, unmarked_taken, marked_table, marked_taken, stood_between, gone_table, gone_taken}
 use Rattle.edi_kernel.proofs.Exits.{freed_table}
 
 -- no marks at all are counted as none
@@ -119,7 +119,9 @@ module _ (words : List ℕ) (slot used : ℕ) (a : Activity) (old new : KernelSt
   )
 
   pub handled : (p : Pause) (live : ℕ) (l : Local) → Allows (Some p) words live (slot == 0) l → Handles p words slot used a old new result → IsTable new.table
-      × IsBetween new.table
-  handled (pause.Over ending) live l allowed h =
-      (subst IsTable (sym h.0) (unmarked_table old.table table), none_counted new.table (ap (λ t. t.marked) h.0) (ap (λ t. t.marks) h.0))
+      × IsTakenIn new.table (taken_after p (Some slot))
+  handled (pause.Over ending) live l allowed h = (
+    subst IsTable (sym h.0) (gone_table (unmarked old.table) slot a (unmarked_table old.table table) (unmarked_taken old.table slot taken) ordered),
+    subst (λ t. IsTaken t slot) (sym h.0) (gone_taken (unmarked old.table) slot a (unmarked_table old.table table) (unmarked_taken old.table slot taken)),
+  )
   handled (pause.At k) live l allowed h = handled_turn k live l allowed h

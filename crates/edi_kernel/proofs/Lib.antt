@@ -26,6 +26,7 @@ pub mod Choosing
 pub mod Starting
 pub mod Moments
 pub mod Rounds
+pub mod Underway
 pub mod Named
 pub mod Endings
 pub mod Settling

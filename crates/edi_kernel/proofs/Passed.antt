@@ -2,15 +2,13 @@
 use Rattle.std.proofs.Common.{◌≡◌, ℕ, zero, suc, ◌⊎◌, inl, inr, List, [], ◌∷◌, ◌++◌, length, Option, Some, None, refl, sym, subst, ap, ◌∙◌, arith}
 use Rattle.std.specs.Prelude.{Contains}
 use Rattle.std.proofs.lemmas.List.Elements.{Contains-append_cases}
-use Rattle.edi_calls.specs.declared.ends.Outside.{Outside}
-use Rattle.edi_calls.specs.Asked.{uses}
 use Rattle.edi_calls.specs.Calls.{CallResult, answered, no_file, file_limit, call}
 use Rattle.edi_calls.specs.Choice.{Choices}
 use Rattle.edi_calls.specs.Names.{Name, find}
 use Rattle.edi_calls.specs.Ready.{stays, joins, Taking, nobody, taking, take_next}
 use Rattle.edi_calls.specs.Laws.{IsSameOutside}
 use Rattle.edi_calls.specs.State.{State, moments_of, newest}
-use Rattle.edi_calls.proofs.Parts.{torn_is_before_or_behind_all}
+use Rattle.edi_calls.proofs.Parts.{done_by, torn_is_before_or_behind_all}
 use Rattle.edi_machine.specs.Steps.{Tears}
 use Rattle.edi_target.specs.Op.{Instruction}
 use Rattle.edi_target.specs.Check.{CodeParts}
@@ -282,7 +280,7 @@ fault_is_moment code system bound old new used now f = go (call f.fails.number f
         (moment : State) × ComesThrough (target.fetch code.words) code.entry code.calls system bound old.source old.drawn moment × IsSameOutside moment now
     go (answered words next) is torn = elim (torn_is_before_or_behind_all f.fails.number f.fails.arguments words m.system next now is torn) [
       | inl same ↦ (m.system, before, same)
-      | inr same ↦ (next, behind words next is, same)
+      | inr same ↦ (next, behind words next is, same.1)
     ]
     go no_file is torn = absurd torn
     go file_limit is torn = absurd torn
@@ -309,7 +307,10 @@ fault_is_call code system bound old new used now f outside uses_it = go (call f.
           last = moment_is_newest code system bound old.source old.drawn f.steps f.at f.is;
         };
         asks = record { number = f.fails.number; arguments = f.fails.arguments; answer = words; is = is; uses_it = uses_it };
-        at = torn_is_before_or_behind_all f.fails.number f.fails.arguments words m.system next now is torn;
+        at = elim (torn_is_before_or_behind_all f.fails.number f.fails.arguments words m.system next now is torn) [
+          | inl same ↦ inl same
+          | inr same ↦ inr (done_by f.fails.number outside same.0 uses_it, same.1)
+        ];
       },
     )
     go no_file is torn = absurd torn

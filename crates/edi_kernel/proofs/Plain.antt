@@ -52,23 +52,23 @@ arrival_by (suc n) kind.Exit may stops = absurd (cc)
 arrival_by (suc n) kind.ProgramEnd may stops = absurd (cc)
 
 -- an arrival pauses whatever is noted of the marks
-arrival_noted : (words : List ℕ) (x : Paused) (now : Running) (c d : Bool) → Pauses words x (pause.At kind.Arrive) now c
-    → Pauses words x (pause.At kind.Arrive) now d
-arrival_noted words going now c d h = absurd h
-arrival_noted words (pausing entering r b) now c d h = absurd h.0
-arrival_noted words (pausing leaving r b) now c d h = absurd h.0
-arrival_noted words (pausing looping r b) now c d h = absurd h.0
-arrival_noted words (pausing arriving r b) now c d h = h
-arrival_noted words (pausing (again marks) r b) now c d h = absurd h.0
-arrival_noted words (pausing (forking branches) r b) now c d h = absurd h.0
-arrival_noted words (pausing exiting r b) now c d h = absurd h.0
-arrival_noted words (pausing finishing r b) now c d h = absurd h.0
-arrival_noted words (stopping e r b) now c d h = absurd h
+arrival_noted : (words : List ℕ) (live : ℕ) (is_first : Bool) (x : Paused) (now : Running) (c d : Bool)
+    → Pauses words live is_first x (pause.At kind.Arrive) now c → Pauses words live is_first x (pause.At kind.Arrive) now d
+arrival_noted words live is_first going now c d h = absurd h
+arrival_noted words live is_first (pausing entering r b) now c d h = absurd h.0
+arrival_noted words live is_first (pausing leaving r b) now c d h = absurd h.0
+arrival_noted words live is_first (pausing looping r b) now c d h = absurd h.0
+arrival_noted words live is_first (pausing arriving r b) now c d h = h
+arrival_noted words live is_first (pausing (again marks) r b) now c d h = absurd h.0
+arrival_noted words live is_first (pausing (forking branches) r b) now c d h = absurd h.0
+arrival_noted words live is_first (pausing exiting r b) now c d h = absurd h.0
+arrival_noted words live is_first (pausing finishing r b) now c d h = absurd h.0
+arrival_noted words live is_first (stopping e r b) now c d h = absurd h
 
 arrives_so : (words : List ℕ) (live : ℕ) (is_first : Bool) (was now : Running) (cleared c d : Bool)
     → OneStep words live is_first was cleared (Some (pause.At kind.Arrive)) now c
     → OneStep words live is_first was cleared (Some (pause.At kind.Arrive)) now d
-arrives_so words live is_first was now cleared c d h = (h.0, h.1, arrival_noted words h.0 now c d h.2)
+arrives_so words live is_first was now cleared c d h = (h.0, h.1, arrival_noted words live is_first h.0 now c d h.2)
 
 module _ (words memory new_memory : List ℕ) (a b : Activity) (p : Progress) where
   abbrev Given : StepEnd → Type 0

@@ -1,9 +1,9 @@
 -- Rounds of a run.
-use Rattle.std.proofs.Common.{◌≡◌, ℕ, zero, suc, ◌-◌, ◌<◌, ◌≤◌, List, [], ◌∷◌, ◌++◌, map, Option, Some, None, refl, sym, ◌∙◌, ap, arith, subst}
+use Rattle.std.proofs.Common.{◌≡◌, ℕ, zero, suc, ◌-◌, false, List, [], ◌∷◌, ◌++◌, map, Option, Some, None, refl, sym, ◌∙◌, ap, subst}
 use Rattle.std.specs.Prelude.{⊤}
 use Rattle.std.specs.Option.{option_map}
 use Rattle.edi_told.specs.Told.{WhereTold}
-use Rattle.edi_told.proofs.Told.{WhereTold-map, WhereTold-then}
+use Rattle.edi_told.proofs.Told.{WhereTold-map}
 use Rattle.edi_calls.specs.declared.ends.Outside.{Outside}
 use Rattle.edi_calls.specs.Choice.{Choices}
 use Rattle.edi_calls.specs.Names.{Name}
@@ -11,9 +11,8 @@ use Rattle.edi_calls.specs.Outcome as outcome
 use Rattle.edi_calls.specs.Ready.{stays, joins, take_next}
 use Rattle.edi_calls.specs.State.{State}
 use Rattle.edi_target.specs.Op.{Instruction}
-use Rattle.edi_target.specs.Check.{CodeParts}
 use Rattle.edi_target.specs.Fetch.{fetch}
-use Rattle.edi_target.specs.Mach.{Machine, Stepped, went, ended, MachineRun, finished, go_on, after_step, run, step, entered}
+use Rattle.edi_target.specs.Mach.{Machine, Stepped, went, ended, MachineRun, finished, go_on, after_step, run, step}
 use Rattle.edi_trace.specs.Drawn.{Drawn}
 use Rattle.edi_kernel.specs.declared.ends.Ending.{Ending}
 use Rattle.edi_kernel.specs.declared.ends.Ending.TheVariants as ending
@@ -21,15 +20,15 @@ use Rattle.edi_kernel.specs.declared.ends.StintEnd.{StintEnd}
 use Rattle.edi_kernel.specs.declared.ends.StintEnd.TheVariants as stint_end
 use Rattle.edi_kernel.specs.declared.state.KernelState.{KernelState}
 use Rattle.edi_kernel.specs.Table.{ready_slots}
-use Rattle.edi_kernel.specs.TableIsMachine.{TableIsMachine}
+use Rattle.edi_kernel.specs.TableIsMachine.{Naming, TableIsMachine}
 use Rattle.edi_kernel.specs.Stints as stints
-use Rattle.edi_kernel.specs.Stints.{Stint, stint, stint_after}
-use Rattle.edi_kernel.specs.Kernel.{Holds, EndsAs, KeepsWords, Switches, EndsRun, BreaksOff, BreaksBy, GoesTo, ended_by, used_in}
-use Rattle.edi_kernel.specs.Runs.{Proceeds, EndsUnready, Started, GoesRound, KeepsMachine, RunEnds, RunFails, Rounds, RoundsBy, RunsAs, FailsIn, FaultsBy}
-use Rattle.edi_kernel.specs.Runs.{RunsTo, StandsIn}
-use Rattle.edi_kernel.specs.Moments.{Moment, moment, moment_on, moment_after, moment_of}
+use Rattle.edi_kernel.specs.Stints.{stint, stint_after}
+use Rattle.edi_kernel.specs.Kernel.{Holds, HoldsBroken, KeepsWords, Switches, EndsRun, BreaksOff, BreaksBy, GoesTo, ended_by, going_on, is_over, used_in}
+use Rattle.edi_kernel.specs.Named.{BreaksRun, BreaksRunBy, HoldsBy}
+use Rattle.edi_kernel.specs.Runs.{Proceeds, EndsUnready, KeepsMachine, RunEnds, RunFails, Rounds, RoundsBy}
+use Rattle.edi_kernel.specs.Runs.{RoundsBroken}
+use Rattle.edi_kernel.specs.Moments.{moment, moment_on}
 use Rattle.edi_kernel.proofs.Moments.{moment_switched, moment_followed}
-use Rattle.edi_kernel.proofs.Starting.{Enters, NeverEnters, enters, never_enters}
 
 -- ---- a stint is the run up to its switch
 
@@ -99,6 +98,23 @@ pub same_naming : (k new : KernelState) (m : Machine) (taken : Option Name) (rea
     (g : new.taken ≡ k.taken) (h : Holds k m taken ready) → (holds_same k new m taken ready e f g h).naming ≡ h.naming
 unfolding holds_same
 same_naming k new m taken ready e f g h = refl
+
+-- so after an end of the run by an instruction of p
+pub broken_same : (words : List ℕ) (e : Ending) (k new : KernelState) (m : Machine) (p : Name) (others : List Name) → new.store ≡ k.store
+    → new.table ≡ k.table → new.taken ≡ k.taken → HoldsBroken words e k m p others → HoldsBroken words e new m p others
+broken_same words e k new m p others store table taken h = record {
+  activity = h.activity;
+  found = h.found;
+  local = h.local;
+  goes_on = h.goes_on;
+  holds = holds_same k new (going_on m p h.local h.activity.forks) (Some p) others store table taken h.holds;
+}
+
+pub broken_naming : (words : List ℕ) (e : Ending) (k new : KernelState) (m : Machine) (p : Name) (others : List Name) (x : new.store ≡ k.store)
+    (y : new.table ≡ k.table) (z : new.taken ≡ k.taken) (h : HoldsBroken words e k m p others) →
+    (broken_same words e k new m p others x y z h).holds.naming ≡ h.holds.naming
+unfolding broken_same holds_same
+broken_naming words e k new m p others x y z h = refl
 
 -- the same of a run that may go on
 abbrev pub KeepsIf : Option Ending → KernelState → Machine → Type 0
@@ -207,6 +223,24 @@ module _ (words : List ℕ) (bound : ℕ) (k new : KernelState) (now : State) (o
   breaks_over failed ending.Standstill same h = tt
   breaks_over failed (ending.Bad at) same h = tt
 
+  -- the stint ended the run by an instruction of p
+  ends_broken : (e : Ending) (prior : KernelState) (n : Naming) → drawn ≡ old → new.table ≡ k.table → new.taken ≡ k.taken
+      → (b : BreaksRun words (left - used) e prior n k now m p others) → KeepsMachine e new b.ends.machine
+      → (h : RunEnds words bound e new now old drawn m p others) × HoldsBroken words e new h.machine p others
+  unfolding ends_run
+  ends_broken e prior n same table taken b stands =
+      (ends_run e same b.ends stands, broken_same words e k new b.ends.machine p others store table taken b.broken)
+
+  pub broken_over : (e : Ending) (prior : KernelState) (n : Naming) → drawn ≡ old → new.table ≡ k.table → new.taken ≡ k.taken
+      → BreaksRunBy words (stint_end.Over used e) left prior n k now m p others → RoundsBroken words bound (Some e) new now old drawn m p others
+  broken_over ending.Done prior n same table taken b = ends_broken ending.Done prior n same table taken b tt
+  broken_over (ending.Halted line) prior n same table taken b = ends_broken (ending.Halted line) prior n same table taken b tt
+  broken_over (ending.Failed cause line) prior n same table taken b = ends_broken (ending.Failed cause line) prior n same table taken b tt
+  broken_over ending.Turns prior n same table taken b = ends_broken ending.Turns prior n same table taken b tt
+  broken_over ending.Standstill prior n same table taken b = tt
+  broken_over (ending.Bad at) prior n same table taken b = ends_broken (ending.Bad at) prior n same table taken b tt
+  broken_over ending.Fault prior n same table taken b = tt
+
   pub round_on : (result : Option Ending) → Switches words (left - used) k now m p others
       → ((machine : Machine) (ready : List Name) → Holds k machine None ready → KeepsIf result new machine)
       → ((machine : Machine) (ready : List Name) → Holds k machine None ready → Proceeds result new machine old drawn ready) → Rounds words bound result new now
@@ -241,6 +275,19 @@ module _ (words : List ℕ) (bound : ℕ) (k : KernelState) (old : Drawn) (left 
   round_breaks failed (stint_end.Forked used) e new now m p others h turns store b = absurd (cc)
   round_breaks failed (stint_end.Exited used) e new now m p others h turns store b = absurd (cc)
 
+  pub round_broken : (end : StintEnd) (e : Ending) (prior new : KernelState) (n : Naming) (now : State) (m : Machine) (p : Name) (others : List Name)
+      → ended_by end ≡ Some e → left - used_in end ≡ bound - new.used → new.store ≡ k.store → new.table ≡ k.table → new.taken ≡ k.taken →
+      BreaksRunBy words end left prior n k now m p others → RoundsBroken words bound (Some e) new now old old m p others
+  round_broken (stint_end.Over used e) d prior new n now m p others h turns store table taken b =
+      subst (λ x. RoundsBroken words bound (Some x) new now old old m p others) (some h)
+      (broken_over words bound k new now old old m p others left used turns store e prior n refl table taken b)
+    where
+      some : Some e ≡ Some d → e ≡ d
+      some e = cc
+  round_broken (stint_end.Arrived used) e prior new n now m p others h turns store table taken b = absurd (cc)
+  round_broken (stint_end.Forked used) e prior new n now m p others h turns store table taken b = absurd (cc)
+  round_broken (stint_end.Exited used) e prior new n now m p others h turns store table taken b = absurd (cc)
+
   pub round_goes : (end : StintEnd) (result : Option Ending) (new : KernelState) (drawn : Drawn) (now : State) (m : Machine) (p : Name) (others : List Name)
       → ended_by end ≡ None → left - used_in end ≡ bound - new.used → new.store ≡ k.store →
       ((machine : Machine) (ready : List Name) → Holds k machine None ready → KeepsIf result new machine) →
@@ -253,6 +300,13 @@ module _ (words : List ℕ) (bound : ℕ) (k : KernelState) (old : Drawn) (left 
       store result g.0 keeps c
   round_goes (stint_end.Exited used) result new drawn now m p others h turns store keeps c g = round_on words bound k new now old drawn m p others left used turns
       store result g.0 keeps c
+
+-- a stint that does not end the run
+pub going_free : (end : StintEnd) → ended_by end ≡ None → is_over end ≡ false
+going_free (stint_end.Arrived used) h = refl
+going_free (stint_end.Forked used) h = refl
+going_free (stint_end.Exited used) h = refl
+going_free (stint_end.Over used e) h = absurd (cc)
 
 -- where a run ends since nobody is ready the kernel is the machine that it was
 pub keeps_unready : (result : Option Ending) (k mid new : KernelState) → EndsUnready result mid new → mid.store ≡ k.store → mid.table ≡ k.table
@@ -270,217 +324,6 @@ keeps_unready (Some ending.Turns) k mid new h e f g machine ready holds = absurd
 keeps_unready (Some (ending.Bad at)) k mid new h e f g machine ready holds = absurd h
 keeps_unready (Some ending.Fault) k mid new h e f g machine ready holds = absurd h
 
--- ---- the rounds of a whole run
-
--- the run has come to this machine
-pub record Underway (code : CodeParts) (system : State) (bound : ℕ) (old : Drawn) (k : KernelState) (state : State) (drawn : Drawn) : Type 0 where
-  pub machine : Machine
-  pub name : Name
-  pub others : List Name
-  pub comes : (n : ℕ) (r : MachineRun) → run (fetch code.words) old.source n machine name others drawn.drawn ≡ r →
-      (j : ℕ) × (after_step old.source (run (fetch code.words) old.source j) [] [] old.drawn
-      (entered (fetch code.words code.entry) code.entry code.calls bound system) ≡ r)
-  pub passes : (n : ℕ) (x : Option Moment) → moment (fetch code.words) old.source n machine name others drawn.drawn ≡ x →
-      (j : ℕ) × (moment_of code system bound old.source old.drawn j ≡ x)
-  pub holds : Holds k machine (Some name) others
-  pub system_is : machine.system ≡ state
-  pub turns : machine.turns ≡ bound - k.used
-
-module _ (code : CodeParts) (bound : ℕ) (old : Drawn) where
-  abbrev words : List ℕ
-  words = code.words
-
-  -- what a round does from any machine that the kernel is
-  abbrev AnyRound : Option Ending → (k new : KernelState) → (now next : Drawn) → State → State → Type 0
-  AnyRound result k new now next s t =
-      (m : Machine) (p : Name) (others : List Name) → Holds k m (Some p) others → m.system ≡ s → m.turns ≡ bound - k.used → Rounds code.words bound result new
-      t now next m p others
-
-  underway_more : (s x y : State) (k new : KernelState) (now next : Drawn) → now.source ≡ old.source → Underway code s bound old k x now
-      → AnyRound None k new now next x y → Underway code s bound old new y next
-  underway_more s x y k new now next same u h =
-      let g : GoesRound code.words bound new y now next u.machine u.name u.others = h u.machine u.name u.others u.holds u.system_is u.turns in
-      record {
-        machine = g.machine;
-        name = g.name;
-        others = g.rest;
-        comes = λ n r e.
-            let z : (i : ℕ) × (run (fetch code.words) now.source i u.machine u.name u.others now.drawn ≡ r) = g.comes n r
-            (ap (λ c. run (fetch code.words) c n g.machine g.name g.rest next.drawn) same ∙ e) in
-            u.comes z.0 r (sym (ap (λ c. run (fetch code.words) c z.0 u.machine u.name u.others now.drawn) same) ∙ z.1);
-        passes = λ n x e.
-            let z : (i : ℕ) × (moment (fetch code.words) now.source i u.machine u.name u.others now.drawn ≡ x) = g.passes n x
-            (ap (λ c. moment (fetch code.words) c n g.machine g.name g.rest next.drawn) same ∙ e) in
-            u.passes z.0 x (sym (ap (λ c. moment (fetch code.words) c z.0 u.machine u.name u.others now.drawn) same) ∙ z.1);
-        holds = g.holds;
-        system_is = g.system;
-        turns = g.turns;
-      }
-
-  runs_as : (s x y : State) (k new : KernelState) (now next : Drawn) (e : Ending) → now.source ≡ old.source → new.used ≤ bound
-      → (u : Underway code s bound old k x now) → RunEnds code.words bound e new y now next u.machine u.name u.others → RunsAs code s bound old e new.store
-      new.used y next
-  runs_as s x y k new now next e same le u h = record {
-    machine = h.machine;
-    end = h.end;
-    is = u.comes h.steps (finished h.end h.machine next.drawn)
-        (sym (ap (λ c. run (fetch code.words) c h.steps u.machine u.name u.others now.drawn) same) ∙ h.is);
-    same = h.same;
-    memory = h.memory;
-    system_is = h.system;
-    turns = omega (arith, h.turns, le);
-  }
-
-  fails_in : (s x y : State) (k new : KernelState) (now next : Drawn) → now.source ≡ old.source → new.used ≤ bound → (u : Underway code s bound old k x now)
-      → RunFails code.words bound new y now next u.machine u.name u.others →
-      FailsIn code s bound old new.used y next
-  fails_in s x y k new now next same le u h =
-      let z : (j : ℕ) × (moment_of code s bound old.source old.drawn j ≡ Some h.at) =
-      u.passes h.steps (Some h.at) (sym (ap (λ c. moment (fetch code.words) c h.steps u.machine u.name u.others now.drawn) same) ∙ h.is) in
-      record { steps = z.0; at = h.at; is = z.1; fails = h.fails; drawn = h.drawn; turns = omega (arith, h.turns, le) }
-
-  underway_ends : (s x y : State) (k new : KernelState) (now next : Drawn) (e : Ending) → now.source ≡ old.source → new.used ≤ bound
-      → Underway code s bound old k x now → AnyRound (Some e) k new now next x y → RunsTo code s bound old e new.store new.used y next
-  underway_ends s x y k new now next ending.Done same le u h = runs_as s x y k new now next ending.Done same le u
-      (h u.machine u.name u.others u.holds u.system_is u.turns)
-  underway_ends s x y k new now next (ending.Halted line) same le u h = runs_as s x y k new now next (ending.Halted line) same le u
-      (h u.machine u.name u.others u.holds u.system_is u.turns)
-  underway_ends s x y k new now next (ending.Failed cause line) same le u h = runs_as s x y k new now next (ending.Failed cause line) same le u
-      (h u.machine u.name u.others u.holds u.system_is u.turns)
-  underway_ends s x y k new now next ending.Turns same le u h = runs_as s x y k new now next ending.Turns same le u
-      (h u.machine u.name u.others u.holds u.system_is u.turns)
-  underway_ends s x y k new now next ending.Standstill same le u h = runs_as s x y k new now next ending.Standstill same le u
-      (h u.machine u.name u.others u.holds u.system_is u.turns)
-  underway_ends s x y k new now next (ending.Bad at) same le u h = runs_as s x y k new now next (ending.Bad at) same le u
-      (h u.machine u.name u.others u.holds u.system_is u.turns)
-  underway_ends s x y k new now next ending.Fault same le u h = fails_in s x y k new now next same le u
-      (h u.machine u.name u.others u.holds u.system_is u.turns)
-
-  -- the call that failed uses what has failed
-  module _ (failed : Option Outside → Type 0) where
-    abbrev AnyRoundBy : Option Ending → (k new : KernelState) → (now next : Drawn) → State → State → Type 0
-    AnyRoundBy result k new now next s t =
-        (m : Machine) (p : Name) (others : List Name) → Holds k m (Some p) others → m.system ≡ s → m.turns ≡ bound - k.used
-        → RoundsBy failed code.words bound result new t now next m p others
-
-    faults_by : (s x y : State) (k new : KernelState) (now next : Drawn) (e : Ending) → now.source ≡ old.source → new.used ≤ bound
-        → Underway code s bound old k x now → AnyRoundBy (Some e) k new now next x y → FaultsBy failed code s bound old e new.used y next
-    unfolding fails_in
-    faults_by s x y k new now next ending.Fault same le u h =
-        let r : RoundsBy failed code.words bound (Some ending.Fault) new y now next u.machine u.name u.others =
-        h u.machine u.name u.others u.holds u.system_is u.turns in
-        (fails_in s x y k new now next same le u r.0, r.1)
-    faults_by s x y k new now next ending.Done same le u h = tt
-    faults_by s x y k new now next (ending.Halted line) same le u h = tt
-    faults_by s x y k new now next (ending.Failed cause line) same le u h = tt
-    faults_by s x y k new now next ending.Turns same le u h = tt
-    faults_by s x y k new now next ending.Standstill same le u h = tt
-    faults_by s x y k new now next (ending.Bad at) same le u h = tt
-
-    pub told_faults : (first before after : Option State) (k new : KernelState) (now next : Drawn) (e : Ending) → now.source ≡ old.source → new.used ≤ bound
-        → WhereTold first before (λ s t. Underway code s bound old k t now) →
-        WhereTold before after (AnyRoundBy (Some e) k new now next) → WhereTold first after (λ s t. FaultsBy failed code s bound old e new.used t next)
-    told_faults first before after k new now next e same le h g = WhereTold-then _ _ _ first before after
-        (λ s x y a b. faults_by s x y k new now next e same le a b) h g
-
-  pub told_more : (first before after : Option State) (k new : KernelState) (now next : Drawn) → now.source ≡ old.source
-      → WhereTold first before (λ s t. Underway code s bound old k t now) →
-      WhereTold before after (AnyRound None k new now next) → WhereTold first after (λ s t. Underway code s bound old new t next)
-  told_more first before after k new now next same h g = WhereTold-then _ _ _ first before after (λ s x y a b. underway_more s x y k new now next same a b) h g
-
-  pub told_ends : (first before after : Option State) (k new : KernelState) (now next : Drawn) (e : Ending) → now.source ≡ old.source → new.used ≤ bound
-      → WhereTold first before (λ s t. Underway code s bound old k t now) →
-      WhereTold before after (AnyRound (Some e) k new now next) → WhereTold first after (λ s t. RunsTo code s bound old e new.store new.used t next)
-  told_ends first before after k new now next e same le h g = WhereTold-then _ _ _ first before after
-      (λ s x y a b. underway_ends s x y k new now next e same le a b) h g
-
-  -- where the run came to a standstill
-  still_is : (e : outcome.Ending) → EndsAs e ending.Standstill → e ≡ outcome.standstill
-  still_is outcome.standstill h = refl
-  still_is outcome.done h = absurd h
-  still_is (outcome.halted line) h = absurd h
-  still_is (outcome.failed cause line) h = absurd h
-  still_is outcome.turns h = absurd h
-  still_is (outcome.bad address) h = absurd h
-
-  stands_in : (s x y : State) (k new : KernelState) (now next : Drawn) (e : Ending) → now.source ≡ old.source → Underway code s bound old k x now
-      → AnyRound (Some e) k new now next x y → StandsIn code s bound old e new next
-  stands_in s x y k new now next ending.Standstill same u r =
-      let h : RunEnds code.words bound ending.Standstill new y now next u.machine u.name u.others = r u.machine u.name u.others u.holds u.system_is u.turns in
-      record {
-        machine = h.machine;
-        is = u.comes h.steps (finished outcome.standstill h.machine next.drawn)
-            (sym (ap (λ c. run (fetch code.words) c h.steps u.machine u.name u.others now.drawn) same) ∙ h.is
-            ∙ ap (λ z. finished z h.machine next.drawn) (still_is h.end h.same));
-        ready = h.stands.0;
-        holds = h.stands.1;
-      }
-  stands_in s x y k new now next ending.Done same u r = tt
-  stands_in s x y k new now next (ending.Halted line) same u r = tt
-  stands_in s x y k new now next (ending.Failed cause line) same u r = tt
-  stands_in s x y k new now next ending.Turns same u r = tt
-  stands_in s x y k new now next (ending.Bad at) same u r = tt
-  stands_in s x y k new now next ending.Fault same u r = tt
-
-  pub told_stands : (first before after : Option State) (k new : KernelState) (now next : Drawn) (e : Ending) → now.source ≡ old.source
-      → WhereTold first before (λ s t. Underway code s bound old k t now) →
-      WhereTold before after (AnyRound (Some e) k new now next) → WhereTold first after (λ s t. StandsIn code s bound old e new next)
-  told_stands first before after k new now next e same h g = WhereTold-then _ _ _ first before after
-      (λ s x y a b. stands_in s x y k new now next e same a b) h g
-
-  where_same : (o : Option State) (P : State → State → Type 0) → ((s : State) → P s s) → WhereTold o o P
-  where_same None P h = tt
-  where_same (Some s) P h = h s
-
-  -- the run begins with the entry's turn
-  pub told_begins : (o : Option State) (k new : KernelState) → Started code k → 0 < bound → new.store ≡ k.store → new.table ≡ k.table → new.taken ≡ k.taken
-      → new.used ≡ 1 → WhereTold o o (λ s t. Underway code s bound old new t old)
-  told_begins o k new started pos e f g one = where_same o (λ s t. Underway code s bound old new t old) begin
-    where
-      begin : (s : State) → Underway code s bound old new s old
-      begin s =
-          let x : Enters code k s (bound - 1) = enters code k started s (bound - 1) in
-          let b : suc (bound - 1) ≡ bound = omega (arith, pos) in
-          record {
-            machine = x.machine;
-            name = [];
-            others = [];
-            comes = λ n r h. (
-              n,
-              ap (after_step old.source (run (fetch code.words) old.source n) [] [] old.drawn)
-                  (ap (λ i. entered (fetch code.words code.entry) code.entry code.calls i s) (sym b) ∙ x.is) ∙ h,
-            );
-            passes = λ n y h. (
-              n,
-              ap (moment_after old.source (moment (fetch code.words) old.source n) [] [] old.drawn)
-                  (ap (λ i. entered (fetch code.words code.entry) code.entry code.calls i s) (sym b) ∙ x.is) ∙ h,
-            );
-            holds = holds_same k new x.machine (Some []) [] e f g x.holds;
-            system_is = x.system_is;
-            turns = x.turns ∙ ap (λ i. bound - i) (sym one);
-          }
-
-  pub told_never : (o : Option State) (k new : KernelState) → Started code k → bound ≡ 0 → new.used ≡ 0
-      → WhereTold o o (λ s t. RunsTo code s bound old ending.Turns new.store new.used t old)
-  told_never o k new started none zero_used = where_same o (λ s t. RunsTo code s bound old ending.Turns new.store new.used t old) never
-    where
-      never : (s : State) → RunsAs code s bound old ending.Turns new.store new.used s old
-      never s =
-          let x : NeverEnters code s = never_enters code k started s in
-          record {
-            machine = x.machine;
-            end = outcome.turns;
-            is = (
-              0,
-              ap (after_step old.source (run (fetch code.words) old.source 0) [] [] old.drawn)
-                  (ap (λ i. entered (fetch code.words code.entry) code.entry code.calls i s) none ∙ x.is),
-            );
-            same = tt;
-            memory = tt;
-            system_is = x.system_is;
-            turns = omega (arith, none, x.turns, zero_used);
-          }
-
 -- ---- the round where the state is told
 
 -- the process goes on from any machine that the kernel is
@@ -492,6 +335,12 @@ abbrev pub AnyBreak : (failed : Option Outside → Type 0) → List ℕ → Stin
 AnyBreak failed words end left prior s t =
     (m : Machine) (p : Name) (others : List Name) → Holds prior m (Some p) others → m.system ≡ s → m.turns ≡ left
     → BreaksBy failed words end left t m p others
+
+-- where the stint ended the run by an instruction of its process
+abbrev pub AnyBroken : List ℕ → StintEnd → (left : ℕ) → (prior k : KernelState) → State → State → Type 0
+AnyBroken words end left prior k s t =
+    (m : Machine) (p : Name) (others : List Name) (n : Naming) → HoldsBy n prior m (Some p) others → m.system ≡ s → m.turns ≡ left
+    → BreaksRunBy words end left prior n k t m p others
 
 pub nothing_told : (o : Option State) → WhereTold o o (λ s t. ⊤)
 nothing_told None = tt
@@ -519,6 +368,34 @@ module _ (words : List ℕ) (bound : ℕ) (prior k new : KernelState) (old : Dra
       (λ s t. (m : Machine) (p : Name) (others : List Name) → Holds prior m (Some p) others → m.system ≡ s → m.turns ≡ left → Rounds words bound result new
       t old drawn m p others) before after
       (λ s t f m p others a b c. round_goes words bound k old left end result new drawn t m p others on turns store keeps proceeds (f m p others a b c)) h
+
+  abbrev AnyEnd : Option Ending → Drawn → State → State → Type 0
+  AnyEnd result drawn s t =
+      (m : Machine) (p : Name) (others : List Name) → Holds prior m (Some p) others → m.system ≡ s → m.turns ≡ left
+      → RoundsBroken words bound result new t old drawn m p others
+
+  pub told_round_broken : (e : Ending) → ended_by end ≡ Some e → new.table ≡ k.table → new.taken ≡ k.taken
+      → WhereTold before after (AnyBroken words end left prior k) → WhereTold before after (AnyEnd (Some e) old)
+  told_round_broken e over table taken h =
+      WhereTold-map (AnyBroken words end left prior k) (AnyEnd (Some e) old) before after
+      (λ s t f m p others a b c.
+      round_broken words bound k old left end e prior new a.naming t m p others over turns store table taken
+      (f m p others a.naming (record { holds = a; by = refl }) b c)) h
+
+  unbroken : (result : Option Ending) (drawn : Drawn) (mid later : KernelState) → EndsUnready result mid later → (s t : State) → AnyEnd result drawn s t
+  unbroken None drawn mid later h s t m p others a b c = tt
+  unbroken (Some ending.Standstill) drawn mid later h s t m p others a b c = tt
+  unbroken (Some ending.Done) drawn mid later h s t m p others a b c = absurd h
+  unbroken (Some (ending.Halted line)) drawn mid later h s t m p others a b c = absurd h
+  unbroken (Some (ending.Failed cause line)) drawn mid later h s t m p others a b c = absurd h
+  unbroken (Some ending.Turns) drawn mid later h s t m p others a b c = absurd h
+  unbroken (Some (ending.Bad at)) drawn mid later h s t m p others a b c = absurd h
+  unbroken (Some ending.Fault) drawn mid later h s t m p others a b c = absurd h
+
+  pub told_unbroken : (result : Option Ending) (drawn : Drawn) (mid later : KernelState) → EndsUnready result mid later
+      → WhereTold before after (AnyBroken words end left prior k) → WhereTold before after (AnyEnd result drawn)
+  told_unbroken result drawn mid later nobody h =
+      WhereTold-map (AnyBroken words end left prior k) (AnyEnd result drawn) before after (λ s t f. unbroken result drawn mid later nobody s t) h
 
   -- a call that failed in the round uses what has failed
   module _ (failed : Option Outside → Type 0) where

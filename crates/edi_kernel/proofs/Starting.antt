@@ -1,6 +1,6 @@
 -- The first process alone.
 use Rattle.std.proofs.Common.{◌≡◌, ℕ, zero, suc, ◌+◌, ◌<◌, ◌≤◌, Bool, true, false, ◌&&◌, ◌||◌, not, nat_lt, if◌then◌else◌, List, [], ◌∷◌, length, map}
-use Rattle.std.proofs.Common.{Option, Some, None, refl, sym, ◌∙◌, ap, arith, subst, slice_index_or}
+use Rattle.std.proofs.Common.{inl, Option, Some, None, refl, sym, ◌∙◌, ap, arith, subst, slice_index_or}
 use Rattle.std.specs.Prelude.{replicate}
 use Rattle.std.specs.Option.{option_map}
 use Rattle.std.proofs.lemmas.Bool.Decides.{nat_tests}
@@ -13,7 +13,7 @@ use Rattle.edi_target.specs.Op as op
 use Rattle.edi_target.specs.Op.{Instruction}
 use Rattle.edi_target.specs.Check.{CodeParts}
 use Rattle.edi_target.specs.Fetch.{fetch}
-use Rattle.edi_target.specs.Mach.{Machine, Activity, went, ended, ready, activity_of, first_activity, machine_at, start_memory, entered}
+use Rattle.edi_target.specs.Mach.{Machine, Activity, went, ended, ready, activity_of, running_of, first_activity, machine_at, start_memory, entered}
 use Rattle.edi_machine.specs.declared.activity.Activity as code
 use Rattle.edi_machine.specs.Activities.{IsOrdered, local_of}
 use Rattle.edi_machine.specs.Starts.{ActivityBegins}
@@ -21,7 +21,8 @@ use Rattle.edi_kernel.specs.declared.state.KernelState.{KernelState}
 use Rattle.edi_kernel.specs.declared.table.Table.{Table}
 use Rattle.edi_kernel.specs.Table.{FirstAlone, beginning, first_home, process_at, ready_slots, is_live, is_free_home, is_waiting, no_process}
 use Rattle.edi_kernel.specs.TableIsMachine.{IsTable, IsTaken, Naming, Awaits, TableIsMachine, entry_of, is_child_of, children_of, slots_where}
-use Rattle.edi_kernel.specs.Kernel.{Holds}
+use Rattle.edi_kernel.specs.declared.ends.Ending.TheVariants as ending
+use Rattle.edi_kernel.specs.Kernel.{Holds, HoldsBroken}
 use Rattle.edi_kernel.specs.Runs.{Started}
 use Rattle.edi_kernel.proofs.Changes.{child_live, child_later}
 use Rattle.edi_kernel.proofs.Lists.{unmarked_at, none_marked}
@@ -141,11 +142,18 @@ pub record Enters (code : CodeParts) (k : KernelState) (system : State) (left : 
   pub system_is : machine.system ≡ system
   pub turns : machine.turns ≡ left
 
+-- no turn is left for the entry
 pub record NeverEnters (code : CodeParts) (system : State) : Type 0 where
   pub machine : Machine
   pub is : entered (fetch code.words code.entry) code.entry code.calls 0 system ≡ ended outcome.turns machine
   pub system_is : machine.system ≡ system
   pub turns : machine.turns ≡ 0
+
+-- then the kernel is the machine that the entry would leave, and the first process has the empty name
+pub record NeverGoes (code : CodeParts) (k : KernelState) (system : State) : Type 0 where
+  pub enters : NeverEnters code system
+  pub broken : HoldsBroken code.words ending.Turns k enters.machine [] []
+  pub named : (slot : ℕ) → (broken.holds.naming.name slot ≡ []) × (broken.holds.naming.forks slot ≡ 0)
 
 module _ (parts : CodeParts) (k : KernelState) (s : Started parts k) (system : State) where
   abbrev Entering : Option (Instruction × ℕ) → ℕ → Type 0
@@ -169,10 +177,35 @@ module _ (parts : CodeParts) (k : KernelState) (s : Started parts k) (system : S
   entering None left b = absurd b
   entering (Some x) left b = absurd b
 
-  never : (found : Option (Instruction × ℕ)) → ActivityBegins found parts.calls k.store s.first → (m : Machine)
-      × (entered found parts.entry parts.calls 0 system ≡ ended outcome.turns m) × (m.system ≡ system) × (m.turns ≡ 0)
+  abbrev Never : Option (Instruction × ℕ) → Type 0
+  Never found =
+      (m : Machine) × (entered found parts.entry parts.calls 0 system ≡ ended outcome.turns m) × (m.system ≡ system) × (m.turns ≡ 0)
+      × (h : HoldsBroken parts.words ending.Turns k m [] [])
+      × ((slot : ℕ) → (h.holds.naming.name slot ≡ []) × (h.holds.naming.forks slot ≡ 0))
+
+  never : (found : Option (Instruction × ℕ)) → ActivityBegins found parts.calls k.store s.first → Never found
   never (Some (op.entry need r p v f, body)) b =
-      (machine_at (start_memory parts.calls) (([], first_activity need (5 + p + v) body) ∷ []) 0 system, refl, refl, refl)
+      let x : Activity = first_activity need (5 + p + v) body in
+      let m : Machine = machine_at (start_memory parts.calls) (([], x) ∷ []) 0 system in (
+        m,
+        refl,
+        refl,
+        refl,
+        record {
+          activity = x;
+          found = refl;
+          local = (running_of m x).local;
+          goes_on = inl refl;
+          holds = record {
+            naming = naming k.table s.first s.alone;
+            stands = first_stands k.table s.first s.alone (start_memory parts.calls) 0 system x b.1;
+            memory = sym b.0;
+            is_taken = sym (ap (option_map (λ (i : ℕ). [])) s.taken);
+            is_ready = sym (ap (map (λ (i : ℕ). [])) s.alone.ready);
+          };
+        },
+        λ slot. (refl, refl),
+      )
   never None b = absurd b
   never (Some x) b = absurd b
 
@@ -180,8 +213,10 @@ module _ (parts : CodeParts) (k : KernelState) (s : Started parts k) (system : S
   enters left = let e : Entering (fetch parts.words parts.entry) left = entering (fetch parts.words parts.entry) left s.begins in
       record { machine = e.0; is = e.1; holds = e.2; system_is = e.3; turns = e.4 }
 
+  pub never_goes : NeverGoes parts k system
+  never_goes =
+      let e : Never (fetch parts.words parts.entry) = never (fetch parts.words parts.entry) s.begins in
+      record { enters = record { machine = e.0; is = e.1; system_is = e.2; turns = e.3 }; broken = e.4; named = e.5 }
+
   pub never_enters : NeverEnters parts system
-  never_enters =
-      let e : (m : Machine) × (entered (fetch parts.words parts.entry) parts.entry parts.calls 0 system ≡ ended outcome.turns m) × (m.system ≡ system)
-      × (m.turns ≡ 0) = never (fetch parts.words parts.entry) s.begins in
-      record { machine = e.0; is = e.1; system_is = e.2; turns = e.3 }
+  never_enters = never_goes.enters

@@ -96,11 +96,12 @@ module _ (words : List ℕ) (live : ℕ) (is_first : Bool) (before after : Local
     sym (same_now l n (suc n - 1) e f (omega arith)),
   )
 
-  by_left : (n : ℕ) (turn : Turn) (l : Local) → n ≡ left → after ≡ l → t ≡ s → Forks (due turn l) words before.pc →
+  by_left : (n : ℕ) (turn : Turn) (l : Local) → n ≡ left → after ≡ l → t ≡ s → effect_of words live is_first before ≡ due turn l
+      → Forks (due turn l) words before.pc →
       StepsFrom words live is_first was cleared (turn_from n turn l was) (pause_with n (kind_of before.pc turn)) (now (n - 1))
       (cleared || goes_on (kind_of before.pc turn))
-  by_left zero turn l g e f k = (stopping outcome.turns was cleared, λ more. refl, (omega (arith, g), f))
-  by_left (suc n) turn l g e f k = by_turn n turn l e f k
+  by_left zero turn l g e f d k = (stopping outcome.turns was cleared, λ more. refl, (omega (arith, g), f, (turn, d ∙ ap (due turn) (sym e))))
+  by_left (suc n) turn l g e f d k = by_turn n turn l e f k
 
   stopped : t ≡ s → after ≡ before → now left ≡ was
   stopped f e = cc
@@ -150,7 +151,7 @@ module _ (words : List ℕ) (live : ℕ) (is_first : Bool) (before after : Local
   made (asks number arguments address line l) end e h st ph fk = absurd h
   made (due turn l) (end.Turn k) e h st ph fk =
       subst (λ x. StepsFrom words live is_first was cleared (turn_from left turn l was) (pause_with left x) (now (left - 1)) (cleared || goes_on x)) (sym h.0)
-      (by_left left turn l refl h.1 (st refl) fk)
+      (by_left left turn l refl h.1 (st refl) e fk)
   made (due turn l) end e h st ph fk = absurd h
   made (fails c line) (end.Fail d at) e h st ph fk =
       subst (λ x. StepsFrom words live is_first was cleared (settled (fails c line) was) (Some (pause.Over (failure_of x at))) (now left) (cleared || false))

@@ -35,7 +35,7 @@ use Rattle.edi_kernel.proofs.StintGiven as given
 use Rattle.edi_kernel.proofs.StintGiven.{Given}
 
 module _ (words : List ℕ) (old mid new : KernelState) (slot left left1 used : ℕ) (s t : State) (n : Naming) (m : Machine) (a : Activity) (cleared : Bool)
-    (g : Given words old mid new slot left left1 used s t n m a cleared) where
+    (g : Given words old mid new slot left left1 used s t n m a cleared) (none : new.taken ≡ None) where
   abbrev p : Name
   p = n.name slot
 
@@ -91,7 +91,7 @@ module _ (words : List ℕ) (old mid new : KernelState) (slot left left1 used : 
           stands = stood (unmarked mid.table) new.table slot a at_clear.table at_clear.taken put n (record m { marks = [] }) k b [] ms r mid.store
               at_clear.stands (follows_marks m k p (n.forks slot) ms [] b f) refl (sym (ap (λ x. x.local) e));
           memory = sym (ap (λ x. x.local.memory) e) ∙ sym same;
-          is_taken = sym (ap (option_map n.name) g.none_taken);
+          is_taken = sym (ap (option_map n.name) none);
           is_ready = sym (ap (map n.name) (stood_ready (unmarked mid.table) new.table slot a at_clear.table at_clear.taken put)
               ∙ map-append n.name (ready_slots mid.table) (slot ∷ []) ∙ ap (λ xs. map n.name xs ++ p ∷ []) same_ready);
         };
@@ -148,7 +148,7 @@ module _ (words : List ℕ) (old mid new : KernelState) (slot left left1 used : 
               (follows_marks m k p (n.forks slot) (marks_after (fetch words) m p others (n.forks slot) cleared)
               (p ∷ marks_after (fetch words) m p others (n.forks slot) cleared) b f) (ap (λ ms. p ∷ ms) f.marks_are) (sym (ap (λ x. x.local) e));
           memory = sym (ap (λ x. x.local.memory) e) ∙ sym same;
-          is_taken = sym (ap (option_map n.name) g.none_taken);
+          is_taken = sym (ap (option_map n.name) none);
           is_ready = sym (ap (map n.name) ready ∙ map-append n.name (ready_slots mid.table) (slot ∷ []) ∙ ap (λ xs. map n.name xs ++ p ∷ []) same_ready);
         },
         refl,

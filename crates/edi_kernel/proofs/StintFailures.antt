@@ -6,7 +6,7 @@ use Rattle.edi_calls.specs.State.{State}
 use Rattle.edi_calls.specs.Calls.{call}
 use Rattle.edi_calls.specs.declared.ends.Outside.{Outside}
 use Rattle.edi_calls.specs.Ends.{IsUsed}
-use Rattle.edi_calls.specs.Names.{Name, same}
+use Rattle.edi_calls.specs.Names.{Name}
 use Rattle.edi_target.specs.Fetch.{fetch}
 use Rattle.edi_target.specs.Mach.{Running, Machine, running_of, is_first}
 use Rattle.edi_machine.specs.declared.activity.Activity.{Activity}
@@ -23,8 +23,8 @@ use Rattle.edi_kernel.specs.Stretch.{running_in, walked, Breaks, Stretches, Asks
 use Rattle.edi_kernel.specs.Kernel.{BreaksOff, attempt_end}
 use Rattle.edi_kernel.specs.Kernel.{BreaksBy, Handles}
 use Rattle.edi_kernel.proofs.Changes.{length-names}
-use Rattle.edi_kernel.proofs.Walks.{follows_itself, Turns, Walked, walks}
-use Rattle.edi_kernel.proofs.Switches.{At, taken_live}
+use Rattle.edi_kernel.proofs.Walks.{follows_itself, Walked, walks}
+use Rattle.edi_kernel.proofs.Switches.{taken_live}
 use Rattle.edi_kernel.proofs.StintGiven as given
 use Rattle.edi_kernel.proofs.StintGiven.{Given, runs, first_is}
 

@@ -92,7 +92,6 @@ module _ (words : List ℕ) (old mid new : KernelState) (slot left left1 used : 
     pub turns : m.turns ≡ left
     pub mid_table : mid.table ≡ (if cleared then unmarked old.table else old.table)
     pub slot_is : old.taken ≡ Some slot
-    pub none_taken : new.taken ≡ None
     pub spent : left - used ≡ left1
     pub ordered : IsOrdered a
 

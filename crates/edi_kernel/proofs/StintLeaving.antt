@@ -1,6 +1,6 @@
 -- A stint of the kernel in which the process ends or forks: it is one of the machine.
-use Rattle.std.proofs.Common.{◌≡◌, ℕ, zero, suc, ◌+◌, ◌-◌, ◌<◌, inl, inr, Bool, true, false, ◌&&◌, nat_lt, ◌*◌, List, [], ◌++◌, length, map}
-use Rattle.std.proofs.Common.{Some, refl, sym, ◌∙◌, ap, arith, subst, nat_eq, if◌then◌else◌, eq-eqb}
+use Rattle.std.proofs.Common.{◌≡◌, ℕ, zero, suc, ◌+◌, ◌-◌, ◌<◌, inl, inr, Bool, true, ◌&&◌, nat_lt, ◌*◌, List, [], ◌++◌, length, map}
+use Rattle.std.proofs.Common.{Some, None, refl, sym, ◌∙◌, ap, arith, subst, nat_eq, if◌then◌else◌, eq-eqb}
 use Rattle.std.specs.Option.{option_map}
 use Rattle.std.proofs.lemmas.Bool.{cases_eq, ne_eqb}
 use Rattle.edi_calls.specs.State.{State}
@@ -15,14 +15,12 @@ use Rattle.edi_target.specs.Mach.{Running, Machine, went, activity_of, back, wit
 use Rattle.edi_machine.specs.declared.activity.Activity.{Activity}
 use Rattle.edi_kernel.specs.declared.ends.StintEnd.TheVariants as stint_end
 use Rattle.edi_kernel.specs.declared.state.KernelState.{KernelState}
-use Rattle.edi_kernel.specs.declared.table.Standing.{Standing}
-use Rattle.edi_kernel.specs.declared.table.Standing.TheVariants as standing
 use Rattle.edi_kernel.specs.declared.table.Process.{Process}
 use Rattle.edi_kernel.specs.declared.table.Table.{Table}
 use Rattle.edi_kernel.specs.Table.{Removed, waiting_for, process_at, unmarked, ready_slots, free_slots}
-use Rattle.edi_kernel.specs.Table.{is_live, is_waiting, with_process}
-use Rattle.edi_kernel.specs.TableIsMachine.{Naming, Awaits, Born, TableIsMachine, is_child_of, children_of}
-use Rattle.edi_kernel.specs.Stretch.{going, running_in}
+use Rattle.edi_kernel.specs.Table.{is_live, with_process}
+use Rattle.edi_kernel.specs.TableIsMachine.{Naming, Born, TableIsMachine, is_child_of, children_of}
+use Rattle.edi_kernel.specs.Stretch.{running_in}
 use Rattle.edi_kernel.specs.Stints as stints
 use Rattle.edi_kernel.specs.Stints.{stint, stint_after}
 use Rattle.edi_kernel.specs.Forks.{HaveBegun, share_in}
@@ -32,14 +30,14 @@ use Rattle.edi_kernel.proofs.Counts.{where_same}
 use Rattle.edi_kernel.proofs.Changes.{one_changes, at_set_same, at_set_other}
 use Rattle.edi_kernel.proofs.Lists.{written_table, unmarked_at}
 use Rattle.edi_kernel.proofs.Walks.{Follows, names-with_at}
-use Rattle.edi_kernel.proofs.Switches.{At, taken_live, follows_marks, stood}
+use Rattle.edi_kernel.proofs.Switches.{At, childless, taken_live, follows_marks}
 use Rattle.edi_kernel.proofs.Exits.{Exited, exits, kept, none_left, removed_slots}
 use Rattle.edi_kernel.proofs.Forking.{Starts, Grown, grown, drop_all}
 use Rattle.edi_kernel.proofs.StintGiven as given
 use Rattle.edi_kernel.proofs.StintGiven.{Given}
 
 module _ (words : List ℕ) (old mid new : KernelState) (slot left left1 used : ℕ) (s t : State) (n : Naming) (m : Machine) (a : Activity) (cleared : Bool)
-    (g : Given words old mid new slot left left1 used s t n m a cleared) where
+    (g : Given words old mid new slot left left1 used s t n m a cleared) (free : new.taken ≡ None) where
   abbrev p : Name
   p = n.name slot
 
@@ -82,7 +80,7 @@ module _ (words : List ℕ) (old mid new : KernelState) (slot left left1 used : 
               naming = n;
               stands = x.stands;
               memory = kept (λ m. m.memory) (λ m es. refl) k p r x.machine x.joined x.is ∙ sym (ap (λ x. x.local.memory) e) ∙ sym same;
-              is_taken = sym (ap (option_map n.name) g.none_taken);
+              is_taken = sym (ap (option_map n.name) free);
               is_ready = sym (x.ready ∙ ap (λ xs. map n.name xs ++ x.joined) same_ready);
             };
             system = kept (λ m. m.system) (λ m es. refl) k p r x.machine x.joined x.is ∙ sym (ap (λ x. x.system) e);
@@ -120,13 +118,8 @@ module _ (words : List ℕ) (old mid new : KernelState) (slot left left1 used : 
     forks_here = ap (λ x. if x then suc (n.forks slot) else n.forks slot) (eq-eqb slot slot refl)
 
     no_children : children_of (unmarked mid.table) slot ≡ 0
-    no_children = none (process_at mid.table slot).standing (children_of (unmarked mid.table) slot) at_clear.taken.going
+    no_children = childless (process_at mid.table slot).standing (children_of (unmarked mid.table) slot) at_clear.taken.going
         (at_clear.stands.awaits slot (taken_live (unmarked mid.table) slot at_clear.taken))
-      where
-        none : (s : Standing) (c : ℕ) → is_waiting s ≡ false → Awaits s c → c ≡ 0
-        none standing.Ready c w h = h
-        none standing.AtWhen c w h = h
-        none (standing.Waiting x) c w h = absurd (cc)
 
     stands_now : TableIsMachine table_now naming_now machine_now
     stands_now =
@@ -230,7 +223,7 @@ module _ (words : List ℕ) (old mid new : KernelState) (slot left left1 used : 
                 naming = x.naming;
                 stands = x.stood.stands;
                 memory = x.stood.memory;
-                is_taken = sym (ap (option_map x.naming.name) g.none_taken);
+                is_taken = sym (ap (option_map x.naming.name) free);
                 is_ready = sym (x.ready ∙ ap (λ xs. map n.name xs ++ children p fork_number 0 (length branches)) same_ready);
               };
               system = x.system;

@@ -1,14 +1,15 @@
 -- A stint alone, where the turn of the program's entry may still be due.
-use Rattle.std.proofs.Common.{◌≡◌, ℕ, suc, ◌+◌, ◌-◌, ◌≤◌, Bool, true, false, if◌then◌else◌, List, [], ◌∷◌, ◌++◌, Option, Some, None, sym, ◌∙◌, ap, arith, subst}
+use Rattle.std.proofs.Common.{◌≡◌, ℕ, suc, ◌+◌, ◌-◌, ◌<◌, ◌≤◌, Bool, true, false, if◌then◌else◌, List, [], ◌∷◌, ◌++◌, Option, Some, None, sym, ◌∙◌, ap, arith, subst}
 use Rattle.edi_told.specs.Told.{WhereTold}
 use Rattle.edi_told.proofs.Told.{WhereTold-map}
 use Rattle.edi_calls.specs.declared.ends.Outside.{Outside}
 use Rattle.edi_calls.specs.Names.{Name}
+use Rattle.edi_calls.specs.Outcome as outcome
 use Rattle.edi_calls.specs.Ready.{stays}
 use Rattle.edi_calls.specs.State.{State}
 use Rattle.edi_target.specs.Check.{CodeParts}
 use Rattle.edi_target.specs.Fetch.{fetch}
-use Rattle.edi_target.specs.Mach.{Machine, went, entered}
+use Rattle.edi_target.specs.Mach.{Machine, went, ended, entered}
 use Rattle.edi_kernel.specs.declared.ends.Ending.{Ending}
 use Rattle.edi_kernel.specs.declared.ends.Ending.TheVariants as ending
 use Rattle.edi_kernel.specs.declared.ends.StintEnd.{StintEnd}
@@ -19,9 +20,9 @@ use Rattle.edi_kernel.specs.Runs.{IsAtBy, IsAt}
 use Rattle.edi_kernel.specs.TableIsMachine.{Naming}
 use Rattle.edi_kernel.specs.declared.table.Table.{Table}
 use Rattle.edi_kernel.specs.Table.{is_live}
-use Rattle.edi_kernel.specs.Named.{HoldsBy, NamesGrow, SlotsStay, EndsBy, GoesBy}
-use Rattle.edi_kernel.proofs.Starting.{Enters, enters}
-use Rattle.edi_kernel.proofs.Rounds.{AnyBreak, AnyStint, holds_same, same_naming}
+use Rattle.edi_kernel.specs.Named.{BreaksRun, BreaksRunBy, HoldsBy, NamesGrow, SlotsStay, EndsBy, GoesBy}
+use Rattle.edi_kernel.proofs.Starting.{Enters, NeverEnters, enters, never_enters}
+use Rattle.edi_kernel.proofs.Rounds.{AnyBreak, AnyBroken, AnyStint, broken_naming, broken_same, holds_same, same_naming}
 use Rattle.edi_kernel.proofs.Named.{AnyNamed}
 
 -- so many turns before the stint, and what is kept beside the processes and the memory is free
@@ -146,6 +147,33 @@ module _ (words : List ℕ) (k new : KernelState) (left n : ℕ) (store : new.st
   goes_by_later old mid e f (stint_end.Over used (ending.Bad at)) t m p others names h = goes_later (stint_end.Over used (ending.Bad at)) t m p others h
   goes_by_later old mid e f (stint_end.Over used ending.Fault) t m p others names h = goes_later (stint_end.Over used ending.Fault) t m p others h
 
+  -- the run has ended by an instruction of p
+  broken_later : (used : ℕ) (e : Ending) (old mid : KernelState) → mid.table ≡ old.table → (names : Naming) (t : State) (m : Machine) (p : Name)
+      (others : List Name) → BreaksRun words (left - n - used) e mid names k t m p others → BreaksRun words (left - (used + n)) e old names new t m p others
+  unfolding ends
+  broken_later used e old mid same names t m p others h = record {
+    ends = ends used e t m p others h.ends;
+    broken = broken_same words e k new h.ends.machine p others store table taken h.broken;
+    by = broken_naming words e k new h.ends.machine p others store table taken h.broken ∙ h.by;
+    slots = slots_same old.table mid.table same h.slots;
+  }
+
+  pub breaks_run_later : (old mid : KernelState) → mid.table ≡ old.table → (end : StintEnd) (t : State) (m : Machine) (p : Name) (others : List Name)
+      (names : Naming) → BreaksRunBy words end (left - n) mid names k t m p others → BreaksRunBy words (later_by n end) left old names new t m p others
+  breaks_run_later old mid same (stint_end.Over used ending.Done) t m p others names h = broken_later used ending.Done old mid same names t m p others h
+  breaks_run_later old mid same (stint_end.Over used (ending.Halted line)) t m p others names h =
+      broken_later used (ending.Halted line) old mid same names t m p others h
+  breaks_run_later old mid same (stint_end.Over used (ending.Failed cause line)) t m p others names h =
+      broken_later used (ending.Failed cause line) old mid same names t m p others h
+  breaks_run_later old mid same (stint_end.Over used ending.Turns) t m p others names h = broken_later used ending.Turns old mid same names t m p others h
+  breaks_run_later old mid same (stint_end.Over used (ending.Bad at)) t m p others names h =
+      broken_later used (ending.Bad at) old mid same names t m p others h
+  breaks_run_later old mid same (stint_end.Over used ending.Standstill) t m p others names h = tt
+  breaks_run_later old mid same (stint_end.Over used ending.Fault) t m p others names h = tt
+  breaks_run_later old mid same (stint_end.Arrived used) t m p others names h = tt
+  breaks_run_later old mid same (stint_end.Forked used) t m p others names h = tt
+  breaks_run_later old mid same (stint_end.Exited used) t m p others names h = tt
+
 -- the machine behind the entry's turn
 module _ (code : CodeParts) (k mid : KernelState) (left n : ℕ) (store : mid.store ≡ k.store) (table : mid.table ≡ k.table) (taken : mid.taken ≡ k.taken) where
   -- what the kernel is when the process goes on
@@ -205,6 +233,12 @@ module _ (code : CodeParts) (k mid after new : KernelState) (left n : ℕ) (end 
           (breaks_later code.words after new left n store' table' taken' arrived' failed' failed end t m p others
           (f m p others r.holds r.system r.turns))
 
+  held : (m : Machine) (p : Name) (others : List Name) (names : Naming) → HoldsBy names k m (Some p) others → HoldsBy names mid m (Some p) others
+  held m p others names h = record {
+    holds = holds_same k mid m (Some p) others store table taken h.holds;
+    by = same_naming k mid m (Some p) others store table taken h.holds ∙ h.by;
+  }
+
   abbrev NamedFrom : State → State → Type 0
   NamedFrom s t =
       (m : Machine) (p : Name) (others : List Name) (names : Naming) → IsAt code k s left m p others → HoldsBy names k m (Some p) others →
@@ -215,12 +249,6 @@ module _ (code : CodeParts) (k mid after new : KernelState) (left n : ℕ) (end 
   told_names e le h = WhereTold-map (AnyNamed code.words end (left - n) mid after) NamedFrom before later
       (λ s t f m p others names at by. by_end s t m p others names f by (ready_by code k mid left n store table taken k.entering e le s m p others at)) h
     where
-      held : (m : Machine) (p : Name) (others : List Name) (names : Naming) → HoldsBy names k m (Some p) others → HoldsBy names mid m (Some p) others
-      held m p others names h = record {
-        holds = holds_same k mid m (Some p) others store table taken h.holds;
-        by = same_naming k mid m (Some p) others store table taken h.holds ∙ h.by;
-      }
-
       by_end : (s t : State) (m : Machine) (p : Name) (others : List Name) (names : Naming) → AnyNamed code.words end (left - n) mid after s t
           → HoldsBy names k m (Some p) others → Ready code k mid left n store table taken s m p others
           → GoesBy code.words result left k names new t m p others
@@ -228,3 +256,37 @@ module _ (code : CodeParts) (k mid after new : KernelState) (left n : ℕ) (end 
           subst (λ x. GoesBy code.words x left k names new t m p others) (sym is)
           (goes_by_later code.words after new left n store' table' taken' arrived' failed' k mid table taken end t m p others names
           (f m p others names (held m p others names by) r.system r.turns))
+
+  abbrev EndsFrom : State → State → Type 0
+  EndsFrom s t =
+      (m : Machine) (p : Name) (others : List Name) (names : Naming) → IsAt code k s left m p others → HoldsBy names k m (Some p) others →
+      BreaksRunBy code.words result left k names new t m p others
+
+  pub told_broken : n ≡ (if k.entering then 1 else 0) → n ≤ left → WhereTold before later (AnyBroken code.words end (left - n) mid after)
+      → WhereTold before later EndsFrom
+  told_broken e le h = WhereTold-map (AnyBroken code.words end (left - n) mid after) EndsFrom before later
+      (λ s t f m p others names at by. by_end s t m p others names f by (ready_by code k mid left n store table taken k.entering e le s m p others at)) h
+    where
+      by_end : (s t : State) (m : Machine) (p : Name) (others : List Name) (names : Naming) → AnyBroken code.words end (left - n) mid after s t
+          → HoldsBy names k m (Some p) others → Ready code k mid left n store table taken s m p others
+          → BreaksRunBy code.words result left k names new t m p others
+      by_end s t m p others names f by r =
+          subst (λ x. BreaksRunBy code.words x left k names new t m p others) (sym is)
+          (breaks_run_later code.words after new left n store' table' taken' arrived' failed' k mid table end t m p others names
+          (f m p others names (held m p others names by) r.system r.turns))
+
+-- no stint begins where no turn is left for the entry
+pub told_none : (code : CodeParts) (k new : KernelState) (left n : ℕ) (o : Option State) → n ≡ (if k.entering then 1 else 0) → left < n →
+    WhereTold o o (λ s t. (m : Machine) (p : Name) (others : List Name) (names : Naming) → IsAt code k s left m p others → HoldsBy names k m (Some p) others →
+    BreaksRunBy code.words (stint_end.Over 0 ending.Turns) left k names new t m p others)
+told_none code k new left n None e l = tt
+told_none code k new left n (Some s) e l = λ m p others names at by. absurd (by_entering k.entering e m p others at)
+  where
+    by_entering : (b : Bool) → n ≡ (if b then 1 else 0) → (m : Machine) (p : Name) (others : List Name) → IsAtBy b code k s left m p others → ⊥
+    by_entering false e m p others at = omega (arith, e, l)
+    by_entering true e m p others at =
+        let none : left ≡ 0 = omega (arith, e, l) in
+        let x : NeverEnters code s = never_enters code k at.0 s in
+        let no : went m stays ≡ ended outcome.turns x.machine =
+        sym at.1 ∙ ap (λ i. entered (fetch code.words code.entry) code.entry code.calls i s) none ∙ x.is in
+        absurd (cc)

@@ -7,20 +7,23 @@ use Rattle.std.proofs.lemmas.List.{length_push}
 use Rattle.edi_calls.specs.Names.{Name, same}
 use Rattle.edi_calls.specs.Ready.{has, all_marked}
 use Rattle.edi_calls.proofs.Tables.{same-refl, find-with_at-same, find-with_at-other}
+use Rattle.edi_target.specs.Effect.{Local}
 use Rattle.edi_target.specs.Mach as mach
 use Rattle.edi_target.specs.Mach.{Machine, Running, Stepped, went, activity_of, back, awaits, one_less, notified, exited}
 use Rattle.edi_ring.specs.Lists.{home_of}
 use Rattle.edi_ring.specs.Links.{IsAmong}
 use Rattle.edi_machine.specs.declared.activity.Activity.{Activity}
-use Rattle.edi_machine.specs.Activities.{local_of}
+use Rattle.edi_machine.specs.Activities.{IsOrdered, local_of}
 use Rattle.edi_kernel.specs.declared.table.Standing.{Standing}
 use Rattle.edi_kernel.specs.declared.table.Standing.TheVariants as standing
 use Rattle.edi_kernel.specs.declared.table.Table.{Table}
-use Rattle.edi_kernel.specs.Table.{PutsProcess, at_its_when, process_at, marked_at, marked_with, ready_slots, is_live, is_free_home, is_waiting, unmarked}
+use Rattle.edi_kernel.specs.Table.{PutsProcess, at_its_when, going_by, process_at, marked_at, marked_with, ready_slots, is_live, is_free_home, is_waiting}
+use Rattle.edi_kernel.specs.Table.{unmarked, with_process}
 use Rattle.edi_kernel.specs.TableIsMachine.{IsTable, IsTaken, IsBetween, Naming, Awaits, Born, TableIsMachine, children_of, marked_among}
 use Rattle.edi_kernel.proofs.Counts.{marked-append, marked_same, all_marked-among}
-use Rattle.edi_kernel.proofs.Changes.{one_changes, names_apart}
-use Rattle.edi_kernel.proofs.Lists.{home_among, live_of_home, ready_live, put_list, put_other, put_lives, unmarked_at, none_marked}
+use Rattle.edi_kernel.specs.Kernel.{going_on}
+use Rattle.edi_kernel.proofs.Changes.{at_set_same, one_changes, names_apart}
+use Rattle.edi_kernel.proofs.Lists.{written_table, home_among, live_of_home, ready_live, put_list, put_other, put_lives, unmarked_at, none_marked}
 use Rattle.edi_kernel.proofs.Walks.{Follows, names-with_at}
 
 -- the process at a slot is taken
@@ -140,6 +143,12 @@ marked_stands t n m p a = record {
 pub marked_at_slot : (t : Table) (n : Naming) (m : Machine) (p : ℕ) → At t n m p → At (marked_with t p) n (record m { marks = n.name p ∷ m.marks }) p
 marked_at_slot t n m p a = record { table = marked_table t p a.table; taken = marked_taken t p a.table a.taken; stands = marked_stands t n m p a }
 
+-- who does not wait has no children
+pub childless : (s : Standing) (c : ℕ) → is_waiting s ≡ false → Awaits s c → c ≡ 0
+childless standing.Ready c w h = h
+childless standing.AtWhen c w h = h
+childless (standing.Waiting x) c w h = absurd (cc)
+
 -- ---- a process stands at its `when`
 
 module _ (t u : Table) (slot : ℕ) (act : Activity) (table : IsTable t) (taken : IsTaken t slot)
@@ -179,13 +188,49 @@ module _ (t u : Table) (slot : ℕ) (act : Activity) (table : IsTable t) (taken 
           found_there = λ q ne. find-with_at-other k.activities (n.name slot) q (activity_of r.local a.forks mach.at_when) ne ∙ f.others q ne;
           named = names-with_at k.activities (n.name slot) (activity_of r.local a.forks mach.at_when) a f.found ∙ f.named;
           marks = λ i h. ap (λ ys. has ys (n.name i)) e ∙ s.marks i h ∙ ap (λ ys. slice_index_or ys i false) (sym put.marked);
-          awaits = none (process_at t slot).standing (children_of t slot) taken.going (s.awaits slot (taken_live t slot taken));
+          awaits = childless (process_at t slot).standing (children_of t slot) taken.going (s.awaits slot (taken_live t slot taken));
         })
-      where
-        none : (s : Standing) (c : ℕ) → is_waiting s ≡ false → Awaits s c → c ≡ 0
-        none standing.Ready c w h = h
-        none standing.AtWhen c w h = h
-        none (standing.Waiting x) c w h = absurd (cc)
+
+-- ---- a process that is still taken goes on by another activity
+
+module _ (t : Table) (slot : ℕ) (act : Activity) (table : IsTable t) (taken : IsTaken t slot) where
+  abbrev pub going_table : Table
+  going_table = with_process t slot (going_by (process_at t slot) act)
+
+  pub gone_table : IsOrdered act → IsTable going_table
+  gone_table ordered = written_table t slot (going_by (process_at t slot) act) table taken.inside (table.parents slot) ordered taken.homeless
+
+  pub gone_taken : IsTaken going_table slot
+  gone_taken = record {
+    inside = taken.inside;
+    homeless = taken.homeless;
+    going = ap (λ x. is_waiting x.standing)
+        (at_set_same t.processes slot (going_by (process_at t slot) act) (omega (arith, table.wide, taken.inside)));
+    counted = taken.counted ∙ marked_same t going_table (slot ∷ ready_slots t) (λ i h. refl);
+  }
+
+  module _ (n : Naming) (m k : Machine) (a : mach.Activity) (xs : List Name) (l : Local) (store : List ℕ) where
+    pub gone_stands : TableIsMachine t n m → Follows m k (n.name slot) (n.forks slot) xs a → m.marks ≡ [] → l ≡ local_of store act →
+        TableIsMachine going_table n (going_on k (n.name slot) l a.forks)
+    gone_stands s f none e =
+        one_changes t going_table n n.forks m (going_on k (n.name slot) l a.forks) slot (going_by (process_at t slot) act)
+        (record {
+          stands = s;
+          live = taken_live t slot taken;
+          wide = table.wide;
+          processes = refl;
+          parent = refl;
+          lives = λ i. refl;
+          free = refl;
+          forks_here = omega arith;
+          forks_there = λ i ne. refl;
+          found_here = find-with_at-same k.activities (n.name slot) (activity_of l a.forks mach.ready)
+              ∙ ap (λ x. Some (activity_of x a.forks mach.ready)) e ∙ ap (λ x. Some (activity_of (local_of store act) x mach.ready)) f.forked;
+          found_there = λ q ne. find-with_at-other k.activities (n.name slot) q (activity_of l a.forks mach.ready) ne ∙ f.others q ne;
+          named = names-with_at k.activities (n.name slot) (activity_of l a.forks mach.ready) a f.found ∙ f.named;
+          marks = λ i h. ap (λ ys. has ys (n.name i)) (sym none) ∙ s.marks i h;
+          awaits = childless (process_at t slot).standing (children_of t slot) taken.going (s.awaits slot (taken_live t slot taken));
+        })
 
 -- all that are ready are marked exactly where as many are
 pub all_ready : (t : Table) (n : Naming) (m : Machine) (p : ℕ) → At t n m p → (u : Table) → ready_slots u ≡ ready_slots t ++ p ∷ [] →

@@ -6,8 +6,11 @@ use Rattle.edi_calls.specs.Names as tables
 use Rattle.edi_calls.specs.Outcome as outcome
 use Rattle.edi_calls.proofs.Tables.{find-with_at-same, find-with_at-other}
 use Rattle.edi_target.specs.Op.{Instruction}
-use Rattle.edi_target.specs.Effect.{Turn, entering, leaving, looping, arriving, again, forking, exiting, finishing}
+use Rattle.edi_calls.specs.Calls.{CallResult, answered, no_file, file_limit, call}
+use Rattle.edi_target.specs.Effect.{Local, Turn, entering, leaving, looping, arriving, again, forking, exiting, finishing}
+use Rattle.edi_target.specs.Effect.{Effect, goes, released, asks, due, fails, bad}
 use Rattle.edi_target.specs.Mach.{Running, Answer, on, behind, turned, over, local_step, Activity, ready, Machine, running_of, activity_of, back, at_turn}
+use Rattle.edi_target.specs.Mach.{called, turn_from, settled, effect_at}
 use Rattle.edi_target.specs.Mach.{went, kernel, is_first, step_of, step}
 use Rattle.edi_calls.specs.Ready.{stays}
 use Rattle.edi_kernel.specs.Stretch.{Paused, going, pausing, stopping, after_answer, after_turn, stretch, walk_turn, walk_on, walked}
@@ -24,6 +27,30 @@ names-with_at (x ∷ es) p a b e = go (same p x.0) e (names-with_at es p a b)
         → names (if d then (x.0, a) ∷ es else x ∷ with_at es p a) ≡ (x.0 ∷ names es)
     go true f ih = refl
     go false f ih = ap (λ ns. x.0 ∷ ns) (ih f)
+
+-- an instruction that ends the run leaves all as it was
+over_as : (effect : Effect) (r s : Running) (ending : outcome.Ending) → settled effect r ≡ over ending s → s ≡ r
+over_as effect r s ending h = by_effect effect h
+  where
+    same : {d e : outcome.Ending} {x y : Running} → over d x ≡ over e y → y ≡ x
+    same f = cc
+
+    by_call : (result : CallResult) (address : Option ℕ) (line : ℕ) (l : Local) → called result address line l r ≡ over ending s → s ≡ r
+    by_call (answered words system) address line l f = absurd (cc)
+    by_call no_file address line l f = same f
+    by_call file_limit address line l f = same f
+
+    by_left : (n : ℕ) (turn : Turn) (l : Local) → turn_from n turn l r ≡ over ending s → s ≡ r
+    by_left zero turn l f = same f
+    by_left (suc n) turn l f = absurd (cc)
+
+    by_effect : (effect : Effect) → settled effect r ≡ over ending s → s ≡ r
+    by_effect (goes l) f = absurd (cc)
+    by_effect (released l) f = absurd (cc)
+    by_effect (asks number arguments address line l) f = by_call (call number arguments r.system) address line l f
+    by_effect (due turn l) f = by_left r.turns turn l f
+    by_effect (fails c line) f = same f
+    by_effect bad f = same f
 
 -- the machine k is m, but for the activity of p, which is this one, and the marks
 pub record Follows (m k : Machine) (p : Name) (forks : ℕ) (marks : List Name) (a : Activity) : Type 0 where
@@ -67,6 +94,7 @@ module _ (fetch : ℕ → Option (Instruction × ℕ)) (m : Machine) (p : Name) 
     pub machine : Machine
     pub activity : Activity
     pub follows : Follows m machine p forks (marks_after cleared) activity
+    pub runs : running_of machine activity ≡ r
     pub is : stint fetch n k p others ≡ stints.over ending (back machine p activity machine.marks r)
 
   abbrev pub Comes : (n : ℕ) → (k : Machine) → Paused → Type 0
@@ -92,6 +120,7 @@ module _ (fetch : ℕ → Option (Instruction × ℕ)) (m : Machine) (p : Name) 
     machine = c.machine;
     activity = c.activity;
     follows = c.follows;
+    runs = c.runs;
     is = ap (stint_after (λ m. stint fetch n m p others)) e ∙ c.is;
   }
 
@@ -158,7 +187,13 @@ module _ (fetch : ℕ → Option (Instruction × ℕ)) (m : Machine) (p : Name) 
           (written m k p forks _ [] a (activity_of s.local a.forks ready) s f f.forked) refl)
       by_answer (turned turn s) x g more = by_turn turn s x g more
       by_answer (over ending s) x g more =
-          record { machine = k; activity = a; follows = f; is = ap (stint_after (λ m. stint fetch n m p others)) g }
+          record {
+            machine = k;
+            activity = a;
+            follows = f;
+            runs = e ∙ sym (over_as (effect_at fetch (fetch r.local.pc) (length m.activities) (is_first p) r.local) r s ending x);
+            is = ap (stint_after (λ m. stint fetch n m p others)) g;
+          }
 
   -- ---- where the process is after n steps in which it goes on
 

@@ -2,7 +2,7 @@
 use Rattle.std.specs.Prelude.{◌≡◌, ◌⊎◌, ℕ, ◌+◌, ◌-◌, ◌<◌, ◌==◌, ◌++◌, Bool, true, false, List, [], ◌∷◌, length, map, Option, Some, None, IfSome, if◌then◌else◌, ⊤}
 use Rattle.std.specs.Option.{option_map}
 use Rattle.edi_calls.specs.declared.ends.Outside.{Outside}
-use Rattle.edi_calls.specs.Names.{Name, find}
+use Rattle.edi_calls.specs.Names.{Name, find, with_at}
 use Rattle.edi_calls.specs.Outcome as outcome
 use Rattle.edi_calls.specs.Ready.{children}
 use Rattle.edi_calls.specs.State.{State}
@@ -27,7 +27,9 @@ use Rattle.edi_kernel.specs.declared.stretch.Pause.TheVariants as pause
 use Rattle.edi_kernel.specs.declared.table.Standing.TheVariants as standing
 use Rattle.edi_kernel.specs.declared.table.Table.{Table}
 use Rattle.edi_kernel.specs.declared.state.KernelState.{KernelState}
-use Rattle.edi_kernel.specs.Table.{PutsProcess, Removed, at_its_when, waiting_for, process_at, marks_with, marked_with, unmarked, ready_slots, with_process}
+use Rattle.edi_kernel.specs.Table.{PutsProcess, Removed, at_its_when, going_by, waiting_for, process_at, marks_with, marked_with, unmarked, ready_slots}
+use Rattle.edi_kernel.specs.Table.{with_process}
+use Rattle.edi_kernel.specs.Stretch.{IsExecuted}
 use Rattle.edi_kernel.specs.TableIsMachine.{IsTable, IsTaken, IsBetween, Naming, TableIsMachine}
 use Rattle.edi_kernel.specs.Stints as stints
 use Rattle.edi_kernel.specs.Stints.{stint, followed}
@@ -53,6 +55,27 @@ pub record Holds (k : KernelState) (m : Machine) (taken : Option Name) (ready : 
   pub memory : m.memory ≡ k.store
   pub is_taken : taken ≡ option_map naming.name k.taken
   pub is_ready : ready ≡ map naming.name (ready_slots k.table)
+
+-- ---- the end of a run
+
+-- the machine in which the process p goes on as `l` says, and nobody is marked
+abbrev pub going_on : Machine → Name → Local → (forks : ℕ) → Machine
+going_on m p l forks = record m { memory = l.memory; activities = with_at m.activities p (activity_of l forks mach.ready); marks = [] }
+
+-- How the process p goes on whose instruction ended the run in this machine: as before that instruction, which has changed nothing. Where no
+-- turn was left for it, it has been executed all the same, unless it was the program's entry.
+abbrev pub GoesOnAs : List ℕ → Ending → Machine → Name → (was now : Local) → Type 0
+GoesOnAs words ending.Turns m p was now = (now ≡ was) ⊎ IsExecuted words (length m.activities) (is_first p) was now
+GoesOnAs words e m p was now = now ≡ was
+
+-- The run has ended in this machine by an instruction of the process p, beside these ready ones. The kernel is the machine, but that nobody
+-- is marked, and that p is still taken and goes on.
+pub record HoldsBroken (words : List ℕ) (e : Ending) (k : KernelState) (m : Machine) (p : Name) (others : List Name) : Type 0 where
+  pub activity : mach.Activity
+  pub found : find m.activities p ≡ Some activity
+  pub local : Local
+  pub goes_on : GoesOnAs words e m p (running_of m activity).local local
+  pub holds : Holds k (going_on m p local activity.forks) (Some p) others
 
 -- ---- stints
 
@@ -256,12 +279,18 @@ abbrev pub is_arrival : Pause → Bool
 is_arrival (pause.At kind.Arrive) = true
 is_arrival pause = false
 
--- nobody is taken any more, and marks are taken away where that is noted
+-- marks are taken away where that is noted
 abbrev pub paused : (cleared : Bool) → KernelState → KernelState
-paused cleared k = record k { table = if cleared then unmarked k.table else k.table; taken = None }
+paused cleared k = record k { table = if cleared then unmarked k.table else k.table }
+
+-- who is taken after a pause: nobody after a turn, and after an end of the run still the process that ended it
+abbrev pub taken_after : Pause → Option ℕ → Option ℕ
+taken_after (pause.At kind) taken = None
+taken_after (pause.Over ending) taken = taken
 
 -- the process at this slot, with this activity, pauses after so many turns
 abbrev pub Handles : Pause → (words : List ℕ) → (slot used : ℕ) → Activity → (old new : KernelState) → StintEnd → Type 0
 Handles (pause.Over ending) words slot used a old new result =
-    (new.table ≡ unmarked old.table) × (new.store ≡ old.store) × (result ≡ stint_end.Over used ending)
+    (new.table ≡ with_process (unmarked old.table) slot (going_by (process_at old.table slot) a)) × (new.store ≡ old.store)
+    × (result ≡ stint_end.Over used ending)
 Handles (pause.At kind) words slot used a old new result = HandlesTurn kind words slot used a old new result

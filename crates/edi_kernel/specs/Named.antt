@@ -1,5 +1,5 @@
 -- Words of contracts. Names that stay: by which names the kernel is a machine before a call of it, and by which after.
-use Rattle.std.specs.Prelude.{◌≡◌, ℕ, suc, ◌+◌, ◌++◌, Bool, true, false, length, slice_get, List, [], ◌∷◌, Option, Some, None}
+use Rattle.std.specs.Prelude.{◌≡◌, ℕ, suc, ◌+◌, ◌-◌, Bool, true, false, length, slice_get, List, Option, Some, ⊤}
 use Rattle.edi_calls.specs.Names.{Name, find}
 use Rattle.edi_calls.specs.Ready.{child, joins}
 use Rattle.edi_calls.specs.State.{State}
@@ -7,6 +7,7 @@ use Rattle.edi_target.specs.Attempts.{attempt_fails}
 use Rattle.edi_target.specs.Fetch.{fetch}
 use Rattle.edi_target.specs.Mach.{Machine, went, step}
 use Rattle.edi_trace.specs.Drawn.{Drawn}
+use Rattle.edi_kernel.specs.declared.ends.Ending.{Ending}
 use Rattle.edi_kernel.specs.declared.ends.Ending.TheVariants as ending
 use Rattle.edi_kernel.specs.declared.ends.StintEnd.{StintEnd}
 use Rattle.edi_kernel.specs.declared.ends.StintEnd.TheVariants as stint_end
@@ -16,7 +17,7 @@ use Rattle.edi_kernel.specs.declared.table.Table.{Table}
 use Rattle.edi_kernel.specs.Table.{is_live, process_at, ready_slots}
 use Rattle.edi_kernel.specs.TableIsMachine.{Naming}
 use Rattle.edi_kernel.specs.Stints.{followed}
-use Rattle.edi_kernel.specs.Kernel.{Holds, GoesTo}
+use Rattle.edi_kernel.specs.Kernel.{Holds, HoldsBroken, EndsRun, GoesTo}
 use Rattle.edi_kernel.specs.Runs.{Chooses}
 
 -- the kernel is this machine by these names
@@ -74,6 +75,22 @@ GoesBy words (stint_end.Forked used) left old n k now m p others =
 GoesBy words (stint_end.Over used ending.Standstill) left old n k now m p others =
     (g : GoesTo words (stint_end.Over used ending.Standstill) left k now m p others) × (g.3.naming ≡ n) × SlotsStay old.table k.table
 GoesBy words (stint_end.Over used e) left old n k now m p others = GoesTo words (stint_end.Over used e) left k now m p others
+
+-- the stint of p ended the run, and the kernel is the machine of that end by the same names, where p is still taken
+pub record BreaksRun (words : List ℕ) (left : ℕ) (e : Ending) (old : KernelState) (n : Naming) (k : KernelState) (now : State) (m : Machine) (p : Name)
+    (others : List Name) : Type 0 where
+  pub ends : EndsRun words left e k now m p others
+  pub broken : HoldsBroken words e k ends.machine p others
+  pub by : broken.holds.naming ≡ n
+  pub slots : SlotsStay old.table k.table
+
+-- So where the stint ended the run by an instruction of p. At a standstill nobody is taken, and `GoesBy` says the same; after a fault nothing
+-- is said of the processes.
+abbrev pub BreaksRunBy : List ℕ → StintEnd → (left : ℕ) → (old : KernelState) → Naming → KernelState → State → Machine → Name → List Name → Type 0
+BreaksRunBy words (stint_end.Over used ending.Standstill) left old n k now m p others = ⊤
+BreaksRunBy words (stint_end.Over used ending.Fault) left old n k now m p others = ⊤
+BreaksRunBy words (stint_end.Over used e) left old n k now m p others = BreaksRun words (left - used) e old n k now m p others
+BreaksRunBy words end left old n k now m p others = ⊤
 
 -- the next process is taken, by the same names
 abbrev pub ChoosesBy : Naming → KernelState → Machine → (old new : Drawn) → (ready : List Name) → Type 0

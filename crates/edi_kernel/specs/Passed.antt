@@ -1,7 +1,7 @@
 -- Words of contracts. The moments of a run and the past of its system are one: each moment shows the newest state, and the past has no others.
 use Rattle.std.specs.Prelude.{◌≡◌, ◌⊎◌, ℕ, suc, true, List, ◌++◌, Some, Contains}
 use Rattle.edi_calls.specs.declared.ends.Outside.{Outside}
-use Rattle.edi_calls.specs.Asked.{uses, Asks, IsFollowed}
+use Rattle.edi_calls.specs.Asked.{uses, may_have_done, Asks, IsFollowed}
 use Rattle.edi_calls.specs.Choice.{Choices}
 use Rattle.edi_calls.specs.Laws.{IsSameOutside}
 use Rattle.edi_calls.specs.State.{State, moments_of, newest}
@@ -47,13 +47,13 @@ FaultIsMoment =
     (moment : State) × ComesThrough (fetch code.words) code.entry code.calls system bound old.source old.drawn moment × IsSameOutside moment now
 
 -- Of the two states, which follow one another in this past, the call between them uses this object. But for the found file and the
--- buffer the system is now the one or the other.
+-- buffer the system is now the one or the other; where the input has failed, it is the first.
 pub record IsFailedCall (outside : Outside) (system : State) (past : List State) (now : State) : Type 0 where
   pub before : State
   pub next : State
   pub follows : IsFollowed system past before next
   pub asks : Asks outside before next
-  pub at : IsSameOutside before now ⊎ IsSameOutside next now
+  pub at : IsSameOutside before now ⊎ ((may_have_done outside ≡ true) × IsSameOutside next now)
 
 -- Where an object outside failed in a run, this is so of the call that failed and of each object that it uses, in the past that the run
 -- has with that call answered.

@@ -18,7 +18,7 @@ use Rattle.edi_kernel.specs.declared.ends.Ending.{Ending}
 use Rattle.edi_kernel.specs.declared.ends.Ending.TheVariants as ending
 use Rattle.edi_kernel.specs.declared.state.KernelState.{KernelState}
 use Rattle.edi_kernel.specs.Table.{FirstAlone, Withdraws, ready_slots}
-use Rattle.edi_kernel.specs.Kernel.{IsKernel, Holds, EndsAs, KeepsWords, FailsAt}
+use Rattle.edi_kernel.specs.Kernel.{IsKernel, Holds, HoldsBroken, EndsAs, KeepsWords, FailsAt}
 use Rattle.edi_kernel.specs.Moments.{Moment, moment, moment_at, moment_of}
 
 -- ---- the next process
@@ -140,6 +140,14 @@ RoundsBy failed words bound (Some ending.Fault) k now old new m p others =
     (f : RunFails words bound k now old new m p others) × IsUsed f.fails.number failed
 RoundsBy failed words bound e k now old new m p others = ⊤
 
+-- where a round has ended the run by an instruction of p, the kernel is the machine of that end
+abbrev pub RoundsBroken : List ℕ → (bound : ℕ) → Option Ending → KernelState → State → (old new : Drawn) → Machine → Name → List Name → Type 0
+RoundsBroken words bound None k now old new m p others = ⊤
+RoundsBroken words bound (Some ending.Standstill) k now old new m p others = ⊤
+RoundsBroken words bound (Some ending.Fault) k now old new m p others = ⊤
+RoundsBroken words bound (Some e) k now old new m p others =
+    (h : RunEnds words bound e k now old new m p others) × HoldsBroken words e k h.machine p others
+
 -- where the next stint begins: at this machine; or, where the entry's turn is still due, at the one after that turn
 abbrev pub IsAtBy : Bool → CodeParts → KernelState → State → (left : ℕ) → Machine → Name → List Name → Type 0
 IsAtBy false code k s left m p others = Holds k m (Some p) others × (m.system ≡ s) × (m.turns ≡ left)
@@ -202,9 +210,22 @@ pub record StandsStill (code : CodeParts) (system : State) (bound : ℕ) (old : 
   pub ready : List Name
   pub holds : Holds k machine None ready
 
+-- The machine in which this run of the code ended by an instruction of a process: the kernel is that machine, but that nobody is marked, and
+-- that this process is still taken and goes on.
+pub record StandsBroken (code : CodeParts) (system : State) (bound : ℕ) (old : Drawn) (e : Ending) (k : KernelState) (new : Drawn) : Type 0 where
+  pub machine : Machine
+  pub end : outcome.Ending
+  pub is : EndsAfter code system bound old.source old.drawn end machine new.drawn
+  pub same : EndsAs end e
+  pub name : Name
+  pub others : List Name
+  pub broken : HoldsBroken code.words e k machine name others
+
+-- after each end of a run but a fault the kernel is the machine of that end
 abbrev pub StandsIn : CodeParts → State → (bound : ℕ) → (old : Drawn) → Ending → KernelState → (new : Drawn) → Type 0
 StandsIn code system bound old ending.Standstill k new = StandsStill code system bound old k new
-StandsIn code system bound old e k new = ⊤
+StandsIn code system bound old ending.Fault k new = ⊤
+StandsIn code system bound old e k new = StandsBroken code system bound old e k new
 
 -- where no choice had been drawn before, a run of the kernel has an outcome of the machine's definition
 abbrev pub RunsAreTheMachines : Type 0

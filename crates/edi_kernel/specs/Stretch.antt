@@ -9,7 +9,7 @@ use Rattle.edi_calls.specs.Calls.{call}
 use Rattle.edi_calls.specs.Outcome as outcome
 use Rattle.edi_target.specs.Op.{Instruction}
 use Rattle.edi_target.specs.Fetch.{fetch}
-use Rattle.edi_target.specs.Effect.{Local, Turn, entering, leaving, looping, arriving, again, forking, exiting, finishing, asks}
+use Rattle.edi_target.specs.Effect.{Local, Turn, entering, leaving, looping, arriving, again, forking, exiting, finishing, asks, due}
 use Rattle.edi_target.specs.Mach.{Running, Answer, on, behind, turned, over, local_step}
 use Rattle.edi_machine.specs.declared.activity.Activity.{Activity}
 use Rattle.edi_machine.specs.declared.ends.TurnKind.{TurnKind}
@@ -159,24 +159,29 @@ IsKind words (forking branches) (kind.Fork at) = branches_at words at ≡ branch
 IsKind words exiting kind.Exit = ⊤
 IsKind words _ _ = ⊥
 
+-- an instruction of which a turn is due was executed
+abbrev pub IsExecuted : List ℕ → (live : ℕ) → (is_first : Bool) → (was now : Local) → Type 0
+IsExecuted words live is_first was now = (turn : Turn) × (effect_of words live is_first was ≡ due turn now)
+
 -- The endings of the run. Where a turn was due and none was left, the instruction has been executed all the same.
-abbrev pub Stops : outcome.Ending → Ending → (was now : Running) → Type 0
-Stops (outcome.halted line) (ending.Halted at) was now = (at ≡ line) × (now ≡ was)
-Stops (outcome.failed cause line) (ending.Failed c at) was now = (c ≡ cause) × (at ≡ line) × (now ≡ was)
-Stops outcome.turns ending.Turns was now = (now.turns ≡ was.turns) × (now.system ≡ was.system)
-Stops (outcome.bad address) (ending.Bad at) was now = (at ≡ address) × (now ≡ was)
-Stops _ _ was now = ⊥
+abbrev pub Stops : List ℕ → (live : ℕ) → (is_first : Bool) → outcome.Ending → Ending → (was now : Running) → Type 0
+Stops words live is_first (outcome.halted line) (ending.Halted at) was now = (at ≡ line) × (now ≡ was)
+Stops words live is_first (outcome.failed cause line) (ending.Failed c at) was now = (c ≡ cause) × (at ≡ line) × (now ≡ was)
+Stops words live is_first outcome.turns ending.Turns was now =
+    (now.turns ≡ was.turns) × (now.system ≡ was.system) × IsExecuted words live is_first was.local now.local
+Stops words live is_first (outcome.bad address) (ending.Bad at) was now = (at ≡ address) × (now ≡ was)
+Stops words live is_first _ _ was now = ⊥
 
 -- An arrival takes all marks away, whatever is noted of them. Where a process pauses at another turn, that is noted which was cleared.
 abbrev pub IsNoted : TurnKind → (is_cleared cleared : Bool) → Type 0
 IsNoted kind.Arrive is_cleared cleared = ⊤
 IsNoted kind is_cleared cleared = is_cleared ≡ cleared
 
-abbrev pub Pauses : List ℕ → Paused → Pause → (now : Running) → (cleared : Bool) → Type 0
-Pauses words (pausing finishing r cleared) (pause.Over ending.Done) now is_cleared = now ≡ r
-Pauses words (pausing turn r cleared) (pause.At kind) now is_cleared = IsKind words turn kind × (now ≡ r) × IsNoted kind is_cleared cleared
-Pauses words (stopping ending r cleared) (pause.Over e) now is_cleared = Stops ending e r now
-Pauses words _ _ now is_cleared = ⊥
+abbrev pub Pauses : List ℕ → (live : ℕ) → (is_first : Bool) → Paused → Pause → (now : Running) → (cleared : Bool) → Type 0
+Pauses words live is_first (pausing finishing r cleared) (pause.Over ending.Done) now is_cleared = now ≡ r
+Pauses words live is_first (pausing turn r cleared) (pause.At kind) now is_cleared = IsKind words turn kind × (now ≡ r) × IsNoted kind is_cleared cleared
+Pauses words live is_first (stopping ending r cleared) (pause.Over e) now is_cleared = Stops words live is_first ending e r now
+Pauses words live is_first _ _ now is_cleared = ⊥
 
 -- an object outside failed in a system call of this instruction, which the activity has still before it
 pub record Torn (words : List ℕ) (live : ℕ) (is_first : Bool) (was now : Running) : Type 0 where
@@ -196,7 +201,7 @@ StepsFrom words live is_first was cleared answer None now is_cleared =
     (more : Running → Bool → Paused) → after_answer more cleared answer ≡ more now is_cleared
 StepsFrom words live is_first was cleared answer (Some (pause.Over ending.Fault)) now is_cleared = Torn words live is_first was now
 StepsFrom words live is_first was cleared answer (Some pause) now is_cleared =
-    (x : Paused) × ((more : Running → Bool → Paused) → after_answer more cleared answer ≡ x) × Pauses words x pause now is_cleared
+    (x : Paused) × ((more : Running → Bool → Paused) → after_answer more cleared answer ≡ x) × Pauses words live is_first x pause now is_cleared
 
 abbrev pub OneStep : List ℕ → (live : ℕ) → (is_first : Bool) → (was : Running) → Bool → Option Pause → (now : Running) → Bool → Type 0
 OneStep words live is_first was cleared result now is_cleared =
@@ -242,7 +247,7 @@ pub record Arrives (words : List ℕ) (live : ℕ) (is_first : Bool) (was : Runn
     pub steps : ℕ
     pub end : Paused
     pub is : stretch (fetch words) live is_first steps was cleared ≡ end
-    pub pauses : Pauses words end pause now is_cleared
+    pub pauses : Pauses words live is_first end pause now is_cleared
 
 abbrev pub Stretches : List ℕ → (live : ℕ) → (is_first : Bool) → (was : Running) → Bool → Pause → (now : Running) → Bool → Type 0
 Stretches words live is_first was cleared (pause.Over ending.Fault) now is_cleared = Breaks words live is_first was cleared now

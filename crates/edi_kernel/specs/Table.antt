@@ -82,6 +82,9 @@ at_its_when process a = record process { standing = standing.AtWhen; activity = 
 abbrev pub waiting_for : ℕ → Process → Activity → Process
 waiting_for children process a = record process { standing = standing.Waiting children; activity = a }
 
+abbrev pub going_by : Process → Activity → Process
+going_by process a = record process { standing = standing.Ready; activity = a }
+
 abbrev pub beginning : (parent : ℕ) → Activity → Process
 beginning parent a = record { parent = parent; standing = standing.Ready; activity = a }
 

@@ -27,7 +27,7 @@ ghost use Rattle.edi_kernel.specs.Stretch.{Blamed};
 ghost use Rattle.edi_kernel.specs.Kernel.{BreaksBy, GoesTo, Holds, IsKernel, MayFail, StandsAfter, StandsAtEnd, fault_of, faulted, is_over, used_in};
 ghost use Rattle.edi_kernel.specs.Kept.{IsCleared, IsKeptOf, IsMarkCount, IsWhole, LinesUp, PutsBack, TakesAt, below_of};
 ghost use Rattle.edi_kernel.specs.TableIsMachine.{Naming};
-ghost use Rattle.edi_kernel.specs.Named.{ChoosesBy, GoesBy, HoldsBy};
+ghost use Rattle.edi_kernel.specs.Named.{BreaksRunBy, ChoosesBy, GoesBy, HoldsBy};
 ghost use Rattle.edi_kernel.specs.Runs.{Chooses, FaultsBy, IsAt, RunsTo, StandsIn, Started, TakesNext};
 
 use edi_calls::Calls;
@@ -115,7 +115,7 @@ impl Kernel {
         self.state.taken.is_some()
     }
 
-    /// The slot of the process that is taken, if one is.
+    /// The slot of the process that is taken, if one is. After an end of the run, but at a standstill, it is the one whose instruction ended it.
     pub fn taken(&self) -> Option<usize>
         ensures exact { result ≡ self.now.taken }
         ensures inside { IfSome result (λ slot. slot < 32) }
@@ -141,6 +141,9 @@ impl Kernel {
     ///
     /// Names stay: each process that lives on keeps its slot and its name, and children have names of their own. `failed` tells whether
     /// the last instruction of a stint that switches is the end of an attempt that has failed.
+    ///
+    /// After each end of the run but `Fault` the kernel is the machine of that end, by the same names. At a standstill nobody is taken; after
+    /// the other ends the process is that ended the run. It goes on where its last instruction stands, or after `Turns` behind it.
     pub fn stint<C: Calls>(&mut self, code: &Code, calls: &mut C, turns_left: u64) -> StintEnd
         requires taken { IsSome self.old.taken }
         requires working { C.failed calls.old None }
@@ -152,6 +155,9 @@ impl Kernel {
         ensures names { WhereTold (C.state calls.old) (C.state calls.new) (λ s t. (m : Machine) (p : Name) (others : List Name) (n : Naming) →
             IsAt code.now self.old s turns_left m p others → HoldsBy n self.old m (Some p) others →
             GoesBy code.now.words result turns_left self.old n self.new t m p others) }
+        ensures ends { WhereTold (C.state calls.old) (C.state calls.new) (λ s t. (m : Machine) (p : Name) (others : List Name) (n : Naming) →
+            IsAt code.now self.old s turns_left m p others → HoldsBy n self.old m (Some p) others →
+            BreaksRunBy code.now.words result turns_left self.old n self.new t m p others) }
         ensures entry { self.old.entering ≡ true → turns_left ≡ 0 → result ≡ StintEnd.Over 0 Ending.Turns }
         ensures untouched { self.old.entering ≡ true → turns_left ≡ 0 → calls.new ≡ calls.old }
         ensures free { is_over result ≡ false → self.new.taken ≡ None }
@@ -279,7 +285,8 @@ impl Kernel {
     /// `Fault` comes only where an object outside failed in this call: by the definition the run then stands at a system
     /// call that was to be answered, after as many turns and choices, and the state of the system is one that it may leave.
     ///
-    /// After a standstill the kernel is the machine of that end: `process`, `below` and `word` tell how its processes stand there.
+    /// After each end but `Fault` the kernel is the machine of that end: `process`, `below` and `word` tell how its processes stand there, and
+    /// `taken` which of them ended the run. That process goes on where its last instruction stands, or after `Turns` behind it.
     pub fn run<C: Calls>(
         &mut self,
         code: &Code,
@@ -353,6 +360,15 @@ impl Kernel {
         ensures ordered { IsOrdered result.1 }
     {
         self.state.table.process(slot)
+    }
+
+    /// The slot of the parent of the process at this slot, of those below 32. The first process stands for its own parent.
+    pub fn parent(&self, slot: usize) -> usize
+        requires { slot < 32 }
+        ensures exact { result ≡ (process_at self.now.table slot).parent }
+        ensures inside { result < 32 }
+    {
+        self.state.table.processes[slot].parent
     }
 
     /// The frame below the one at `base`, in the segment that begins at `first`; none below the lowest.

@@ -12,8 +12,8 @@ ghost use Rattle.edi_calls.specs.Ends.{CallsLast};
 ghost use Rattle.edi_kernel.specs.Stretch.{Blamed};
 ghost use Rattle.edi_kernel.specs.Kernel.{BreaksBy, GoesTo, Holds, IsKernel, MayFail, ended_by, fault_of, faulted, is_over, later_by, used_in, StandsAfter, StandsAtEnd};
 ghost use Rattle.edi_kernel.specs.TableIsMachine.{Naming};
-ghost use Rattle.edi_kernel.specs.Named.{ChoosesBy, GoesBy, HoldsBy};
-ghost use Rattle.edi_kernel.specs.Runs.{Chooses, EndsUnready, FaultsBy, IsAt, Picks, Proceeds, Rounds, RoundsBy, RunsTo, StandsIn, Started, TakesNext};
+ghost use Rattle.edi_kernel.specs.Named.{BreaksRunBy, ChoosesBy, GoesBy, HoldsBy};
+ghost use Rattle.edi_kernel.specs.Runs.{Chooses, EndsUnready, FaultsBy, IsAt, Picks, Proceeds, Rounds, RoundsBroken, RoundsBy, RunsTo, StandsIn, Started, TakesNext};
 
 use crate::ends::{Ending, StintEnd};
 use crate::state::KernelState;
@@ -163,6 +163,9 @@ impl KernelState {
         ensures asked { WhereTold (C.state calls.old) (C.state calls.new) (λ s t. (m : Machine) (p : Name) (others : List Name) →
             Holds self.old m (Some p) others → m.system ≡ s → m.turns ≡ bound - self.old.used →
             RoundsBy (C.failed calls.new) code.now.words bound result self.new t choices.old choices.new m p others) }
+        ensures ends { WhereTold (C.state calls.old) (C.state calls.new) (λ s t. (m : Machine) (p : Name) (others : List Name) →
+            Holds self.old m (Some p) others → m.system ≡ s → m.turns ≡ bound - self.old.used →
+            RoundsBroken code.now.words bound result self.new t choices.old choices.new m p others) }
         ensures kernel { IsKernel self.new }
         ensures taken { result ≡ None → IsSome self.new.taken }
         ensures used { self.new.used ≤ bound }
@@ -235,6 +238,9 @@ impl KernelState {
         ensures names { WhereTold (C.state calls.old) (C.state calls.new) (λ s t. (m : Machine) (p : Name) (others : List Name) (n : Naming) →
             IsAt code.now self.old s turns_left m p others → HoldsBy n self.old m (Some p) others →
             GoesBy code.now.words result turns_left self.old n self.new t m p others) }
+        ensures ends { WhereTold (C.state calls.old) (C.state calls.new) (λ s t. (m : Machine) (p : Name) (others : List Name) (n : Naming) →
+            IsAt code.now self.old s turns_left m p others → HoldsBy n self.old m (Some p) others →
+            BreaksRunBy code.now.words result turns_left self.old n self.new t m p others) }
         ensures entry { self.old.entering ≡ true → turns_left ≡ 0 → result ≡ StintEnd.Over 0 Ending.Turns }
         ensures untouched { self.old.entering ≡ true → turns_left ≡ 0 → calls.new ≡ calls.old }
         ensures kernel { IsKernel self.new }

@@ -28,9 +28,10 @@ ghost use Rattle.edi_kernel.specs.Kernel.{
   is_failure,
   is_over,
   paused,
+  taken_after,
   used_in,
 };
-ghost use Rattle.edi_kernel.specs.Named.{GoesBy, HoldsBy};
+ghost use Rattle.edi_kernel.specs.Named.{BreaksRunBy, GoesBy, HoldsBy};
 
 use crate::ends::{Ending, StintEnd};
 use crate::fork::{branch_count, fork};
@@ -46,7 +47,7 @@ use edi_target::Code;
 pub(crate) struct KernelState {
     pub(crate) store: Store,
     pub(crate) table: Table,
-    /// The slot of the process that is taken.
+    /// The slot of the process that is taken. After an end of the run by one of its instructions it still is.
     pub(crate) taken: Option<usize>,
     /// Whether the turn of the program's entry is still to be taken.
     pub(crate) entering: bool,
@@ -119,7 +120,7 @@ impl KernelState {
         fork(&mut self.store, &mut self.table, code, at, slot, activity);
     }
 
-    /// Handles a turn of the process at `slot` at which it paused.
+    /// Handles a turn of the process at `slot` at which it paused. It is taken no more.
     #[inline(never)]
     fn handle_turn(
         &mut self,
@@ -138,10 +139,11 @@ impl KernelState {
         ensures standing { StandsAfter result (Some slot) (ready_slots self.old.table) self.new.table self.new.arrived }
         ensures failed { MayFail result self.new.failed }
         ensures exact { HandlesTurn kind code.now.words slot used activity.now self.old self.new result }
-        ensures taken { self.new.taken ≡ self.old.taken }
+        ensures free { self.new.taken ≡ None }
         ensures entering { self.new.entering ≡ self.old.entering }
         ensures turns { self.new.used ≡ self.old.used }
     {
+        self.taken = None;
         match kind {
             TurnKind::Again(true) => {
                 self.failed = true;
@@ -170,7 +172,7 @@ impl KernelState {
         }
     }
 
-    /// Handles the pause of the process at `slot`, which has this activity, after so many turns.
+    /// Handles the pause of the process at `slot`, which has this activity, after so many turns. It is taken no more, unless it ended the run.
     #[inline(always)]
     fn handle(
         &mut self,
@@ -189,7 +191,7 @@ impl KernelState {
         ensures standing { StandsAfter result (Some slot) (ready_slots self.old.table) self.new.table self.new.arrived }
         ensures failed { MayFail result self.new.failed }
         ensures exact { Handles pause code.now.words slot used activity.now self.old self.new result }
-        ensures taken { self.new.taken ≡ self.old.taken }
+        ensures taken { self.new.taken ≡ taken_after pause self.old.taken }
         ensures entering { self.new.entering ≡ self.old.entering }
         ensures turns { self.new.used ≡ self.old.used }
     {
@@ -199,6 +201,7 @@ impl KernelState {
                 self.failed = false;
                 self.arrived = None;
                 self.table.unmark();
+                self.table.go_on(slot, *activity);
                 StintEnd::Over { used, ending }
             }
         }
@@ -223,7 +226,7 @@ impl KernelState {
         StintEnd::Arrived { used }
     }
 
-    /// Handles the pause of the process at `slot`, which has come so far, after so many turns. It is taken no more.
+    /// Handles the pause of the process at `slot`, which has come so far, after so many turns. It is taken no more, unless it ended the run.
     ///
     /// An arrival is handled here, apart from all that is rare. It takes all marks away, whatever is noted of them.
     #[inline(always)]
@@ -244,14 +247,13 @@ impl KernelState {
         ensures standing { StandsAfter result (Some slot) (ready_slots self.old.table) self.new.table self.new.arrived }
         ensures failed { MayFail result self.new.failed }
         ensures exact { Handles pause code.now.words slot used progress.now.activity (paused progress.now.cleared self.old) self.new result }
-        ensures free { self.new.taken ≡ None }
+        ensures taken { self.new.taken ≡ taken_after pause self.old.taken }
         ensures entering { self.new.entering ≡ self.old.entering }
         ensures turns { self.new.used ≡ self.old.used }
     {
         if is_arrival(pause) {
             return self.arrive(slot, &progress.activity, used);
         }
-        self.taken = None;
         self.table.unmark_if(progress.cleared);
         self.handle(code, slot, &progress.activity, pause, used)
     }
@@ -299,8 +301,11 @@ impl KernelState {
             GoesBy code.now.words result left self.old n self.new t m p others) }
         ensures asked { WhereTold (C.state calls.old) (C.state calls.new) (λ s t. (m : Machine) (p : Name) (others : List Name) →
             Holds self.old m (Some p) others → m.system ≡ s → m.turns ≡ left → BreaksBy (C.failed calls.new) code.now.words result left t m p others) }
+        ensures ends { WhereTold (C.state calls.old) (C.state calls.new) (λ s t. (m : Machine) (p : Name) (others : List Name) (n : Naming) →
+            HoldsBy n self.old m (Some p) others → m.system ≡ s → m.turns ≡ left →
+            BreaksRunBy code.now.words result left self.old n self.new t m p others) }
         ensures kernel { IsKernel self.new }
-        ensures free { self.new.taken ≡ None }
+        ensures free { is_over result ≡ false → self.new.taken ≡ None }
         ensures standing { StandsAfter result self.old.taken (ready_slots self.old.table) self.new.table self.new.arrived }
         ensures failed { MayFail result self.new.failed }
         ensures used { used_in result ≤ left }

@@ -13,6 +13,7 @@ ghost use Rattle.edi_kernel.specs.Table.{
   at_its_when,
   first_home,
   free_slots,
+  going_by,
   is_live,
   is_waiting,
   marked_with,
@@ -241,6 +242,18 @@ impl Table {
         };
     }
 
+    /// The process, which is taken, goes on with this activity when it is resumed.
+    pub(crate) fn go_on(&mut self, slot: usize, activity: Activity)
+        requires { slot < 32 }
+        ensures { self.new ≡ with_process self.old slot (going_by (process_at self.old slot) activity) }
+    {
+        self.processes[slot] = Process {
+            standing: Standing::Ready,
+            activity,
+            ..self.processes[slot]
+        };
+    }
+
     /// Takes a free slot, of which there is one.
     fn take_free(&mut self) -> usize
         requires sound { IsSound 32 2 self.old.lists }
@@ -316,9 +329,7 @@ impl Table {
         if at == 0 {
             return self.lists.take_front(READY);
         }
-        let slot = self.lists.at(READY, at);
-        self.withdraw(slot);
-        slot
+        self.lists.take_at(READY, at)
     }
 
     /// Whether the process at this slot is ready.

@@ -1,16 +1,16 @@
 -- A stint of the kernel is one of the machine.
-use Rattle.std.proofs.Common.{◌≡◌, ◌-◌, ap, refl, subst, sym, if◌then◌else◌}
+use Rattle.std.proofs.Common.{◌-◌, ap, refl, subst, sym, ◌∙◌, if◌then◌else◌}
 use Rattle.std.specs.Prelude.{◌==◌, Some, length}
 use Rattle.edi_told.proofs.Told.{WhereTold-map}
 use Rattle.edi_machine.specs.Activities.{local_of}
 use Rattle.edi_kernel.specs.declared.state.KernelState.{KernelState}
 use Rattle.edi_kernel.specs.declared.table.Table.{Table}
-use Rattle.edi_kernel.specs.Kernel.{paused}
+use Rattle.edi_kernel.specs.Kernel.{paused, taken_after}
 use Rattle.edi_kernel.specs.Stretch.{Allows}
 use Rattle.edi_kernel.specs.Table.{free_slots, ready_slots, unmarked}
 use Rattle.edi_kernel.specs.TableIsMachine.{IsTable, IsTaken}
 use Rattle.edi_kernel.proofs.StintGiven.{taken_at}
-use Rattle.edi_kernel.proofs.Going.{mid_of, stays_kernel, goes_all, breaks_all}
+use Rattle.edi_kernel.proofs.Going.{mid_of, stays_kernel, goes_all, ends_all, breaks_all, free_after}
 use Rattle.edi_kernel.proofs.Placing.{stands_same}
 use Rattle.edi_kernel.proofs.state.KernelState.go.Goals as goal
 
@@ -38,7 +38,7 @@ returns-clause-exact g c =
     (mid_of c.args.self.now c.walk-pause.new.self
     (if c.walk-pause.new.progress.cleared then unmarked c.walk-pause.new.self.table else c.walk-pause.new.self.table) c.unwrap-slot.result
     c.walk-pause.new.progress.cleared c.requires.kernel c.unwrap-slot.ensures (ap (λ (k : KernelState). k.table) c.walk-pause.ensures.same) refl)
-    c.settle.ensures.free c.walk-pause.ensures.less c.walk-pause.ensures.ordered c.walk-pause.ensures.allowed c.settle.ensures.exact)
+    (c.settle.ensures.taken ∙ ap (taken_after c.walk-pause.result) (ap (λ (k : KernelState). k.taken) c.walk-pause.ensures.same ∙ c.unwrap-slot.ensures)) c.walk-pause.ensures.less c.walk-pause.ensures.ordered c.walk-pause.ensures.allowed c.settle.ensures.exact)
     c.walk-pause.ensures.exact
 
 pub returns-clause-kernel : goal.returns-clause-kernel
@@ -49,7 +49,7 @@ returns-clause-kernel g c =
     (mid_of c.args.self.now c.walk-pause.new.self
     (if c.walk-pause.new.progress.cleared then unmarked c.walk-pause.new.self.table else c.walk-pause.new.self.table) c.unwrap-slot.result
     c.walk-pause.new.progress.cleared c.requires.kernel c.unwrap-slot.ensures (ap (λ (k : KernelState). k.table) c.walk-pause.ensures.same) refl)
-    c.settle.ensures.free c.walk-pause.ensures.less c.walk-pause.ensures.ordered c.walk-pause.ensures.allowed c.settle.ensures.exact
+    (c.settle.ensures.taken ∙ ap (taken_after c.walk-pause.result) (ap (λ (k : KernelState). k.taken) c.walk-pause.ensures.same ∙ c.unwrap-slot.ensures)) c.walk-pause.ensures.less c.walk-pause.ensures.ordered c.walk-pause.ensures.allowed c.settle.ensures.exact
     _ c.settle.ensures.standing
 
 pub returns-clause-standing : goal.returns-clause-standing
@@ -66,6 +66,25 @@ returns-clause-asked g c =
     (mid_of c.args.self.now c.walk-pause.new.self
     (if c.walk-pause.new.progress.cleared then unmarked c.walk-pause.new.self.table else c.walk-pause.new.self.table) c.unwrap-slot.result
     c.walk-pause.new.progress.cleared c.requires.kernel c.unwrap-slot.ensures (ap (λ (k : KernelState). k.table) c.walk-pause.ensures.same) refl)
-    c.settle.ensures.free c.walk-pause.ensures.less c.walk-pause.ensures.ordered c.walk-pause.ensures.allowed c.settle.ensures.exact
+    (c.settle.ensures.taken ∙ ap (taken_after c.walk-pause.result) (ap (λ (k : KernelState). k.taken) c.walk-pause.ensures.same ∙ c.unwrap-slot.ensures)) c.walk-pause.ensures.less c.walk-pause.ensures.ordered c.walk-pause.ensures.allowed c.settle.ensures.exact
     (g.C.Calls.failed c.walk-pause.new.calls) c.walk-pause.ensures.asked)
     c.walk-pause.ensures.exact
+
+pub returns-clause-ends : goal.returns-clause-ends
+returns-clause-ends g c =
+    WhereTold-map _ _ _ _
+    (ends_all c.args.code.now.words c.args.self.now (paused c.walk-pause.new.progress.cleared c.walk-pause.new.self)
+    c.settle.new.self c.unwrap-slot.result c.args.left c.walk-pause.new.progress.left
+    c.walk-pause.new.progress.activity c.walk-pause.new.progress.cleared c.walk-pause.result c.settle.result _ c.requires.kernel c.unwrap-slot.ensures
+    (mid_of c.args.self.now c.walk-pause.new.self
+    (if c.walk-pause.new.progress.cleared then unmarked c.walk-pause.new.self.table else c.walk-pause.new.self.table) c.unwrap-slot.result
+    c.walk-pause.new.progress.cleared c.requires.kernel c.unwrap-slot.ensures (ap (λ (k : KernelState). k.table) c.walk-pause.ensures.same) refl)
+    (c.settle.ensures.taken ∙ ap (taken_after c.walk-pause.result) (ap (λ (k : KernelState). k.taken) c.walk-pause.ensures.same ∙ c.unwrap-slot.ensures)) c.walk-pause.ensures.less c.walk-pause.ensures.ordered c.walk-pause.ensures.allowed c.settle.ensures.exact)
+    c.walk-pause.ensures.exact
+
+pub returns-clause-free : goal.returns-clause-free
+returns-clause-free g c = λ goes.
+    c.settle.ensures.taken
+    ∙ free_after c.walk-pause.result c.args.code.now.words c.unwrap-slot.result (c.args.left - c.walk-pause.new.progress.left)
+    c.walk-pause.new.progress.activity (paused c.walk-pause.new.progress.cleared c.walk-pause.new.self) c.settle.new.self c.settle.result _
+    c.settle.ensures.exact goes

@@ -1,7 +1,8 @@
 -- A round of the kernel is one of the machine.
 use Rattle.std.proofs.Common.{◌+◌, ◌-◌, ◌∙◌, sym, refl, arith}
 use Rattle.edi_kernel.proofs.Named.{told_goes_to}
-use Rattle.edi_kernel.proofs.Rounds.{told_round_breaks, told_round_ends, told_round_goes, told_unready, holds_same, keeps_unready}
+use Rattle.edi_kernel.proofs.Rounds.{told_round_breaks, told_round_broken, told_round_ends, told_round_goes, told_unbroken, told_unready, holds_same}
+use Rattle.edi_kernel.proofs.Rounds.{going_free, keeps_unready}
 use Rattle.edi_kernel.proofs.Placing.{stands_at_end, stands_unready}
 use Rattle.edi_kernel.proofs.state.KernelState.round.Goals as goal
 
@@ -51,3 +52,22 @@ returns-clause-asked g c =
     (omega (arith, c.go-end.ensures.turns, c.used_in.ensures, c.go-end.ensures.used, c.requires.used, c.proceed.ensures.turns)) c.proceed.ensures.store
     (g.C.Calls.failed c.go-end.new.calls) c.proceed.result c.proceed.new.choices
     (record c.go-end.new.self { used = c.go-end.new.self.used + c.used_in.result }) c.proceed.new.self c.proceed.ensures.nobody c.go-end.ensures.asked
+
+pub returns-in-Some-clause-ends : goal.returns-in-Some-clause-ends
+returns-in-Some-clause-ends g c =
+    told_round_broken c.args.code.now.words c.args.bound c.args.self.now c.go-end.new.self
+    (record c.go-end.new.self { used = c.go-end.new.self.used + c.used_in.result }) c.args.choices.now
+    (c.args.bound - c.args.self.now.used) c.go-end.result _ _
+    (omega (arith, c.go-end.ensures.turns, c.used_in.ensures, c.go-end.ensures.used, c.requires.used)) refl c.in-Some.ending (sym c.in-Some.ensures) refl refl
+    c.go-end.ensures.ends
+
+pub returns-clause-ends : goal.returns-clause-ends
+returns-clause-ends g c =
+    told_unbroken c.args.code.now.words c.args.bound c.args.self.now c.go-end.new.self c.proceed.new.self c.args.choices.now
+    (c.args.bound - c.args.self.now.used) c.go-end.result _ _
+    (omega (arith, c.go-end.ensures.turns, c.used_in.ensures, c.go-end.ensures.used, c.requires.used, c.proceed.ensures.turns)) c.proceed.ensures.store
+    c.proceed.result c.proceed.new.choices (record c.go-end.new.self { used = c.go-end.new.self.used + c.used_in.result }) c.proceed.new.self
+    c.proceed.ensures.nobody c.go-end.ensures.ends
+
+pub proceed-requires-clause-free : goal.proceed-requires-clause-free
+proceed-requires-clause-free g c = c.go-end.ensures.free (going_free c.go-end.result (sym c.ended_by.ensures ∙ c.in_default.is))

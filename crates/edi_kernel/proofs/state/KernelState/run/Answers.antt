@@ -1,7 +1,8 @@
 -- A run of the kernel is the machine's.
 use Rattle.std.proofs.Common.{refl, ap, arith, ◌∙◌, false}
 use Rattle.std.specs.Prelude.{is_some}
-use Rattle.edi_kernel.proofs.Rounds.{told_never, told_begins, told_ends, told_faults, told_more, told_stands, nothing_told}
+use Rattle.edi_kernel.proofs.Rounds.{nothing_told}
+use Rattle.edi_kernel.proofs.Underway.{told_never, told_begins, told_ends, told_faults, told_more, told_never_stands, told_stands}
 use Rattle.edi_kernel.proofs.Stretches.{lasts_on}
 use Rattle.edi_kernel.proofs.state.KernelState.run.Goals as goal
 
@@ -12,7 +13,10 @@ returns-then-bound-eq0-clause-exact g c =
     (record c.start.new.self { entering = false }) c.start.ensures c.if-bound-eq0.true c.start.ensures.used
 
 pub returns-then-bound-eq0-clause-stands : goal.returns-then-bound-eq0-clause-stands
-returns-then-bound-eq0-clause-stands g c = λ small. nothing_told (g.C.Calls.state c.args.calls.now)
+returns-then-bound-eq0-clause-stands g c =
+    λ small.
+    told_never_stands c.args.code.now c.args.bound c.args.choices.now (g.C.Calls.state c.args.calls.now) c.start.new.self
+    (record c.start.new.self { entering = false }) c.start.ensures c.if-bound-eq0.true refl refl refl
 
 pub rounds-init : goal.rounds-init
 rounds-init g c = record {
@@ -42,7 +46,7 @@ returns-in-Some-clause-stands g c =
     told_stands c.args.code.now c.args.bound c.args.choices.now (g.C.Calls.state c.args.calls.now) (g.C.Calls.state c.rounds.calls)
     (g.C.Calls.state c.round.new.calls) c.rounds.self c.round.new.self c.rounds.choices c.round.new.choices c.in-Some.ending
     c.rounds.invariant.source (c.rounds.invariant.exact small)
-    (c.in-Some.ensures.exact (omega (arith, small, c.rounds.invariant.drawn, c.rounds.invariant.used)))
+    (c.in-Some.ensures.exact (omega (arith, small, c.rounds.invariant.drawn, c.rounds.invariant.used))) c.in-Some.ensures.ends
 
 pub rounds-preserved : goal.rounds-preserved
 rounds-preserved g c = record {

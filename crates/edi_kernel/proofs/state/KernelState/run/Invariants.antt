@@ -3,7 +3,7 @@ use Rattle.std.specs.Prelude.{IsSome}
 use Rattle.edi_told.specs.Told.{WhereTold}
 use Rattle.edi_kernel.specs.Kernel.{IsKernel}
 use Rattle.edi_calls.specs.Ends.{CallsLast}
-use Rattle.edi_kernel.proofs.Rounds.{Underway}
+use Rattle.edi_kernel.proofs.Underway.{Underway}
 use Rattle.edi_kernel.proofs.state.KernelState.run.Given as goal
 
 abbrev pub invariant-rounds : goal.invariant-rounds

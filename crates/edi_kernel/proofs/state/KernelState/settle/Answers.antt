@@ -1,6 +1,6 @@
 -- An arrival is handled apart; every other pause with the marks that are noted.
 use Rattle.std.proofs.Common.{ℕ, List, refl, ap, subst, sym, ◌∙◌, ◌-◌}
-use Rattle.std.specs.Prelude.{◌==◌, Some, None, length}
+use Rattle.std.specs.Prelude.{◌==◌, Some, length}
 use Rattle.edi_machine.specs.Activities.{local_of}
 use Rattle.edi_kernel.specs.declared.table.Table.{Table}
 use Rattle.edi_kernel.specs.Table.{free_slots, ready_slots}
@@ -41,7 +41,7 @@ handle-requires-clause-marks c =
 pub returns-clause-exact : goal.returns-clause-exact
 returns-clause-exact c =
     subst (λ (t : Table). Handles c.args.pause c.args.code.now.words c.args.slot c.args.used c.args.progress.now.activity
-    (record c.args.self.now { taken = None; table = t }) c.handle.new.self c.handle.result)
+    (record c.args.self.now { table = t }) c.handle.new.self c.handle.result)
     c.unmark_if.ensures c.handle.ensures.exact
 
 pub returns-clause-standing : goal.returns-clause-standing

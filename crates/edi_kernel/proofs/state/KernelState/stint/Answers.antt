@@ -1,7 +1,7 @@
 -- A stint of the kernel is one of the machine.
-use Rattle.std.proofs.Common.{refl, arith, false}
+use Rattle.std.proofs.Common.{None, refl, arith, false}
 use Rattle.edi_kernel.proofs.Named.{told_goes_to}
-use Rattle.edi_kernel.proofs.Stinting.{told_breaks, told_stint, told_names}
+use Rattle.edi_kernel.proofs.Stinting.{told_breaks, told_broken, told_none, told_stint, told_names}
 use Rattle.edi_kernel.proofs.state.KernelState.stint.Goals as goal
 
 pub returns-clause-exact : goal.returns-clause-exact
@@ -24,3 +24,15 @@ returns-clause-asked g c =
     (record c.go.new.self { used = c.saturating_add-self.result }) c.args.turns_left c.entry_turns-entry.result c.go.result
     refl refl refl refl refl refl refl refl _ _ c.later_by-end.result c.later_by-end.ensures.exact (g.C.Calls.failed c.go.new.calls)
     c.entry_turns-entry.ensures (omega (arith, c.if-turns_left-entry.false)) c.go.ensures.asked
+
+pub returns-clause-ends : goal.returns-clause-ends
+returns-clause-ends g c =
+    told_broken c.args.code.now c.args.self.now (record c.args.self.now { entering = false }) c.go.new.self
+    (record c.go.new.self { used = c.saturating_add-self.result }) c.args.turns_left c.entry_turns-entry.result c.go.result
+    refl refl refl refl refl refl refl refl _ _ c.later_by-end.result c.later_by-end.ensures.exact c.entry_turns-entry.ensures
+    (omega (arith, c.if-turns_left-entry.false)) c.go.ensures.ends
+
+pub returns-then-turns_left-entry-clause-ends : goal.returns-then-turns_left-entry-clause-ends
+returns-then-turns_left-entry-clause-ends g c =
+    told_none c.args.code.now c.args.self.now (record c.args.self.now { arrived = None; failed = false }) c.args.turns_left c.entry_turns-entry.result
+    (g.C.Calls.state c.args.calls.now) c.entry_turns-entry.ensures (omega (arith, c.if-turns_left-entry.true))
