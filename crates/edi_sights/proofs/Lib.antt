@@ -4,3 +4,4 @@ pub mod Walking
 pub mod Faulting
 pub mod Agreeing
 pub mod told
+pub mod naming

@@ -6,3 +6,4 @@ pub mod Fits
 pub mod Views
 pub mod Folded
 pub mod Rows
+pub mod named

@@ -23,10 +23,10 @@ abbrev await : (line : ℕ) → Statement
 await line = awaits_on line (one skip)
 
 -- `name: type`
-abbrev grouped : String → String → Group
+abbrev pub grouped : String → String → Group
 grouped name of = group (id name 1) no_name (id of 1)
 
-abbrev variable_of : String → String → Item
+abbrev pub variable_of : String → String → Item
 variable_of name of = var_item (var_list (grouped name of) no_group)
 
 -- `record name (f: int)`
@@ -34,17 +34,17 @@ abbrev record_named : String → Item
 record_named name = type_item (record_decl (id name 1) (grouped "f" "int") no_group)
 
 -- `proc name .. begin .. end`
-abbrev procedure_of : Heading → Declarations → StatementList → Item
+abbrev pub procedure_of : Heading → Declarations → StatementList → Item
 procedure_of h ds s = procedure_item (procedure h ds s 9)
 
-abbrev plain : String → Heading
+abbrev pub plain : String → Heading
 plain name = heading (id name 1) no_params None
 
-abbrev module_then : Members → StatementList → Declarations → Declarations
+abbrev pub module_then : Members → StatementList → Declarations → Declarations
 module_then ms s ds = next_declaration (module_declaration (module_with ms s)) ds
 
 -- `proc main .. begin .. end`
-abbrev main : Declarations → StatementList → Program
+abbrev pub main : Declarations → StatementList → Program
 main ds s = program no_global (procedure (plain "main") ds s 9)
 
 abbrev with_x : StatementList → Program
@@ -84,10 +84,10 @@ row_behind = refl
 -- a branch is a block of its own, and one in a branch comes before those behind it:
 -- proc main / var x: int / begin cobegin 1 do cobegin 2 do when true do skip end / also 3 do when true do skip end end /
 --   also 4 do when true do skip end; when true do skip end end; when true do skip end end
-abbrev do_branch : StatementList → Branch
+abbrev pub do_branch : StatementList → Branch
 do_branch s = branch (constant.Numeral (pos 1)) 8 s
 
-abbrev together : Branch → Branch → Statement
+abbrev pub together : Branch → Branch → Statement
 together a b = cobegin 8 a (next_branch 8 b (no_branch 8))
 
 pub row_branches : sights_of

@@ -1,5 +1,10 @@
 mod Lists
 mod CallLines
-mod Listed
 mod Naming
+mod Listed
+mod Compared
+mod Ordered
+mod Left
 mod Rounds
+mod Asked
+mod Whole

@@ -13,9 +13,10 @@ use Rattle.edi_kernel.specs.Named.{HoldsBy}
 use Rattle.edi_kernel.proofs.Again.{found_has}
 use Rattle.edi_kernel.proofs.Changes.{live_below}
 use Rattle.edi_waits.specs.Places.{place}
-use Rattle.edi_waits.specs.declared.names.Names.{Names}
+use Rattle.edi_waits.specs.declared.births.Names.{Names}
 use Rattle.edi_waits.specs.Names.{AreNames, is_at_when, name_at, waiting_at, waiting_below}
 use Rattle.edi_waits.specs.Waits.{AreWaiting, IsWaiting, Waiting}
+use Rattle.edi_waits.proofs.Naming.{told_name}
 use Rattle.edi_waits.proofs.Lists.{at_contained, contains_front, contains_last, some_is, split_at}
 
 -- ---- tests
@@ -42,7 +43,7 @@ module _ (words : List ℕ) (k : KernelState) (names : Names) where
   Waits slot = is_live k.table slot && is_at_when (process_at k.table slot).standing
 
   abbrev At : ℕ → Waiting
-  At slot = waiting_at words k.store names slot (process_at k.table slot)
+  At slot = waiting_at words k.store names k.table slot
 
   -- each of them is that of a slot
   pub record IsOf (n : ℕ) (w : Waiting) : Type 0 where
@@ -86,6 +87,9 @@ module _ (words : List ℕ) (k : KernelState) (names : Names) where
     stands : TableIsMachine k.table n m
     stands = subst (λ x. TableIsMachine k.table x m) h.by h.holds.stands
 
+    called : (slot : ℕ) → is_live k.table slot ≡ true → name_at names k.table slot ≡ n.name slot
+    called slot l = told_name names n k.table m used stands are slot l
+
     abbrev entry : ℕ → Activity
     entry slot = entry_of (process_at k.table slot) (n.forks slot)
 
@@ -94,7 +98,7 @@ module _ (words : List ℕ) (k : KernelState) (names : Names) where
         let b = both (is_live k.table slot) (is_at_when (process_at k.table slot).standing) waits in
         subst (IsWaiting words m) (sym is) (record {
           activity = entry slot;
-          found = ap (find m.activities) (are.called slot b.0) ∙ stands.found slot b.0;
+          found = ap (find m.activities) (called slot b.0) ∙ stands.found slot b.0;
           stands = stands_at (process_at k.table slot).standing b.1;
           lines_are =
               ap (λ memory. place words memory (process_at k.table slot).activity.segment.first (process_at k.table slot).activity.base
@@ -109,13 +113,13 @@ module _ (words : List ℕ) (k : KernelState) (names : Names) where
         let test : is_at_when (process_at k.table s.0).standing ≡ true =
         at_stands (process_at k.table s.0).standing (ap (λ (x : Activity). x.standing) same ∙ at) in
         let waits : Waits s.0 ≡ true = ap (λ b. b && is_at_when (process_at k.table s.0).standing) s.1 ∙ test in
-        (At s.0, has_slot 32 s.0 (live_below k.table s.0 s.1) waits, are.called s.0 s.1 ∙ sym s.2)
+        (At s.0, has_slot 32 s.0 (live_below k.table s.0 s.1) waits, called s.0 s.1 ∙ sym s.2)
 
-    same_slot : (x y : ℕ) → Waits x ≡ true → Waits y ≡ true → name_at names x ≡ name_at names y → x ≡ y
+    same_slot : (x y : ℕ) → Waits x ≡ true → Waits y ≡ true → name_at names k.table x ≡ name_at names k.table y → x ≡ y
     same_slot x y p q e =
         let a = (both (is_live k.table x) (is_at_when (process_at k.table x).standing) p).0 in
         let b = (both (is_live k.table y) (is_at_when (process_at k.table y).standing) q).0 in
-        stands.apart x y a b (sym (are.called x a) ∙ e ∙ are.called y b)
+        stands.apart x y a b (sym (called x a) ∙ e ∙ called y b)
 
     once : (c i j : ℕ) (v w : Waiting) → slice_get (waiting_below words k names c) i ≡ Some v → slice_get (waiting_below words k names c) j ≡ Some w →
         v.process ≡ w.process → i ≡ j
@@ -126,7 +130,7 @@ module _ (words : List ℕ) (k : KernelState) (names : Names) where
         front x y g = ap (λ xs. slice_get xs x) (sym (append-nil (waiting_below words k names c))) ∙ g
 
         -- the last one stands for a slot of its own
-        not_last : (x : ℕ) (y : Waiting) → slice_get (waiting_below words k names c) x ≡ Some y → Waits c ≡ true → y.process ≡ name_at names c → ⊥
+        not_last : (x : ℕ) (y : Waiting) → slice_get (waiting_below words k names c) x ≡ Some y → Waits c ≡ true → y.process ≡ name_at names k.table c → ⊥
         not_last x y g b same =
             let o = of_slot c x y g in
             let s : o.slot ≡ c = same_slot o.slot c o.waits b (ap (λ (z : Waiting). z.process) (sym o.is) ∙ same) in

@@ -1,12 +1,8 @@
 -- Lists: what they contain, and where.
 use Rattle.std.proofs.Common.{◌≡◌, ◌⊎◌, inl, inr, ℕ, zero, suc, ◌+◌, ◌-◌, ◌<◌, ◌≤◌, List, [], ◌∷◌, ◌++◌, length, map, Contains, Some, refl, sym, ap, subst, ◌∙◌, arith}
 use Rattle.std.proofs.Common.{slice_get, slice_set, slice_index_or}
-use Rattle.std.specs.Global.{Vec}
 use Rattle.edi_calls.specs.Names.{Name}
 use Rattle.edi_calls.specs.Ready.{child, children}
-use Rattle.edi_waits.specs.declared.names.Branch.{Branch}
-use Rattle.edi_waits.specs.Names.{name_or_none}
-use Rattle.edi_waits.specs.Told.{name_of}
 use Rattle.edi_ring.specs.Links.{IsAmong, NoneTwice}
 use Rattle.edi_ring.proofs.Calls.{among_at}
 
@@ -80,41 +76,16 @@ children_at p f (suc n) i (suc k) q e =
     let z : suc i + k ≡ i + suc k = omega arith in
     r ∙ ap (child p f) z
 
--- a child has one branch more
-pub name_more : (bs : List Branch) (b : Branch) → name_of (bs ++ b ∷ []) ≡ child (name_of bs) b.fork b.number
-name_more [] b = refl
-name_more (c ∷ bs) b = ap (λ (p : Name). c.fork ∷ c.number ∷ p) (name_more bs b)
-
--- one empty name more
-pub none_more : (xs : List (Vec Branch)) (v : Vec Branch) → v.items ≡ [] → ((i : ℕ) → name_or_none (slice_get xs i) ≡ []) → (i : ℕ) →
-    name_or_none (slice_get (xs ++ v ∷ []) i) ≡ []
-none_more [] v e h zero = ap name_of e
-none_more [] v e h (suc i) = refl
-none_more (x ∷ xs) v e h zero = h zero
-none_more (x ∷ xs) v e h (suc i) = none_more xs v e (λ j. h (suc j)) i
-
 -- ---- an item that is set
 
-pub set_same : {X : Type 0} (xs : List X) (i : ℕ) (x : X) → i < length xs → slice_get (slice_set xs i x) i ≡ Some x
-set_same [] i x l = absurd (omega (arith, l))
-set_same (y ∷ xs) zero x l = refl
-set_same (y ∷ xs) (suc i) x l = set_same xs i x (omega (arith, l))
+pub item_same : {X : Type 0} (d : X) (xs : List X) (i : ℕ) (x : X) → i < length xs → slice_index_or (slice_set xs i x) i d ≡ x
+item_same d [] i x l = absurd (omega (arith, l))
+item_same d (y ∷ xs) zero x l = refl
+item_same d (y ∷ xs) (suc i) x l = item_same d xs i x (omega (arith, l))
 
-pub set_other : {X : Type 0} (xs : List X) (i j : ℕ) (x : X) → (j ≡ i → ⊥) → slice_get (slice_set xs i x) j ≡ slice_get xs j
-set_other [] i j x h = refl
-set_other (y ∷ xs) zero zero x h = absurd (h refl)
-set_other (y ∷ xs) zero (suc j) x h = refl
-set_other (y ∷ xs) (suc i) zero x h = refl
-set_other (y ∷ xs) (suc i) (suc j) x h = set_other xs i j x (λ e. h (ap suc e))
-
-pub number_same : (xs : List ℕ) (i : ℕ) → slice_index_or (slice_set xs i 0) i 0 ≡ 0
-number_same [] i = refl
-number_same (y ∷ xs) zero = refl
-number_same (y ∷ xs) (suc i) = number_same xs i
-
-pub number_other : (xs : List ℕ) (i j x : ℕ) → (j ≡ i → ⊥) → slice_index_or (slice_set xs i x) j 0 ≡ slice_index_or xs j 0
-number_other [] i j x h = refl
-number_other (y ∷ xs) zero zero x h = absurd (h refl)
-number_other (y ∷ xs) zero (suc j) x h = refl
-number_other (y ∷ xs) (suc i) zero x h = refl
-number_other (y ∷ xs) (suc i) (suc j) x h = number_other xs i j x (λ e. h (ap suc e))
+pub item_other : {X : Type 0} (d : X) (xs : List X) (i j : ℕ) (x : X) → (j ≡ i → ⊥) → slice_index_or (slice_set xs i x) j d ≡ slice_index_or xs j d
+item_other d [] i j x h = refl
+item_other d (y ∷ xs) zero zero x h = absurd (h refl)
+item_other d (y ∷ xs) zero (suc j) x h = refl
+item_other d (y ∷ xs) (suc i) zero x h = refl
+item_other d (y ∷ xs) (suc i) (suc j) x h = item_other d xs i j x (λ e. h (ap suc e))

@@ -1,19 +1,19 @@
 -- Rounds of a run whose processes are named.
-use Rattle.std.proofs.Common.{◌≡◌, ℕ, suc, ◌-◌, ◌^◌, ◌<◌, ◌≤◌, false, List, [], ◌∷◌, ◌++◌, length, map, Option, Some, None, refl, sym, ap, subst, ◌∙◌, arith}
-use Rattle.std.proofs.Common.{slice_get, replicate, true, ◌+◌, Result, Ok, Err, IfOk, IfSome}
-use Rattle.std.specs.Global.{Vec}
-use Rattle.std.proofs.lemmas.Option.{slice_get_within}
+use Rattle.std.proofs.Common.{◌≡◌, ℕ, ◌-◌, ◌^◌, ◌<◌, ◌≤◌, false, List, [], ◌∷◌, ◌++◌, length, map, Option, Some, None, refl, sym, ap, subst, ◌∙◌, arith}
+use Rattle.std.proofs.Common.{slice_get, true, ◌+◌}
 use Rattle.std.specs.Option.{option_map}
 use Rattle.edi_told.specs.Told.{WhereTold}
-use Rattle.edi_told.proofs.Told.{WhereTold-map, WhereTold-then}
+use Rattle.edi_told.proofs.Told.{WhereTold-map}
+use Rattle.edi_calls.specs.declared.ends.Outside.{Outside}
+use Rattle.edi_calls.specs.Ends.{IsUsed}
 use Rattle.edi_calls.specs.Names.{Name}
 use Rattle.edi_calls.specs.Outcome as outcome
-use Rattle.edi_calls.specs.Ready.{child, children, stays, take_next, taking}
+use Rattle.edi_calls.specs.Ready.{child, children, take_next, taking}
 use Rattle.edi_calls.specs.State.{State}
 use Rattle.edi_target.specs.Op.{Instruction}
 use Rattle.edi_target.specs.Check.{CodeParts}
 use Rattle.edi_target.specs.Fetch.{fetch}
-use Rattle.edi_target.specs.Mach.{Machine, after_step, entered, finished, go_on, run, went}
+use Rattle.edi_target.specs.Mach.{Machine, finished, go_on, run}
 use Rattle.edi_trace.specs.Drawn.{Drawn}
 use Rattle.edi_kernel.specs.declared.ends.Ending.{Ending}
 use Rattle.edi_kernel.specs.declared.ends.Ending.TheVariants as ending
@@ -22,21 +22,19 @@ use Rattle.edi_kernel.specs.declared.ends.StintEnd.TheVariants as stint_end
 use Rattle.edi_kernel.specs.declared.state.KernelState.{KernelState}
 use Rattle.edi_kernel.specs.Table.{is_free_home, is_live, ready_slots}
 use Rattle.edi_kernel.specs.TableIsMachine.{IsTaken, Naming}
-use Rattle.edi_kernel.specs.Kernel.{EndsAs, EndsRun, ForksInto, Holds, IsKernel, IsTakenIn, Switches, ended_by, is_over, used_in}
-use Rattle.edi_kernel.specs.Named.{GoesBy, HoldsBy, NamesGrow}
-use Rattle.edi_kernel.specs.Runs.{IsAt, IsAtBy, Started}
+use Rattle.edi_kernel.specs.Kernel.{BreaksOff, EndsAs, EndsRun, ForksInto, Holds, IsKernel, IsTakenIn, Switches, ended_by, is_over, used_in}
+use Rattle.edi_kernel.specs.Moments.{moment, moment_at, moment_of, moment_on}
+use Rattle.edi_kernel.specs.Named.{BreaksRun, BreaksRunBy, GoesBy, HoldsBy, NamesGrow}
+use Rattle.edi_kernel.specs.Runs.{FailsIn, IsAt, IsAtBy, RunsAs}
 use Rattle.edi_kernel.proofs.Lists.{live_of_home}
+use Rattle.edi_kernel.proofs.Moments.{moment_followed, moment_switched}
 use Rattle.edi_kernel.proofs.Sharing.{none_twice}
 use Rattle.edi_kernel.proofs.Rounds.{run_over, run_switched}
-use Rattle.edi_kernel.proofs.Starting.{Enters, enters}
-use Rattle.edi_waits.specs.declared.names.Names.{Names}
-use Rattle.edi_waits.specs.declared.waits.Wait.{Wait}
-use Rattle.edi_waits.specs.Told.{all_of}
-use Rattle.edi_waits.specs.Names.{AreNames, FollowsNames, LivesBefore, name_at, waiting_below}
-use Rattle.edi_waits.specs.Runs.{Comes, Going, ProceedsBy, Stands}
-use Rattle.edi_waits.specs.Waits.{AreWaiting, StandsSo, Waiting}
-use Rattle.edi_waits.proofs.Naming.{first_alone, names_begin, names_grow, names_stay}
-use Rattle.edi_waits.proofs.Listed.{are_waiting}
+use Rattle.edi_kernel.proofs.Underway.{told_both}
+use Rattle.edi_waits.specs.declared.births.Names.{Names}
+use Rattle.edi_waits.specs.Names.{AreNames, FollowsNames, LivesBefore}
+use Rattle.edi_waits.specs.Runs.{Broke, Comes, Going, ProceedsBy}
+use Rattle.edi_waits.proofs.Naming.{names_grow, names_stay}
 use Rattle.edi_waits.proofs.Lists.{children_at, map_at, mapped, once_at, past, some_is}
 
 stood : (x : outcome.Ending) → EndsAs x ending.Standstill → x ≡ outcome.standstill
@@ -48,66 +46,96 @@ stood outcome.turns h = absurd h
 stood (outcome.bad at) h = absurd h
 
 module _ (code : CodeParts) (s : State) (bound : ℕ) (first : Drawn) where
-  -- a run that stands still, where these are told
-  pub stands_so : (k : KernelState) (now : Drawn) (names : Names) (ws : List Waiting) → Stands code s bound first k now names →
-      ws ≡ waiting_below code.words k names 32 → StandsSo code s bound first ws
-  stands_so k now names ws h e = record {
-    machine = h.machine;
-    drawn = now.drawn;
-    ends = h.ends;
-    waiting = subst (AreWaiting code.words h.machine) (sym e)
-        (are_waiting code.words k names h.naming h.machine h.ready k.used h.holds h.named);
-  }
-
-  -- ---- the start
-
-  pub begins : (k : KernelState) (names : Names) → Started code k → 0 < bound → length names.of.items ≡ 32 →
-      ((slot : ℕ) → name_at names slot ≡ []) → names.forks ≡ replicate {A = ℕ} 32 0 → Going code s bound first k s first names
-  begins k names st some wide none forks =
-      let x : Enters code k s (bound - 1) = enters code k st s (bound - 1) in
-      let b : suc (bound - 1) ≡ bound = omega (arith, some) in
-      let all : bound - k.used ≡ bound = omega (arith, st.used) in
-      let turn : entered (fetch code.words code.entry) code.entry code.calls bound s ≡ went x.machine stays =
-      ap (λ i. entered (fetch code.words code.entry) code.entry code.calls i s) (sym b) ∙ x.is in
-      record {
-        machine = x.machine;
-        name = [];
-        others = [];
-        naming = x.holds.naming;
-        comes = λ n r h. (n, ap (after_step first.source (run (fetch code.words) first.source n) [] [] first.drawn) turn ∙ h);
-        at = subst (λ t. IsAtBy t code k s (bound - k.used) x.machine [] []) (sym st.entering)
-            (st, ap (λ i. entered (fetch code.words code.entry) code.entry code.calls i s) all ∙ turn, refl, refl);
-        holds = record { holds = x.holds; by = refl };
-        named = names_begin names x.holds.naming k.table x.machine k.used x.holds.stands
-            (first_alone (fetch code.words code.entry) code.entry code.calls (bound - 1) s x.machine x.is) wide none forks;
-      }
-
   -- ---- a round
 
   module _ (k0 k : KernelState) (x y : State) (now : Drawn) (old names : Names) (w : Going code s bound first k0 x now old) (source : first.source ≡ now.source)
-      (kernel : IsKernel k) where
+      (kernel : IsKernel k) (within : k.used ≤ bound) where
+    -- the stint ends the run as the machine does
+    ran : (left : ℕ) (e : Ending) → left ≡ bound - k.used → EndsRun code.words left e k y w.machine w.name w.others →
+        RunsAs code s bound first e k.store k.used y now
+    ran left e turns h =
+        let j : (j : ℕ) × (run (fetch code.words) first.source j w.machine w.name w.others now.drawn ≡ finished h.end h.machine now.drawn) =
+        run_over (fetch code.words) first.source h.steps w.machine w.name w.others now.drawn h.end h.machine h.is in
+        record {
+          machine = h.machine;
+          end = h.end;
+          is = w.comes j.0 (finished h.end h.machine now.drawn) j.1;
+          same = h.same;
+          memory = h.memory;
+          system_is = h.system;
+          turns = omega (arith, h.turns, turns, within);
+        }
+
+    -- an object outside failed in a call of it
+    pub breaks : (left : ℕ) → left ≡ bound - k.used → (h : BreaksOff code.words left y w.machine w.name w.others) →
+        (f : FailsIn code s bound first k.used y now) × ((failed : Option Outside → Type 0) → IsUsed h.fails.number failed → IsUsed f.fails.number failed)
+    breaks left turns h =
+        let z : (j : ℕ) × (moment_of code s bound first.source first.drawn j ≡ Some (moment_at h.machine w.name w.others now.drawn)) =
+        w.passes h.steps (Some (moment_at h.machine w.name w.others now.drawn))
+        (moment_followed (fetch code.words) first.source h.steps w.machine w.name w.others now.drawn h.machine h.is) in (
+          record {
+            steps = z.0;
+            at = moment_at h.machine w.name w.others now.drawn;
+            is = z.1;
+            fails = h.fails;
+            drawn = refl;
+            turns = omega (arith, h.turns, turns, within);
+          },
+          λ failed used. used,
+        )
+
+    -- the stint ends the run by an instruction of its process
+    broke : (left : ℕ) (e : Ending) → k0.used ≤ k.used → names ≡ old → BreaksRun code.words left e k0 w.naming k y w.machine w.name w.others →
+        Broke code s bound first e k now names
+    broke left e more same b =
+        let h : EndsRun code.words left e k y w.machine w.name w.others = b.ends in
+        let j : (j : ℕ) × (run (fetch code.words) first.source j w.machine w.name w.others now.drawn ≡ finished h.end h.machine now.drawn) =
+        run_over (fetch code.words) first.source h.steps w.machine w.name w.others now.drawn h.end h.machine h.is in
+        record {
+          machine = h.machine;
+          end = h.end;
+          name = w.name;
+          others = w.others;
+          ends = w.comes j.0 (finished h.end h.machine now.drawn) j.1;
+          same = h.same;
+          broken = b.broken;
+          kernel = kernel;
+          named = subst (λ z. AreNames z b.broken.holds.naming k.table k.used) (sym same)
+              (names_stay old b.broken.holds.naming k0.table k.table k0.used k.used b.slots more
+              (subst (λ n. AreNames old n k0.table k0.used) (sym b.by) w.named));
+        }
+
     -- the stint ends the run
-    pub over : (used : ℕ) (e : Ending) (left : ℕ) → k0.used ≤ k.used → names ≡ old →
-        GoesBy code.words (stint_end.Over used e) left k0 w.naming k y w.machine w.name w.others → Comes code s bound first (Some e) k y now names
-    over used ending.Standstill left more same g =
+    pub over : (used : ℕ) (e : Ending) (left : ℕ) → left - used ≡ bound - k.used → k0.used ≤ k.used → names ≡ old →
+        GoesBy code.words (stint_end.Over used e) left k0 w.naming k y w.machine w.name w.others →
+        BreaksRunBy code.words (stint_end.Over used e) left k0 w.naming k y w.machine w.name w.others → Comes code s bound first (Some e) k y now names
+    over used ending.Standstill left turns more same g b =
         let h : EndsRun code.words (left - used) ending.Standstill k y w.machine w.name w.others = g.0.0 in
         let j : (j : ℕ) × (run (fetch code.words) first.source j w.machine w.name w.others now.drawn ≡ finished h.end h.machine now.drawn) =
         run_over (fetch code.words) first.source h.steps w.machine w.name w.others now.drawn h.end h.machine h.is in
-        let e : h.end ≡ outcome.standstill = stood h.end h.same in
-        record {
-          machine = h.machine;
-          ready = w.others ++ w.name ∷ [];
-          naming = w.naming;
-          ends = w.comes j.0 (finished outcome.standstill h.machine now.drawn) (j.1 ∙ ap (λ z. finished z h.machine now.drawn) e);
-          holds = record { holds = g.0.3; by = g.1 };
-          named = subst (λ z. AreNames z w.naming k.table k.used) (sym same) (names_stay old w.naming k0.table k.table k0.used k.used g.2 more w.named);
-        }
-    over used ending.Done left more same g = tt
-    over used (ending.Halted line) left more same g = tt
-    over used (ending.Failed cause line) left more same g = tt
-    over used ending.Turns left more same g = tt
-    over used (ending.Bad at) left more same g = tt
-    over used ending.Fault left more same g = tt
+        let e : h.end ≡ outcome.standstill = stood h.end h.same in (
+          ran (left - used) ending.Standstill turns h,
+          record {
+            machine = h.machine;
+            ready = w.others ++ w.name ∷ [];
+            naming = w.naming;
+            ends = w.comes j.0 (finished outcome.standstill h.machine now.drawn) (j.1 ∙ ap (λ z. finished z h.machine now.drawn) e);
+            kernel = kernel;
+            holds = record { holds = g.0.3; by = g.1 };
+            named = subst (λ z. AreNames z w.naming k.table k.used) (sym same) (names_stay old w.naming k0.table k.table k0.used k.used g.2 more w.named);
+          },
+        )
+    over used ending.Done left turns more same g b =
+        (ran (left - used) ending.Done turns b.ends, broke (left - used) ending.Done more same b)
+    over used (ending.Halted line) left turns more same g b =
+        (ran (left - used) (ending.Halted line) turns b.ends, broke (left - used) (ending.Halted line) more same b)
+    over used (ending.Failed cause line) left turns more same g b =
+        (ran (left - used) (ending.Failed cause line) turns b.ends, broke (left - used) (ending.Failed cause line) more same b)
+    over used ending.Turns left turns more same g b =
+        (ran (left - used) ending.Turns turns b.ends, broke (left - used) ending.Turns more same b)
+    over used (ending.Bad at) left turns more same g b =
+        (ran (left - used) (ending.Bad at) turns b.ends, broke (left - used) (ending.Bad at) more same b)
+    over used ending.Fault left turns more same g b = ((breaks (left - used) turns g).0, tt)
 
     -- it switches, by these names, and the next is taken or nobody is ready
     module _ (next : KernelState) (later : Drawn) (left : ℕ) (turns : left ≡ bound - k.used) (used : next.used ≡ k.used) (entering : next.entering ≡ false)
@@ -133,6 +161,11 @@ module _ (code : CodeParts) (s : State) (bound : ℕ) (first : Drawn) where
                 run_switched fetched first.source h.steps w.machine w.name w.others now.drawn h.machine h.joined h.is i r
                 (ap (λ p. go_on p (run fetched first.source i h.machine) h.machine now.drawn) t ∙ e) in
                 w.comes z.0 r z.1;
+            passes = λ i r e.
+                let z : (j : ℕ) × (moment fetched first.source j w.machine w.name w.others now.drawn ≡ r) =
+                moment_switched fetched first.source h.steps w.machine w.name w.others now.drawn h.machine h.joined h.is i r
+                (ap (λ p. moment_on p (moment fetched first.source i h.machine)) t ∙ e) in
+                w.passes z.0 r z.1;
             at = subst (λ p. IsAtBy p code next y (bound - next.used) h.machine c.0.name c.0.others) (sym entering)
                 (c.0.holds, h.system, h.turns ∙ turns ∙ ap (λ i. bound - i) (sym used));
             holds = record { holds = c.0.holds; by = c.1 };
@@ -144,14 +177,26 @@ module _ (code : CodeParts) (s : State) (bound : ℕ) (first : Drawn) where
           (ap (λ ps. go_on (take_next first.source now.drawn ps) (run fetched first.source 0 h.machine) h.machine now.drawn) c.0) in
           let drawn : now.drawn ≡ later.drawn = sym (ap (λ (d : Drawn). d.drawn) c.1) in
           let holds : HoldsBy n k h.machine None (w.others ++ h.joined) = record { holds = h.holds; by = by } in
-          record {
-            machine = h.machine;
-            ready = w.others ++ h.joined;
-            naming = n;
-            ends = w.comes z.0 (finished outcome.standstill h.machine later.drawn) (z.1 ∙ ap (finished outcome.standstill h.machine) drawn);
-            holds = subst (λ q. HoldsBy n q h.machine None (w.others ++ h.joined)) (sym c.2) holds;
-            named = after;
-          }
+          let ends = w.comes z.0 (finished outcome.standstill h.machine later.drawn) (z.1 ∙ ap (finished outcome.standstill h.machine) drawn) in (
+            record {
+              machine = h.machine;
+              end = outcome.standstill;
+              is = ends;
+              same = tt;
+              memory = tt;
+              system_is = h.system;
+              turns = omega (arith, h.turns, turns, used, within);
+            },
+            record {
+              machine = h.machine;
+              ready = w.others ++ h.joined;
+              naming = n;
+              ends = ends;
+              kernel = subst IsKernel (sym c.2) kernel;
+              holds = subst (λ q. HoldsBy n q h.machine None (w.others ++ h.joined)) (sym c.2) holds;
+              named = after;
+            },
+          )
       on (Some ending.Done) c = absurd c
       on (Some (ending.Halted line)) c = absurd c
       on (Some (ending.Failed cause line)) c = absurd c
@@ -160,14 +205,14 @@ module _ (code : CodeParts) (s : State) (bound : ℕ) (first : Drawn) where
       on (Some ending.Fault) c = absurd c
 
     -- by the end of the stint
-    pub round_over : (end : StintEnd) (e : Ending) (left : ℕ) → ended_by end ≡ Some e → k0.used ≤ k.used →
+    pub round_over : (end : StintEnd) (e : Ending) (left : ℕ) → ended_by end ≡ Some e → left - used_in end ≡ bound - k.used → k0.used ≤ k.used →
         FollowsNames end k0.taken (length (ready_slots k0.table)) k old names → GoesBy code.words end left k0 w.naming k y w.machine w.name w.others →
-        Comes code s bound first (Some e) k y now names
-    round_over (stint_end.Over used z) e left is more follows g =
-        subst (λ i. Comes code s bound first (Some i) k y now names) (some_is is) (over used z left more follows g)
-    round_over (stint_end.Arrived used) e left is more follows g = absurd (cc)
-    round_over (stint_end.Forked used) e left is more follows g = absurd (cc)
-    round_over (stint_end.Exited used) e left is more follows g = absurd (cc)
+        BreaksRunBy code.words end left k0 w.naming k y w.machine w.name w.others → Comes code s bound first (Some e) k y now names
+    round_over (stint_end.Over used z) e left is turns more follows g b =
+        subst (λ i. Comes code s bound first (Some i) k y now names) (some_is is) (over used z left turns more follows g b)
+    round_over (stint_end.Arrived used) e left is turns more follows g b = absurd (cc)
+    round_over (stint_end.Forked used) e left is turns more follows g b = absurd (cc)
+    round_over (stint_end.Exited used) e left is turns more follows g b = absurd (cc)
 
     module _ (was : IsKernel k0) (next : KernelState) (later : Drawn) (result : Option Ending) (used : next.used ≡ k.used) (entering : next.entering ≡ false)
         (lives : LivesBefore k.table next.table) (more : k0.used < k.used) (small : k.used < 2 ^ 32)
@@ -219,7 +264,7 @@ module _ (code : CodeParts) (s : State) (bound : ℕ) (first : Drawn) where
             let f = subst (λ o. FollowsNames (stint_end.Forked 0) o before k old names) g.was follows in
             names_grow old names w.naming grow k0.table k.table fork number k0.used k.used k0.taken g slot_lives more small w.named children_join
             (λ i j x p q. once_at (ready_slots k.table) (none_twice (ready_slots k.table) (kernel.table.sound.once 0)) i j x p q)
-            (λ i x e. slice_get_within (ready_slots k.table) i x e) f.0 f.1
+            f
 
       pub round_on : (end : StintEnd) (left : ℕ) → ended_by end ≡ None → left - used_in end ≡ bound - k.used → FollowsNames end k0.taken before k old names →
           GoesBy code.words end left k0 w.naming k y w.machine w.name w.others → Comes code s bound first result next y later names
@@ -255,59 +300,38 @@ module _ (code : CodeParts) (bound : ℕ) where
   AnyStint end left old k x y = (m : Machine) (p : Name) (others : List Name) (n : Naming) → IsAt code old x left m p others → HoldsBy n old m (Some p) others →
       GoesBy code.words end left old n k y m p others
 
+  -- and where it ends the run by an instruction of its process
+  abbrev pub AnyEnd : StintEnd → (left : ℕ) → (old k : KernelState) → State → State → Type 0
+  AnyEnd end left old k x y = (m : Machine) (p : Name) (others : List Name) (n : Naming) → IsAt code old x left m p others → HoldsBy n old m (Some p) others →
+      BreaksRunBy code.words end left old n k y m p others
+
   module _ (end : StintEnd) (k0 k : KernelState) (now : Drawn) (old names : Names) (left : ℕ) (before after : Option State) (all : left ≡ bound - k0.used)
-      (was : IsKernel k0) (kernel : IsKernel k) (follows : FollowsNames end k0.taken (length (ready_slots k0.table)) k old names) where
+      (was : IsKernel k0) (kernel : IsKernel k) (within : k.used ≤ bound) (turns : left - used_in end ≡ bound - k.used)
+      (follows : FollowsNames end k0.taken (length (ready_slots k0.table)) k old names) where
     goes : (x y : State) (s : State) (first : Drawn) → AnyStint end left k0 k x y → (w : Going code s bound first k0 x now old) →
         GoesBy code.words end left k0 w.naming k y w.machine w.name w.others
     goes x y s first g w =
         g w.machine w.name w.others w.naming (subst (λ n. IsAt code k0 x n w.machine w.name w.others) (sym all) w.at) w.holds
 
-    pub told_over : (e : Ending) → ended_by end ≡ Some e → k0.used ≤ k.used → WhereTold before after (AnyStint end left k0 k) →
-        WhereTold before after (AnyRound (Some e) k0 k now now old names)
-    told_over e is more h =
-        WhereTold-map (AnyStint end left k0 k) (AnyRound (Some e) k0 k now now old names) before after
-        (λ x y g s first source w. round_over code s bound first k0 k x y now old names w source kernel end e left is more follows (goes x y s first g w)) h
+    breaks_run : (x y : State) (s : State) (first : Drawn) → AnyEnd end left k0 k x y → (w : Going code s bound first k0 x now old) →
+        BreaksRunBy code.words end left k0 w.naming k y w.machine w.name w.others
+    breaks_run x y s first b w =
+        b w.machine w.name w.others w.naming (subst (λ n. IsAt code k0 x n w.machine w.name w.others) (sym all) w.at) w.holds
 
-    pub told_on : (next : KernelState) (later : Drawn) (result : Option Ending) → ended_by end ≡ None → left - used_in end ≡ bound - k.used → next.used ≡ k.used →
+    pub told_over : (e : Ending) → ended_by end ≡ Some e → k0.used ≤ k.used → WhereTold before after (AnyStint end left k0 k) →
+        WhereTold before after (AnyEnd end left k0 k) → WhereTold before after (AnyRound (Some e) k0 k now now old names)
+    told_over e is more h b =
+        WhereTold-map (λ x y. AnyStint end left k0 k x y × AnyEnd end left k0 k x y) (AnyRound (Some e) k0 k now now old names) before after
+        (λ x y g s first source w.
+        round_over code s bound first k0 k x y now old names w source kernel within end e left is turns more follows (goes x y s first g.0 w) (breaks_run x y s first g.1 w))
+        (told_both (AnyStint end left k0 k) (AnyEnd end left k0 k) before after h b)
+
+    pub told_on : (next : KernelState) (later : Drawn) (result : Option Ending) → ended_by end ≡ None → next.used ≡ k.used →
         next.entering ≡ false → LivesBefore k.table next.table → k0.used < k.used → k.used < 2 ^ 32 →
         ((n : Naming) (m : Machine) (ready : List Name) → HoldsBy n k m None ready → ProceedsBy result n k next m now later ready) →
         WhereTold before after (AnyStint end left k0 k) → WhereTold before after (AnyRound result k0 next now later old names)
-    told_on next later result is turns used entering lives more small proceeds h =
+    told_on next later result is used entering lives more small proceeds h =
         WhereTold-map (AnyStint end left k0 k) (AnyRound result k0 next now later old names) before after
         (λ x y g s first source w.
-        round_on code s bound first k0 k x y now old names w source kernel was next later result used entering lives more small proceeds end left is turns follows
+        round_on code s bound first k0 k x y now old names w source kernel within was next later result used entering lives more small proceeds end left is turns follows
         (goes x y s first g w)) h
-
--- ---- a whole run
-
-module _ (code : CodeParts) (bound : ℕ) (first : Drawn) where
-  module _ (a b c : Option State) (old new : KernelState) (now later : Drawn) (before after : Names) (source : now.source ≡ first.source) where
-    pub goes_more : WhereTold a b (λ s x. Going code s bound first old x now before) → WhereTold b c (AnyRound code bound None old new now later before after) →
-        WhereTold a c (λ s x. Going code s bound first new x later after)
-    goes_more h g = WhereTold-then _ _ _ a b c (λ s x y w round. round s first (sym source) w) h g
-
-    -- what is told of those that wait, if anything is
-    abbrev pub Tells : {E : Type 0} → Result (Option (Vec Wait)) E → (List Waiting → Type 0) → Type 0
-    Tells result P = IfOk result (λ found. IfSome found (λ ws. P (all_of ws)))
-
-    pub goes_out : {E : Type 0} (e : Ending) (result : Result (Option (Vec Wait)) E) → WhereTold a b (λ s x. Going code s bound first old x now before) →
-        WhereTold b c (AnyRound code bound (Some e) old new now later before after) →
-        Tells result (λ ws. (e ≡ ending.Standstill) × (ws ≡ waiting_below code.words new after 32)) →
-        WhereTold a c (λ s x. Tells result (StandsSo code s bound first))
-    goes_out e result h g told = WhereTold-then _ _ _ a b c (λ s x y w round. each s y result told (round s first (sym source) w)) h g
-      where
-        each : {E : Type 0} (s y : State) (result : Result (Option (Vec Wait)) E) →
-            Tells result (λ ws. (e ≡ ending.Standstill) × (ws ≡ waiting_below code.words new after 32)) → Comes code s bound first (Some e) new y later after →
-            Tells result (StandsSo code s bound first)
-        each s y (Err x) told come = tt
-        each s y (Ok None) told come = tt
-        each s y (Ok (Some ws)) told come =
-            stands_so code s bound first new later after (all_of ws) (subst (λ d. Comes code s bound first (Some d) new y later after) told.0 come) told.1
-
-  where_same : (o : Option State) (P : State → State → Type 0) → ((s : State) → P s s) → WhereTold o o P
-  where_same None P h = tt
-  where_same (Some s) P h = h s
-
-  pub told_begins : (o : Option State) (k : KernelState) (names : Names) → Started code k → 0 < bound → length names.of.items ≡ 32 →
-      ((slot : ℕ) → name_at names slot ≡ []) → names.forks ≡ replicate {A = ℕ} 32 0 → WhereTold o o (λ s x. Going code s bound first k x first names)
-  told_begins o k names st some wide none forks = where_same o (λ s x. Going code s bound first k x first names) (λ s. begins code s bound first k names st some wide none forks)

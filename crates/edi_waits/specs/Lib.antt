@@ -3,3 +3,5 @@ pub mod Waits
 pub mod Told
 pub mod Names
 pub mod Runs
+pub mod Ends
+pub mod Left

@@ -1,5 +1,6 @@
--- Helper. How far a run has come whose processes are named.
+-- Words of contracts. How far a run has come whose processes are named, and its end.
 use Rattle.std.specs.Prelude.{◌≡◌, ℕ, ◌-◌, List, [], Option, Some, None, ⊤}
+use Rattle.edi_calls.specs.declared.ends.Outside.{Outside}
 use Rattle.edi_calls.specs.Names.{Name}
 use Rattle.edi_calls.specs.Outcome as outcome
 use Rattle.edi_calls.specs.State.{State}
@@ -11,9 +12,11 @@ use Rattle.edi_kernel.specs.declared.ends.Ending.{Ending}
 use Rattle.edi_kernel.specs.declared.ends.Ending.TheVariants as ending
 use Rattle.edi_kernel.specs.declared.state.KernelState.{KernelState}
 use Rattle.edi_kernel.specs.TableIsMachine.{Naming}
+use Rattle.edi_kernel.specs.Kernel.{EndsAs, HoldsBroken, IsKernel}
+use Rattle.edi_kernel.specs.Moments.{Moment, moment, moment_of}
 use Rattle.edi_kernel.specs.Named.{ChoosesBy, HoldsBy}
-use Rattle.edi_kernel.specs.Runs.{EndsAfter, IsAt}
-use Rattle.edi_waits.specs.declared.names.Names.{Names}
+use Rattle.edi_kernel.specs.Runs.{EndsAfter, FaultsBy, IsAt, RunsTo}
+use Rattle.edi_waits.specs.declared.births.Names.{Names}
 use Rattle.edi_waits.specs.Names.{AreNames}
 
 -- a run of this code from its start, of at most so many turns, with the choices from these on
@@ -24,6 +27,11 @@ module _ (code : CodeParts) (s : State) (bound : ℕ) (first : Drawn) where
       (j : ℕ) × (after_step first.source (run (fetch code.words) first.source j) [] [] first.drawn
       (entered (fetch code.words code.entry) code.entry code.calls bound s) ≡ r)
 
+  -- each moment from there on is one from the start
+  abbrev pub PassesFrom : Machine → Name → List Name → (drawn : ℕ) → Type 0
+  PassesFrom m p others drawn = (n : ℕ) (x : Option Moment) → moment (fetch code.words) first.source n m p others drawn ≡ x →
+      (j : ℕ) × (moment_of code s bound first.source first.drawn j ≡ x)
+
   -- the kernel is at a stint of it
   pub record Going (k : KernelState) (x : State) (now : Drawn) (names : Names) : Type 0 where
     pub machine : Machine
@@ -31,24 +39,48 @@ module _ (code : CodeParts) (s : State) (bound : ℕ) (first : Drawn) where
     pub others : List Name
     pub naming : Naming
     pub comes : ComesFrom machine name others now.drawn
+    pub passes : PassesFrom machine name others now.drawn
     pub at : IsAt code k x (bound - k.used) machine name others
     pub holds : HoldsBy naming k machine (Some name) others
     pub named : AreNames names naming k.table k.used
 
-  -- it stands still
+  -- it stands still in the machine that the kernel is, whose processes have these names
   pub record Stands (k : KernelState) (now : Drawn) (names : Names) : Type 0 where
     pub machine : Machine
     pub ready : List Name
     pub naming : Naming
     pub ends : EndsAfter code s bound first.source first.drawn outcome.standstill machine now.drawn
+    pub kernel : IsKernel k
     pub holds : HoldsBy naming k machine None ready
     pub named : AreNames names naming k.table k.used
 
-  -- it goes on, stands still, or has ended otherwise
+  -- it has ended by an instruction of a process
+  pub record Broke (e : Ending) (k : KernelState) (now : Drawn) (names : Names) : Type 0 where
+    pub machine : Machine
+    pub end : outcome.Ending
+    pub name : Name
+    pub others : List Name
+    pub ends : EndsAfter code s bound first.source first.drawn end machine now.drawn
+    pub same : EndsAs end e
+    pub kernel : IsKernel k
+    pub broken : HoldsBroken code.words e k machine name others
+    pub named : AreNames names broken.holds.naming k.table k.used
+
+  -- IT HAS ENDED SO in the machine that the kernel is, whose processes have these names; where an object outside failed nothing is said
+  abbrev pub EndsNamed : Ending → KernelState → Drawn → Names → Type 0
+  EndsNamed ending.Standstill k now names = Stands k now names
+  EndsNamed ending.Fault k now names = ⊤
+  EndsNamed e k now names = Broke e k now names
+
+  -- it goes on, or has ended as the machine does
   abbrev pub Comes : Option Ending → KernelState → State → Drawn → Names → Type 0
   Comes None k x now names = Going k x now names
-  Comes (Some ending.Standstill) k x now names = Stands k now names
-  Comes (Some e) k x now names = ⊤
+  Comes (Some e) k x now names = RunsTo code s bound first e k.store k.used x now × EndsNamed e k now names
+
+  -- where it has ended by a fault, the call that failed uses the object that has failed
+  abbrev pub AsksFailed : (failed : Option Outside → Type 0) → Option Ending → KernelState → State → Drawn → Type 0
+  AsksFailed failed None k x now = ⊤
+  AsksFailed failed (Some e) k x now = FaultsBy failed code s bound first e k.used x now
 
 -- the next process is taken, by the same names, or nobody is ready
 abbrev pub ProceedsBy : Option Ending → Naming → (old new : KernelState) → Machine → (before after : Drawn) → List Name → Type 0

@@ -2,7 +2,7 @@
 use Rattle.std.specs.Prelude.{List, [], ◌∷◌, map}
 use Rattle.std.specs.Global.{Vec}
 use Rattle.edi_calls.specs.Names.{Name}
-use Rattle.edi_waits.specs.declared.names.Branch.{Branch}
+use Rattle.edi_waits.specs.declared.births.Branch.{Branch}
 use Rattle.edi_waits.specs.declared.waits.Wait.{Wait}
 use Rattle.edi_waits.specs.Waits.{Waiting}
 

@@ -6,7 +6,10 @@ use Rattle.edi_calls.specs.State.{State}
 use Rattle.edi_target.specs.Check.{CodeParts}
 use Rattle.edi_target.specs.Mach.{Activity, Machine, at_when}
 use Rattle.edi_trace.specs.Drawn.{Drawn}
-use Rattle.edi_kernel.specs.Runs.{EndsAfter}
+use Rattle.edi_kernel.specs.declared.ends.Ending.{Ending}
+use Rattle.edi_kernel.specs.declared.ends.Ending.TheVariants as ending
+use Rattle.edi_kernel.specs.declared.state.KernelState.{KernelState}
+use Rattle.edi_kernel.specs.Runs.{EndsAfter, RunsTo}
 use Rattle.edi_waits.specs.Places.{place}
 
 -- a process, and the line of its `when` with those of the calls that lead there, the innermost first; at most five
@@ -35,3 +38,9 @@ pub record StandsSo (code : CodeParts) (system : State) (bound : ℕ) (old : Dra
   pub drawn : ℕ
   pub ends : EndsAfter code system bound old.source old.drawn outcome.standstill machine drawn
   pub waiting : AreWaiting code.words machine ws
+
+-- THE OTHER ENDS: the run of this code has ended in this kernel, in this state, and not by a standstill.
+pub record EndsOtherwise (code : CodeParts) (system : State) (bound : ℕ) (old : Drawn) (k : KernelState) (now : State) (new : Drawn) : Type 0 where
+  pub how : Ending
+  pub ran : RunsTo code system bound old how k.store k.used now new
+  pub other : how ≡ ending.Standstill → ⊥

@@ -10,8 +10,8 @@ use std::alloc::{AllocError, Global};
 /// The lines of a place.
 const MOST_LINES: usize = 5;
 
-/// The line before an address of the code.
-fn line_before(code: &Code, at: u32) -> u16
+/// The line before an address of the code: that of the `when` or the call that ends there.
+pub fn line_before(code: &Code, at: u32) -> u16
     ensures { result ≡ spec.line_before code.now.words at }
 {
     match code.words().get(at.saturating_sub(1) as usize) {

@@ -1,0 +1,2 @@
+mod Processes
+mod Ends
