@@ -18,12 +18,14 @@ use Rattle.edi_explore.specs.declared.ends.Verdict.TheVariants as verdict
 use Rattle.edi_explore.specs.declared.expand.Expanded.{Expanded}
 use Rattle.edi_explore.specs.declared.expand.Expanded.TheVariants as expanded
 use Rattle.edi_explore.specs.declared.finding.Search.{Search}
-use Rattle.edi_explore.specs.Fewest.{AreFewest, IsFewest, IsWithin}
+use Rattle.edi_explore.specs.Fewest.{AreFewest, AreUpTo, AreWithin, IsFewest, IsWithin}
 use Rattle.edi_explore.specs.Finding.{FindsAt, IsFresh}
 use Rattle.edi_explore.specs.Found.{IsTold}
 use Rattle.edi_explore.specs.Offline.{offline}
 use Rattle.edi_explore.specs.Shown.{asks_of, told_by}
-use Rattle.edi_explore.specs.Verdicts.{AreAllTo, IsConfirmed, IsUpTo, or_else, verdict_of}
+use Rattle.edi_explore.specs.declared.step.GivenUp.{GivenUp}
+use Rattle.edi_explore.specs.declared.step.GivenUp.TheVariants as given_up
+use Rattle.edi_explore.specs.Verdicts.{AreAllTo, IsConfirmed, IsUpTo, or_else, verdict_of, verdict_of_given_up}
 use Rattle.edi_explore.proofs.Findings.{at_contained, contains_at, found_of, shown_on}
 use Rattle.edi_explore.proofs.Growing.{stays_at}
 use Rattle.edi_explore.proofs.Keying.{lookup, some_is}
@@ -160,8 +162,62 @@ module _ (code : CodeParts) (input : List ℕ) (limits : Limits) where
       where
         not_this : verdict.Unrecorded n ≡ verdict.All → ⊥
         not_this e = cc
-    fewest_more (verdict.NoMemory n) h low old =
-        each (verdict.NoMemory n) (λ one fresh same within. absurd (beyond (verdict.NoMemory n) one.moves depth low same (λ e. not_memory e) within)) old
-      where
-        not_memory : verdict.NoMemory n ≡ verdict.All → ⊥
-        not_memory e = cc
+    fewest_more (verdict.NoMemory n) h low old = absurd h
+
+  -- ---- what was found is within what is said
+
+  -- nothing was found before
+  pub up_to_none : (a b : Search) → a.found.items ≡ [] → a.moves ≡ 0 → FindsAt code input limits a b → AreUpTo 0 b.found.items
+  up_to_none a b none zero f one c =
+      let at = at_contained b.found.items one c in
+      omega (arith, f.after at.0 one (omega (arith, ap length none)) at.1, zero)
+
+  -- one more level
+  pub up_to_more : (a b : Search) (depth : ℕ) → FindsAt code input limits a b → a.moves ≡ suc depth → AreUpTo depth a.found.items →
+      AreUpTo (suc depth) b.found.items
+  up_to_more a b depth f moves old one c =
+      let at = at_contained b.found.items one c in
+      elim (cases_lt at.0 (length a.found.items)) [
+        | inl less ↦
+            let was : (x : Found) × (slice_get a.found.items at.0 ≡ Some x) = lookup a.found.items at.0 less in
+            let same : was.0 ≡ one = some_is (sym (stays_at a.found.items b.found.items at.0 was.0 f.finds.more was.1) ∙ at.1) in
+            omega (arith, old one (contains_at a.found.items at.0 one (was.1 ∙ ap Some same)))
+        | inr past ↦ omega (arith, f.after at.0 one past at.1, moves)
+      ]
+
+  up_to_so : (v : Verdict) (s : Search) (depth from : ℕ) → IsSoFar code input limits v s depth from → (fs : List Found) → AreWithin v fs
+  up_to_so verdict.All s depth from h fs = tt
+  up_to_so (verdict.Full n) s depth from h fs = absurd h
+  up_to_so (verdict.Many n) s depth from h fs = absurd h
+  up_to_so (verdict.Cut n) s depth from h fs = tt
+  up_to_so (verdict.Unrecorded n) s depth from h fs = tt
+  up_to_so (verdict.NoMemory n) s depth from h fs = absurd h
+
+  -- where no state is left
+  pub within_whole : (v : Verdict) (s : Search) (depth from : ℕ) → IsSoFar code input limits v s depth from → AreWithin v s.found.items
+  within_whole v s depth from h = up_to_so v s depth from h s.found.items
+
+  -- where the search is given up
+  pub within_given_up : (g : GivenUp) (moves : ℕ) (fs : List Found) → AreUpTo moves fs → AreWithin (verdict_of_given_up g moves) fs
+  within_given_up given_up.Full moves fs h = h
+  within_given_up given_up.Many moves fs h = h
+  within_given_up given_up.NoMemory moves fs h = tt
+
+  pub within_or : (v w : Verdict) (s : Search) (depth from : ℕ) (fs : List Found) → IsSoFar code input limits v s depth from → AreWithin w fs →
+      AreWithin (or_else v w) fs
+  within_or verdict.All w s depth from fs h within = within
+  within_or (verdict.Full n) w s depth from fs h within = absurd h
+  within_or (verdict.Many n) w s depth from fs h within = absurd h
+  within_or (verdict.Cut n) w s depth from fs h within = tt
+  within_or (verdict.Unrecorded n) w s depth from fs h within = tt
+  within_or (verdict.NoMemory n) w s depth from fs h within = absurd h
+
+  pub within_confirmed : (v w : Verdict) (fs : List Found) → IsConfirmed v w → AreWithin v fs → AreWithin w fs
+  within_confirmed verdict.All w fs e h = subst (λ (x : Verdict). AreWithin x fs) (sym e) h
+  within_confirmed (verdict.Full n) w fs e h = subst (λ (x : Verdict). AreWithin x fs) (sym e) h
+  within_confirmed (verdict.Many n) w fs e h = subst (λ (x : Verdict). AreWithin x fs) (sym e) h
+  within_confirmed (verdict.Cut n) w fs (inl e) h = subst (λ (x : Verdict). AreWithin x fs) (sym e) tt
+  within_confirmed (verdict.Cut n) w fs (inr (inl e)) h = subst (λ (x : Verdict). AreWithin x fs) (sym e) tt
+  within_confirmed (verdict.Cut n) w fs (inr (inr e)) h = subst (λ (x : Verdict). AreWithin x fs) (sym e) tt
+  within_confirmed (verdict.Unrecorded n) w fs e h = subst (λ (x : Verdict). AreWithin x fs) (sym e) h
+  within_confirmed (verdict.NoMemory n) w fs e h = subst (λ (x : Verdict). AreWithin x fs) (sym e) h

@@ -1,9 +1,9 @@
 -- What was found, as the laws of a search speak of it; and what a run with some choices comes to.
-use Rattle.std.proofs.Common.{◌≡◌, ◌⊎◌, inl, inr, ℕ, zero, suc, ◌≤◌, Bool, true, false, List, [], ◌∷◌, ◌++◌, length, Contains, Option, Some, None, refl, sym, ap, subst, ◌∙◌, arith}
+use Rattle.std.proofs.Common.{◌≡◌, ◌⊎◌, inl, inr, ℕ, zero, suc, ◌-◌, ◌≤◌, Bool, true, false, List, [], ◌∷◌, ◌++◌, length, Contains, Option, Some, None, refl, sym, ap, subst, ◌∙◌, arith}
 use Rattle.std.specs.Prelude.{slice_get}
 use Rattle.std.proofs.lemmas.Bool.{cases_lt}
 use Rattle.std.proofs.lemmas.Option.{slice_get_within}
-use Rattle.edi_calls.specs.Choice.{listed}
+use Rattle.edi_calls.specs.Choice.{Choices, listed}
 use Rattle.edi_calls.specs.Outcome as outcome
 use Rattle.edi_calls.specs.Outcome.{Outcome, outcome_of}
 use Rattle.edi_calls.specs.State.{State}
@@ -14,22 +14,27 @@ use Rattle.edi_meaning.specs.Select.{Select}
 use Rattle.edi_meaning.proofs.NeverBad.{selection_is_never_bad}
 use Rattle.edi_follows.specs.Theorem.{CanBeCoded}
 use Rattle.edi_target.specs.Check.{CodeParts}
+use Rattle.edi_target.specs.Fetch.{fetch}
+use Rattle.edi_target.specs.Mach.{Mach}
 use Rattle.edi_kernel.specs.declared.ends.Ending.{Ending}
 use Rattle.edi_kernel.specs.declared.ends.Ending.TheVariants as ending
 use Rattle.edi_kernel.specs.Kernel.{EndsAs}
-use Rattle.edi_kernel.specs.Runs.{RunsAs, RunsTo}
-use Rattle.edi_kernel.proofs.Machines.{runs_are_the_machines}
+use Rattle.edi_kernel.specs.declared.state.KernelState.{KernelState}
 use Rattle.edi_explored.specs.Covered.{Tells, tells_shown}
+use Rattle.edi_explored.specs.Moves.{moves_selected}
 use Rattle.edi_explored.specs.Reached.{IsReached}
 use Rattle.edi_explored.specs.machine.Alike.{SameShown}
+use Rattle.edi_explored.specs.machine.Counted.{EndsMoved}
 use Rattle.edi_explored.specs.machine.Kernels.{IsUnitCode, ending_of}
 use Rattle.edi_explored.proofs.machine.Coding as coding
+use Rattle.edi_explored.proofs.machine.Counting.{moves_are_counted}
 use Rattle.edi_explore.specs.declared.ends.Found.{Found}
 use Rattle.edi_explore.specs.declared.ends.Limits.{Limits}
 use Rattle.edi_explore.specs.declared.finding.Search.{Search}
 use Rattle.edi_explore.specs.Offline.{offline}
 use Rattle.edi_explore.specs.Found.{AllTellWaits, AreChoices, AreRecorded, IsRecorded, IsTold, RunsWith, TellsWaits, endings_of, most_choices, most_turns, with_ending}
 use Rattle.edi_explore.specs.Finding.{Finds, FindsAt, IsFresh}
+use Rattle.edi_explore.specs.Underway.{Comes, HasEnded}
 use Rattle.edi_explore.specs.Shown.{AreDistinct, HasEnding, IsMet, asks_of, shown_endings_of, told_by, with_shown}
 use Rattle.edi_explore.specs.States.{Follows}
 use Rattle.edi_explore.proofs.Growing.{follows_on, follows_same, stays_at}
@@ -144,14 +149,21 @@ recorded_of unit input choices f e r same told few =
       small = subst AreChoices (sym r.choices_are) r.small;
     }
 
--- whoever waits, and whatever the moves are, it is recorded
-pub recorded_waiting : (unit : ProgramUnit) (input : List ℕ) (f g : Found) (moves : ℕ) → g ≡ record f { moves = moves; waits = g.waits } →
+-- whoever waits, it is recorded
+pub recorded_waiting : (unit : ProgramUnit) (input : List ℕ) (f g : Found) → g ≡ record f { waits = g.waits } →
     IsRecorded unit input f → IsRecorded unit input g
-recorded_waiting unit input f g moves e r = subst (IsRecorded unit input) (sym e) (record {
+recorded_waiting unit input f g e r = subst (IsRecorded unit input) (sym e) (record {
   end = r.end;
   is = r.is;
   uncut = r.uncut;
-  selects = record { outcome = r.selects.outcome; selects = r.selects.selects; ends = r.selects.ends; turns = r.selects.turns; shown = r.selects.shown };
+  selects = record {
+    outcome = r.selects.outcome;
+    selects = r.selects.selects;
+    ends = r.selects.ends;
+    turns = r.selects.turns;
+    shown = r.selects.shown;
+    moves = r.selects.moves;
+  };
   few = r.few;
   small = r.small;
 })
@@ -335,35 +347,48 @@ never_bad unit input f r at e =
 
 -- ---- a run
 
--- what some choices select, of so many turns
-abbrev pub SelectedBy : ProgramUnit → State → (bound : ℕ) → (choices : List ℕ) → outcome.Ending → (used : ℕ) → (shown : List ℕ) → Type 0
-SelectedBy unit system bound choices end used shown =
-    (o : Outcome) × Select unit system bound (listed choices) o × (o.ending ≡ end) × (o.turns ≡ used) × (o.shown ≡ shown)
+-- what some choices select, of so many turns and moves
+abbrev pub SelectedBy : ProgramUnit → State → (bound : ℕ) → (choices : List ℕ) → outcome.Ending → (used moves : ℕ) → (shown : List ℕ) → Type 0
+SelectedBy unit system bound choices end used moves shown =
+    (o : Outcome) × (s : Select unit system bound (listed choices) o) × (o.ending ≡ end) × (o.turns ≡ used) × (o.shown ≡ shown)
+    × (moves_selected unit system bound (listed choices) o s ≡ moves)
 
 module _ (unit : ProgramUnit) (c : CanBeCoded unit) (code : CodeParts) (is : IsUnitCode unit code) (system : State) (bound : ℕ) (choices : List ℕ)
-    (old new : Drawn) (none : old.drawn ≡ 0) (source : old.source ≡ listed choices) where
-  ran_as : (e : Ending) (words : List ℕ) (used : ℕ) (now : State) → RunsAs code system bound old e words used now new → (end : outcome.Ending) →
-      ending_of e ≡ Some end → SelectedBy unit system bound choices end used now.shown
-  ran_as e words used now r end same =
-      let o : Outcome = outcome_of now r.end used new.drawn in (
+    (from : Choices) (source : from ≡ listed choices) where
+  ran_as : (e : Ending) (k : KernelState) (now : State) (later : Drawn) (moves : ℕ) → k.used ≤ bound → HasEnded code system bound from e k now later moves →
+      (end : outcome.Ending) → ending_of e ≡ Some end → SelectedBy unit system bound choices end k.used moves now.shown
+  ran_as e k now later moves le h end same =
+      let o : Outcome = outcome_of now h.end k.used later.drawn in
+      let left : k.used ≡ bound - h.machine.turns = omega (arith, h.turns, le) in
+      let m : Mach (fetch code.words) code.entry code.calls system bound from o = (
+        h.end,
+        h.machine,
+        later.drawn,
+        (h.ends.steps, h.ends.ends),
+        ap (λ s. outcome_of s h.end k.used later.drawn) (sym h.system) ∙ ap (λ n. outcome_of h.machine.system h.end n later.drawn) left,
+      ) in
+      let s : Select unit system bound (listed choices) o =
+      coding.meant unit c system bound choices o (coding.machine unit c code is system bound choices (record { source = from; drawn = 0 }) later refl source o m) in (
         o,
-        coding.meant unit c system bound choices o (coding.machine unit c code is system bound choices old new none source o
-            (runs_are_the_machines code system bound old new e words used now none r)),
-        some_is (sym (coding.as_ending r.end e r.same) ∙ same),
+        s,
+        some_is (sym (coding.as_ending h.end e h.same) ∙ same),
         refl,
         refl,
+        moves_are_counted unit c code is system bound (listed choices) h.end h.machine later.drawn moves
+            (subst (λ z. EndsMoved code system bound z h.end h.machine later.drawn moves) source h.ends) s.0 s.1 s.2 s.3 s.4 s.5,
       )
 
   -- what a run of the kernel comes to
-  pub ran : (e : Ending) (words : List ℕ) (used : ℕ) (now : State) → RunsTo code system bound old e words used now new → (end : outcome.Ending) →
-      ending_of e ≡ Some end → SelectedBy unit system bound choices end used now.shown
-  ran ending.Fault words used now r = λ end same. absurd (none_some end same)
+  pub ran : (e : Ending) (k : KernelState) (now : State) (later : Drawn) (moves : ℕ) → k.used ≤ bound →
+      Comes code system bound from (Some e) k now later moves → (end : outcome.Ending) → ending_of e ≡ Some end →
+      SelectedBy unit system bound choices end k.used moves now.shown
+  ran ending.Fault k now later moves le r = λ end same. absurd (none_some end same)
     where
       none_some : (end : outcome.Ending) → None ≡ Some end → ⊥
       none_some end same = absurd (cc)
-  ran ending.Done words used now r = ran_as ending.Done words used now r
-  ran (ending.Halted line) words used now r = ran_as (ending.Halted line) words used now r
-  ran (ending.Failed cause line) words used now r = ran_as (ending.Failed cause line) words used now r
-  ran ending.Turns words used now r = ran_as ending.Turns words used now r
-  ran ending.Standstill words used now r = ran_as ending.Standstill words used now r
-  ran (ending.Bad at) words used now r = ran_as (ending.Bad at) words used now r
+  ran ending.Done k now later moves le r = ran_as ending.Done k now later moves le r
+  ran (ending.Halted line) k now later moves le r = ran_as (ending.Halted line) k now later moves le r
+  ran (ending.Failed cause line) k now later moves le r = ran_as (ending.Failed cause line) k now later moves le r
+  ran ending.Turns k now later moves le r = ran_as ending.Turns k now later moves le r
+  ran ending.Standstill k now later moves le r = ran_as ending.Standstill k now later moves le r
+  ran (ending.Bad at) k now later moves le r = ran_as (ending.Bad at) k now later moves le r

@@ -214,7 +214,7 @@ module _ (code : CodeParts) (input : List ℕ) (limits : Limits) where
   IsSoFar (verdict.Many moves) s depth from = ⊥
   IsSoFar (verdict.Cut moves) s depth from = AreAllTo code input limits moves s.found.items
   IsSoFar (verdict.Unrecorded moves) s depth from = AreAllTo code input limits moves s.found.items
-  IsSoFar (verdict.NoMemory moves) s depth from = AreAllTo code input limits moves s.found.items
+  IsSoFar (verdict.NoMemory moves) s depth from = ⊥
 
   -- after one more level, which all were followed of or not
   pub so_far_more : (x : Verdict) (e : Expanded) (a b : Search) (depth from : ℕ) → AreStates a.states → IsSoFar x a depth from →
@@ -231,7 +231,7 @@ module _ (code : CodeParts) (input : List ℕ) (limits : Limits) where
   so_far_more (verdict.Many moves) e a b depth from was h more further level = absurd h
   so_far_more (verdict.Cut moves) e a b depth from was h more further level = all_to_more code input limits moves a.found.items b.found.items more h
   so_far_more (verdict.Unrecorded moves) e a b depth from was h more further level = all_to_more code input limits moves a.found.items b.found.items more h
-  so_far_more (verdict.NoMemory moves) e a b depth from was h more further level = all_to_more code input limits moves a.found.items b.found.items more h
+  so_far_more (verdict.NoMemory moves) e a b depth from was h more further level = absurd h
 
   -- no state is left
   pub ends_whole : (x : Verdict) (s : Search) (depth from count : ℕ) → IsSearch code input limits s → IsSoFar x s depth from →
@@ -241,7 +241,7 @@ module _ (code : CodeParts) (input : List ℕ) (limits : Limits) where
   ends_whole (verdict.Many moves) s depth from count is h whole = absurd h
   ends_whole (verdict.Cut moves) s depth from count is h whole = h
   ends_whole (verdict.Unrecorded moves) s depth from count is h whole = h
-  ends_whole (verdict.NoMemory moves) s depth from count is h whole = h
+  ends_whole (verdict.NoMemory moves) s depth from count is h whole = absurd h
 
   -- the search is given up in a level
   pub ends_early : (x : Verdict) (g : GivenUp) (a : Search) (fs : List Found) (depth from count : ℕ) → IsSoFar x a depth from →
@@ -257,7 +257,7 @@ module _ (code : CodeParts) (input : List ℕ) (limits : Limits) where
   ends_early (verdict.Many moves) g a fs depth from count h more full many = absurd h
   ends_early (verdict.Cut moves) g a fs depth from count h more full many = all_to_more code input limits moves a.found.items fs more h
   ends_early (verdict.Unrecorded moves) g a fs depth from count h more full many = all_to_more code input limits moves a.found.items fs more h
-  ends_early (verdict.NoMemory moves) g a fs depth from count h more full many = all_to_more code input limits moves a.found.items fs more h
+  ends_early (verdict.NoMemory moves) g a fs depth from count h more full many = absurd h
 
   -- of no move there is nothing to tell
   pub all_to_none : (fs : List Found) → AreAllTo code input limits 0 fs
@@ -278,7 +278,7 @@ module _ (code : CodeParts) (input : List ℕ) (limits : Limits) where
   ends_bound (verdict.Many moves) s depth from count h full = absurd h
   ends_bound (verdict.Cut moves) s depth from count h full = h
   ends_bound (verdict.Unrecorded moves) s depth from count h full = h
-  ends_bound (verdict.NoMemory moves) s depth from count h full = h
+  ends_bound (verdict.NoMemory moves) s depth from count h full = absurd h
 
 -- ---- what the verdict says
 

@@ -7,6 +7,7 @@ pub mod Keying
 pub mod Adding
 pub mod Tabled
 pub mod Table
+pub mod Rounds
 pub mod Findings
 pub mod Trails
 pub mod Endings

@@ -26,8 +26,8 @@ has_as asks fs e xs ys same h = (
 )
 
 module _ (code : CodeParts) (input : List ℕ) (limits : Limits) (a b : Search) (came one : Found) (e : Ending) (shown choices : List ℕ)
-    (push : b.found.items ≡ a.found.items ++ one ∷ []) (same : b.moves ≡ a.moves) (told : one ≡ record came { moves = a.moves; waits = one.waits })
-    (met : IsMet (asks_of limits) came e shown) where
+    (push : b.found.items ≡ a.found.items ++ one ∷ []) (same : b.moves ≡ a.moves) (told : one ≡ record came { waits = one.waits })
+    (met : IsMet (asks_of limits) came e shown) (as_many : came.moves ≡ a.moves) where
   -- what is kept is what was met
   pub one_met : IsMet (asks_of limits) one e shown
   one_met = subst (λ (f : Found). IsMet (asks_of limits) f e shown) (sym told) (record { ending = met.ending; shown = met.shown })
@@ -65,13 +65,13 @@ module _ (code : CodeParts) (input : List ℕ) (limits : Limits) (a b : Search) 
       finds = record {
         recorded = λ unit coded is all.
             one_recorded a.found.items b.found.items one push unit input
-            (recorded_waiting unit input came one a.moves told (recorded_of unit input choices came e (runs unit coded is) met.ending is_told few)) all;
+            (recorded_waiting unit input came one told (recorded_of unit input choices came e (runs unit coded is) met.ending is_told few)) all;
         waits = one_waits a.found.items b.found.items one push code input waits;
         distinct = one_distinct a.found.items b.found.items one push (asks_of limits) lacks_one;
         fresh = λ i x l at. subst (IsFresh limits a.found.items) (sym (is_last i x l at)) fresh_one;
         few = λ most is l. omega (arith, room most is, ap length push, length-append a.found.items (one ∷ []));
         more = (one ∷ [], push);
       };
-      after = λ i x l at. ap (λ (f : Found). f.moves) (is_last i x l at) ∙ ap (λ (f : Found). f.moves) told;
+      after = λ i x l at. ap (λ (f : Found). f.moves) (is_last i x l at) ∙ ap (λ (f : Found). f.moves) told ∙ as_many;
       moves = same;
     }

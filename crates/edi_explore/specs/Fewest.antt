@@ -34,6 +34,21 @@ IsWithin (verdict.Cut moves) n = n ≤ moves
 IsWithin (verdict.Unrecorded moves) n = n ≤ moves
 IsWithin (verdict.NoMemory moves) n = n ≤ moves
 
+-- each that was found has at most so many moves
+abbrev pub AreUpTo : (moves : ℕ) → List Found → Type 0
+AreUpTo moves found = (one : Found) → Contains found one → one.moves ≤ moves
+
+-- the verdict says something of all executions of fewer moves than each that was found has, where a limit has ended the search. After a stint
+-- that was cut, and after an ending without a record, it has gone on, and may have found others of more moves. Memory may run out later, in the
+-- run that is to confirm a cut
+abbrev pub AreWithin : Verdict → List Found → Type 0
+AreWithin verdict.All found = ⊤
+AreWithin (verdict.Full moves) found = AreUpTo moves found
+AreWithin (verdict.Many moves) found = AreUpTo moves found
+AreWithin (verdict.Cut moves) found = ⊤
+AreWithin (verdict.Unrecorded moves) found = ⊤
+AreWithin (verdict.NoMemory moves) found = ⊤
+
 -- of each that was found, where the verdict says something of all executions of fewer moves
 abbrev pub AreFewest : CodeParts → (input : List ℕ) → Limits → Verdict → List Found → Type 0
 AreFewest code input limits v found =

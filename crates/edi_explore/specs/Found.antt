@@ -9,6 +9,7 @@ use Rattle.edi_unit.specs.Tree.{ProgramUnit}
 use Rattle.edi_meaning.specs.Select.{Select}
 use Rattle.edi_kernel.specs.declared.ends.Ending.{Ending}
 use Rattle.edi_kernel.specs.declared.ends.Ending.TheVariants as ending
+use Rattle.edi_explored.specs.Moves.{moves_selected}
 use Rattle.edi_explored.specs.machine.Kernels.{ending_of}
 use Rattle.edi_waits.specs.Told.{all_of}
 use Rattle.edi_waits.specs.Waits.{StandsSo, Waiting}
@@ -16,13 +17,14 @@ use Rattle.edi_explore.specs.declared.ends.Found.{Found}
 pub use Rattle.edi_explore.specs.Choices.{AreChoices, most_choices, most_turns}
 use Rattle.edi_explore.specs.Offline.{offline}
 
--- the execution that these choices select, of at most so many turns, ends so, after as many as are told, and has shown what is told
+-- the execution that these choices select, of at most so many turns, ends so, after as many turns and moves as are told, and has shown what is told
 pub record Selects (most : ℕ) (unit : ProgramUnit) (input : List ℕ) (found : Found) (end : outcome.Ending) : Type 0 where
   pub outcome : Outcome
   pub selects : Select unit (offline input) most (listed found.choices.items) outcome
   pub ends : outcome.ending ≡ end
   pub turns : outcome.turns ≡ found.turns
   pub shown : outcome.shown ≡ found.shown.items
+  pub moves : moves_selected unit (offline input) most (listed found.choices.items) outcome selects ≡ found.moves
 
 -- what is found is what the run with these choices, of at most so many turns, came to, unless an object has failed in it
 pub record RunsWith (most : ℕ) (unit : ProgramUnit) (input choices : List ℕ) (found : Found) : Type 0 where
@@ -36,7 +38,7 @@ IsTold ending.Turns = ⊥
 IsTold ending.Fault = ⊥
 IsTold e = ⊤
 
--- WHAT IS FOUND IS SO: its choices select an execution that ends so, after so many turns, with this shown, and a record may have them
+-- WHAT IS FOUND IS SO: its choices select an execution that ends so, after so many turns and moves, with this shown, and a record may have them
 pub record IsRecorded (unit : ProgramUnit) (input : List ℕ) (found : Found) : Type 0 where
   pub end : outcome.Ending
   pub is : ending_of found.ending ≡ Some end

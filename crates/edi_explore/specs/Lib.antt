@@ -1,6 +1,7 @@
 pub mod Choices
 pub mod Offline
 pub mod Systems
+pub mod Underway
 pub mod Found
 pub mod Shown
 pub mod Back

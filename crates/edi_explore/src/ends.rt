@@ -26,7 +26,7 @@ pub struct Found {
     pub choices: Vec<u8>,
     /// The turns of the run with these choices, at most 1,000,000,000.
     pub turns: u64,
-    /// No execution of fewer moves ends so, as far as the verdict speaks of them. That the run with these choices has so many is not promised.
+    /// The moves of the run with these choices. No execution of fewer moves ends so, as far as the verdict speaks of executions of so few.
     pub moves: usize,
     /// All that the run has shown.
     pub shown: Vec<u8>,
@@ -45,9 +45,10 @@ pub enum Verdict {
     Many(usize),
     /// A process goes on for more turns than it may: the choices of the report lead to it.
     Cut(usize),
-    /// An ending has no record: the run with its choices has more of them, or more turns, than a record may have, or ends otherwise.
+    /// An ending has no record: the run with its choices has more of them, or more turns, than a record may have, or ends otherwise. The same is told
+    /// of a stint that was cut, if its choices are more than a record may have, or the run that is to confirm it is not cut.
     Unrecorded(usize),
-    /// Memory ran out.
+    /// Memory ran out: in the search, which was given up then, or in the run that is to confirm a cut.
     NoMemory(usize),
 }
 

@@ -50,6 +50,17 @@ impl Met {
         }
         found.shown == self.shown
     }
+
+    /// Whether a run has come to this, after so many moves.
+    fn came_after(&self, moves: usize, found: &Found, asks: bool) -> bool
+        ensures is { result ≡ true → IsMet asks found.now self.now.ending self.now.shown.items }
+        ensures moves { result ≡ true → found.now.moves ≡ moves }
+    {
+        if found.moves != moves {
+            return false;
+        }
+        self.is(found, asks)
+    }
 }
 
 /// Whether an ending has been found.
@@ -105,8 +116,8 @@ impl Search {
         Ok(())
     }
 
-    /// Runs the choices, and keeps them as those of an ending that has not been found, if the run ends so. The answer is whether it does,
-    /// with no more choices than a record has.
+    /// Runs the choices, and keeps them as those of an ending that has not been found, if the run ends so after as many moves as are noted. The
+    /// answer is whether it does, with no more choices than a record has.
     pub(crate) fn record(
         &mut self,
         kernel: &mut Kernel,
@@ -135,10 +146,10 @@ impl Search {
         if came.ending == Ending::Fault {
             return Err(GivenUp::NoMemory);
         }
-        if !met.is(&came, limits.asks()) {
+        if !met.came_after(self.moves, &came, limits.asks()) {
             return Ok(false);
         }
-        let found = finished(alloc, kernel, code, input, came, self.moves)?;
+        let found = finished(alloc, kernel, code, input, came)?;
         match self.found.push(found) {
             Ok(()) => Ok(true),
             Err(_failed) => Err(GivenUp::NoMemory),

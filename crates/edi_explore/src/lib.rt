@@ -5,6 +5,7 @@ mod back;
 mod ends;
 mod expand;
 mod finding;
+mod moved;
 mod offline;
 mod record;
 mod search;

@@ -10,6 +10,7 @@ ghost use Rattle.edi_explore.specs.States.{AreStates, slots_of};
 ghost use Rattle.edi_explore.specs.Records.{noted, trail};
 
 use crate::ends::Found;
+use crate::moved::run_counted;
 use crate::offline::Offline;
 use crate::states::{Origin, States};
 use edi_kernel::{Ending, Kernel};
@@ -66,7 +67,7 @@ fn are_choices(choices: &[u8])
     ensures { AreChoices choices.now }
 {}
 
-/// The run with these choices and at most so many turns. What is found is how it ended.
+/// The run with these choices and at most so many turns. What is found is how it ended, and after how many moves.
 pub(crate) fn run(
     alloc: Global,
     kernel: &mut Kernel,
@@ -82,12 +83,12 @@ pub(crate) fn run(
     are_choices(&choices);
     let mut calls = Offline::new(alloc, input)?;
     let mut source = Choices::list(alloc, &choices)?;
-    let ending = kernel.run(code, &mut calls, turns, &mut source);
+    let ran = run_counted(kernel, code, &mut calls, turns, &mut source);
     Ok(Found {
-        ending,
+        ending: ran.ending,
         choices,
         turns: kernel.turns_used(),
-        moves: 0,
+        moves: ran.moves,
         shown: calls.into_shown(),
         waits: Vec::new(alloc),
     })
@@ -123,7 +124,7 @@ fn waits_of(
     stand_still(alloc, kernel, code, &mut calls, MOST_TURNS, &mut source)
 }
 
-/// What was found, with so many moves, and with who waits where. If it is a standstill, the run is made once more.
+/// What was found, with who waits where. If it is a standstill, the run is made once more.
 /// The only error is want of memory.
 pub(crate) fn finished(
     alloc: Global,
@@ -131,14 +132,12 @@ pub(crate) fn finished(
     code: &Code,
     input: &[u8],
     found: Found,
-    moves: usize,
 ) -> Result<Found, AllocError>
     requires none { found.waits.items ≡ [] }
-    ensures same { IfOk result (λ told. told ≡ record found { moves = moves; waits = told.waits }) }
+    ensures same { IfOk result (λ told. told ≡ record found { waits = told.waits }) }
     ensures waits { IfOk result (TellsWaits code.now input.now) }
 {
     let mut told = found;
-    told.moves = moves;
     if is_standstill(told.ending) {
         let Some(waits) = waits_of(alloc, kernel, code, input, &told.choices)? else {
             // It stood still just now: memory ran out in a call.

@@ -7,7 +7,7 @@ ghost use Rattle.edi_follows.specs.Theorem.{CanBeCoded};
 ghost use Rattle.edi_explored.specs.Reached.{AreAll, AreAllBelow, AreAllShown, AreAllShownBelow};
 ghost use Rattle.edi_explored.specs.machine.Kernels.{IsUnitCode};
 ghost use Rattle.edi_explore.specs.Expand.{ComesTo, HasExpanded, IsSearch};
-ghost use Rattle.edi_explore.specs.Fewest.{AreFewest};
+ghost use Rattle.edi_explore.specs.Fewest.{AreFewest, AreUpTo, AreWithin};
 ghost use Rattle.edi_explore.specs.Finding.{Finds, FindsAt, IsBegun};
 ghost use Rattle.edi_explore.specs.Found.{AllTellWaits, AreNeverBad, AreRecorded, endings_of};
 ghost use Rattle.edi_explore.specs.Offline.{offline};
@@ -160,9 +160,11 @@ impl Search {
         requires few { length self.old.states.keys.keys ≤ limits.states }
         requires begun { HasFirst code.now input.now limits self.old }
         requires fewest { AreFewest code.now input.now limits Verdict.All self.old.found.items }
+        requires first { AreUpTo 0 self.old.found.items }
         ensures finds { Finds code.now input.now limits self.old.found.items self.new.found.items }
         ensures answer { IsAnswer code.now input.now limits (length self.new.states.keys.keys) self.new.found.items result }
         ensures fewest { AreFewest code.now input.now limits result self.new.found.items }
+        ensures within { AreWithin result self.new.found.items }
         ensures watches { WhereTold (W.seen watcher.old) (W.seen watcher.new) (IsWatched result (limits.states + 1) (length self.new.states.keys.keys + 1)) }
         ensures few { length self.new.states.keys.keys ≤ limits.states }
     {
@@ -198,6 +200,7 @@ impl Search {
         ensures finds { Finds code.now input.now limits self.old.found.items self.new.found.items }
         ensures answer { IsAnswer code.now input.now limits (length self.new.states.keys.keys) self.new.found.items result }
         ensures fewest { AreFewest code.now input.now limits result self.new.found.items }
+        ensures within { AreWithin result self.new.found.items }
         ensures watches { WhereTold (W.seen watcher.old) (W.seen watcher.new) (IsWatched result (limits.states + 1) (length self.new.states.keys.keys + 1)) }
         ensures few { length self.new.states.keys.keys ≤ limits.states }
     {
@@ -250,7 +253,8 @@ fn is_cut(
     Ok(found.ending == Ending::Turns)
 }
 
-/// The verdict that a stint was cut, after so many moves, if the run with these choices is cut; else one that says the same of endings.
+/// The verdict that a stint was cut, after so many moves, if the run with these choices is cut; else one that says the same of endings. If memory
+/// runs out in that run it says so.
 fn confirmed_cut(
     alloc: Global,
     kernel: &mut Kernel,
@@ -295,11 +299,13 @@ fn confirmed(
 
 /// Finds every ending that any choices bring about, for the program of this code with this input and no disk.
 ///
-/// Each ending that is found has choices, which bring it about: `Kernel::run` ended so with them, and no execution of fewer moves than are
-/// told ends so, as far as the verdict speaks of them. The verdict says whether these are all endings, or all of the executions of fewer
-/// moves than its number. A move is what a process does from when it is taken until the next one is taken; an attempt that fails is none. An
-/// execution that goes on for ever has no ending, and is cut by each bound on its turns. Where output is looked at, an ending with other
-/// output is another ending.
+/// Each ending that is found has choices, which bring it about: a run of the kernel ended so with them, after as many moves as are told. No
+/// execution of fewer moves ends so, as far as the verdict speaks of executions of so few: so it is a shortest one. The verdict speaks of these
+/// for each ending that is found if it is `All`, `Full` or `Many`. After a stint that was cut and after an ending without a record the search goes
+/// on: so if it is another one, those of more moves than its number may not be shortest ones. The verdict says whether these are all endings, or all of the executions of fewer moves than its number. A move is what
+/// a process does from when it is taken until the next one is taken; a failed attempt whose conditions call no function is none. An execution
+/// that goes on for ever has no ending, and is cut by each bound on its turns. Where output is looked at, an ending with other output is another
+/// ending.
 ///
 /// Where the verdict is that a stint was cut, the choices of the report bring that about: the run with them has more turns than a stint may have.
 /// As many states and one more were met where the verdict is that there may be no more; there are never more than these. As many endings were
@@ -320,6 +326,7 @@ pub fn explore<W: Watcher>(
     ensures waits { IfOk result (λ report. AllTellWaits code.now input.now report.found.items) }
     ensures distinct { IfOk result (λ report. AreDistinct (asks_of limits) report.found.items) }
     ensures fewest { IfOk result (λ report. AreFewest code.now input.now limits report.verdict report.found.items) }
+    ensures within { IfOk result (λ report. AreWithin report.verdict report.found.items) }
     ensures all { (unit : ProgramUnit) → CanBeCoded unit → IsUnitCode unit code.now →
         IfOk result (λ report. report.verdict ≡ Verdict.All → AreAll unit (offline input.now) (endings_of report.found.items)) }
     ensures below { (unit : ProgramUnit) → CanBeCoded unit → IsUnitCode unit code.now → (moves : ℕ) →

@@ -1,10 +1,11 @@
 -- Taking the next leaves the members of the list as they are: which one is taken, choices say, but who is ready, they do not.
-use Rattle.std.proofs.Common.{◌≡◌, ℕ, zero, suc, ◌+◌, ◌<◌, Bool, true, false, ◌||◌, List, [], ◌∷◌, length, refl, ap, ◌∙◌, arith}
+use Rattle.std.proofs.Common.{◌≡◌, ℕ, zero, suc, ◌+◌, ◌<◌, Bool, true, false, ◌||◌, List, [], ◌∷◌, ◌++◌, length, refl, ap, ◌∙◌, arith}
 use Rattle.std.specs.Prelude.{◌%◌}
 use Rattle.edi_calls.specs.Choice.{Choices, choice}
 use Rattle.edi_calls.specs.Names.{Name, same}
 use Rattle.edi_calls.specs.Ready.{has, Taking, nobody, taking, name_at, without_index, take_next}
-use Rattle.edi_meaning.proofs.Sound.{once-without_place, not-without_place}
+use Rattle.edi_calls.proofs.Tables.{same-refl}
+use Rattle.edi_meaning.proofs.Sound.{has-append, once-without_place, not-without_place}
 use Rattle.edi_explored.specs.Covered.{Reordered}
 
 -- a test before another
@@ -33,3 +34,11 @@ members_taken choices drawn (p ∷ q ∷ ready) =
       members = members_at (p ∷ q ∷ ready) i (omega arith);
       once = λ o. (not-without_place (p ∷ q ∷ ready) i (omega arith) o, once-without_place (p ∷ q ∷ ready) i o);
     }
+
+-- who goes to the back is among them
+pub last_has : (others : List Name) (p : Name) → has (others ++ p ∷ []) p ≡ true
+last_has others p = has-append others (p ∷ []) p ∙ ap (λ b. has others p || (b || false)) (same-refl p) ∙ right (has others p)
+  where
+    right : (b : Bool) → (b || true) ≡ true
+    right true = refl
+    right false = refl

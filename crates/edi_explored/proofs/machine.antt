@@ -14,3 +14,5 @@ pub mod KernelStints
 pub mod KernelSearch
 pub mod Levels
 pub mod All
+pub mod Counted
+pub mod Counting

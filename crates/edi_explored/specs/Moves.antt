@@ -1,13 +1,15 @@
--- Definition. The moves of an execution. A move is what one process does from when it is taken until the next one is taken. An attempt that
--- fails and marks its process is none, since it changes nothing but the turns; and what the execution ends in is none.
-use Rattle.std.specs.Prelude.{ℕ, zero, suc, Bool, true, false, if◌then◌else◌, List, [], ◌∷◌, ◌++◌}
+-- Definition. THE MOVES OF AN EXECUTION: the stints in it that another one follows, without the attempts that fail and mark their process. A stint
+-- is what one process does from when it is taken until the next one is taken; only an attempt whose conditions call no function marks, since it
+-- changes nothing but the turns.
+use Rattle.std.specs.Prelude.{ℕ, zero, suc, Bool, true, false, if◌then◌else◌, List, [], ◌∷◌, ◌++◌, length}
 use Rattle.edi_calls.specs.State.{State}
 use Rattle.edi_calls.specs.Choice.{Choices}
 use Rattle.edi_calls.specs.Names.{Name}
+use Rattle.edi_calls.specs.Outcome.{Outcome}
 use Rattle.edi_calls.specs.Ready.{Next, stays, joins, Taking, nobody, taking, take_next}
 use Rattle.edi_unit.specs.Tree.{ProgramUnit}
 use Rattle.edi_meaning.specs.Step.{Processes, Stepped, went, ended, step, start}
-use Rattle.edi_meaning.specs.Select.{marked, is_standstill}
+use Rattle.edi_meaning.specs.Select.{marked, is_standstill, Select}
 
 -- one move more, unless the process has only failed an attempt that marks it
 abbrev pub counted : (quiet : Bool) → ℕ → ℕ
@@ -37,3 +39,7 @@ moves unit choices (suc n) s marks p others drawn =
 -- MOVES: in at most n steps from the start
 abbrev pub moves_of : ProgramUnit → State → (bound : ℕ) → Choices → ℕ → ℕ
 moves_of unit system bound choices n = moves unit choices n (start unit system bound) [] [] [] 0
+
+-- those of the execution that the choices select: in as many steps as it has
+abbrev pub moves_selected : (unit : ProgramUnit) (system : State) (bound : ℕ) (choices : Choices) (outcome : Outcome) → Select unit system bound choices outcome → ℕ
+moves_selected unit system bound choices outcome s = moves_of unit system bound choices (length s.4)

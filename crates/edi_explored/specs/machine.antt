@@ -5,3 +5,4 @@ pub mod Machines
 pub mod PutBacks
 pub mod Kernels
 pub mod Levels
+pub mod Counted

@@ -20,6 +20,7 @@ ghost use Rattle.edi_kernel.specs.Kept.{SameKept};
 ghost use Rattle.edi_kernel.specs.declared.kept.Kept.{Kept};
 ghost use Rattle.edi_follows.specs.places.Coded.{Coded};
 ghost use Rattle.edi_explored.specs.Covered.{AllTold, AllToldBelow, Report};
+ghost use Rattle.edi_explored.specs.machine.Counted.{MovesAreCounted};
 ghost use Rattle.edi_explored.specs.machine.Kernels.{FollowedKernels, IsUnitCode, ReachesAs};
 ghost use Rattle.edi_explored.specs.machine.Levels.{IsClosed, IsLevelled, StateTable};
 ghost use Rattle.edi_explored.specs.machine.Machines.{FollowedMachines, ServesAs};
@@ -108,6 +109,12 @@ pub fn runs_reach()
     ensures kernel { (unit : ProgramUnit) → CanBeCoded unit → (code : CodeParts) → IsUnitCode unit code → (system : State) (bound : ℕ) (choices : List ℕ)
         (old new : Drawn) → old.drawn ≡ 0 → old.source ≡ listed choices → (e : Ending) (words : List ℕ) (used : ℕ) (now : State) →
         RunsTo code system bound old e words used now new → ReachesAs unit system choices e now.shown }
+{}
+
+/// A run of the code of a unit has as many moves as the execution that the same choices select, where so many are counted in it: each time that a
+/// process gives way to the next one, and leaves nobody marked.
+pub fn moves_are_counted()
+    ensures law { MovesAreCounted }
 {}
 
 /// Only the words that are kept count: whatever state of the meaning a machine is related to, with another memory that has the same links and

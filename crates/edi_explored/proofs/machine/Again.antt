@@ -2,8 +2,7 @@
 use Rattle.std.proofs.Common.{◌≡◌, ℕ, ◌<◌, Bool, true, false, ◌&&◌, nat_eq, nat_lt, List, length, map}
 use Rattle.std.proofs.Common.{Some, None, refl, sym, ◌∙◌, ap, arith, subst, slice_index_or}
 use Rattle.std.specs.Option.{option_map}
-use Rattle.edi_calls.specs.Names.{Name, same, names}
-use Rattle.edi_calls.specs.Names as tables
+use Rattle.edi_calls.specs.Names.{Name, same}
 use Rattle.edi_calls.specs.Ready.{child, has}
 use Rattle.edi_calls.specs.State.{State}
 use Rattle.edi_target.specs.Mach.{Machine}

@@ -12,7 +12,7 @@ use Rattle.edi_target.specs.Fetch.{fetch}
 use Rattle.edi_target.specs.Mach.{Mach}
 use Rattle.edi_target.proofs.Stands.{code_stands_below}
 use Rattle.edi_target.proofs.segments.Reaching.{allowed_at}
-use Rattle.edi_scheme.specs.Code.{entry, code_of}
+use Rattle.edi_scheme.specs.Code.{code_of}
 use Rattle.edi_scheme.proofs.Blocks.{code_stands, code_is_long}
 use Rattle.edi_scheme.proofs.WordedBlocks.{code_is_words}
 use Rattle.edi_follows.specs.places.Coded.{Coded}

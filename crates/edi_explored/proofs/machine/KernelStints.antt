@@ -1,5 +1,5 @@
 -- A stint of a kernel to which a state was put back, as the laws of a search speak of it.
-use Rattle.std.proofs.Common.{◌≡◌, ◌⊎◌, inl, inr, ℕ, ◌-◌, ◌<◌, ◌^◌, Bool, true, false, ◌||◌, List, [], ◌∷◌, ◌++◌, length, Option, Some, None, refl, sym, ap, subst, ◌∙◌}
+use Rattle.std.proofs.Common.{◌≡◌, ◌⊎◌, inl, inr, ℕ, ◌-◌, ◌<◌, ◌^◌, Bool, false, ◌||◌, List, [], ◌∷◌, ◌++◌, length, Option, Some, None, refl, sym, ap, subst, ◌∙◌}
 use Rattle.edi_calls.specs.Names.{Name, same}
 use Rattle.edi_calls.specs.Outcome as outcome
 use Rattle.edi_calls.specs.Outcome.{Ending}
@@ -25,6 +25,7 @@ use Rattle.edi_explored.specs.machine.Alike.{Alike}
 use Rattle.edi_explored.specs.machine.Machines.{Fails, ServesAs}
 use Rattle.edi_explored.specs.machine.PutBacks.{KeepsBy, IsFollowed}
 use Rattle.edi_explored.specs.machine.Kernels.{IsBack, IsCodeOf, IsFailed, LeadsOn, IsFound}
+use Rattle.edi_explored.proofs.Members.{last_has}
 use Rattle.edi_explored.proofs.machine.Again.{holds_by_name}
 use Rattle.edi_explored.proofs.machine.PutBacks.{IsOver, determined}
 use Rattle.edi_explored.proofs.machine.Kernels.{same_processes}
@@ -168,13 +169,6 @@ module _ (g : Coded) (code : CodeParts) (is : IsCodeOf g code) (start : State) (
       (same_stint h.steps b m p rest (over h.end h.machine) (over outcome.standstill u) tt tt h.is s)) h.same
   end_stands left e k now m p rest h (b, u, inr s) =
       absurd (not_both h.end h.machine u (p ∷ []) (same_stint h.steps b m p rest (over h.end h.machine) (switched u (p ∷ [])) tt tt h.is s.0))
-
-  last_has : (rest : List Name) (p : Name) → has (rest ++ p ∷ []) p ≡ true
-  last_has rest p = Rattle.edi_meaning.proofs.Sound.has-append rest (p ∷ []) p ∙ ap (λ b. has rest p || (b || false)) (same-refl p) ∙ right (has rest p)
-    where
-      right : (b : Bool) → (b || true) ≡ true
-      right true = refl
-      right false = refl
 
   switch_marks : (left : ℕ) (k : KernelState) (now : State) (m : Machine) (p : Name) (rest : List Name) → Switches code.words left k now m p rest →
       IsKernel k → k.taken ≡ None → Fails g m p rest → 0 < k.table.marks

@@ -1,6 +1,6 @@
 -- Words of contracts. What a search with a kernel has to have done: of each state that it keeps, a stint of each ready process from a kernel to
 -- which that state was put back.
-use Rattle.std.specs.Prelude.{◌≡◌, ◌⊎◌, ◌^◌, ℕ, suc, ◌<◌, ◌≤◌, true, false, List, length, Contains, Option, Some, None, ⊤}
+use Rattle.std.specs.Prelude.{◌≡◌, ◌⊎◌, ◌^◌, ℕ, suc, ◌<◌, ◌≤◌, true, false, List, length, Contains, Some, None, ⊤}
 use Rattle.edi_calls.specs.Names.{Name}
 use Rattle.edi_calls.specs.Outcome as outcome
 use Rattle.edi_calls.specs.Ready.{name_at, without_index}

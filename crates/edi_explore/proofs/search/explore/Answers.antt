@@ -7,13 +7,13 @@ use Rattle.edi_explored.specs.Covered.{AllTold, AllToldBelow}
 use Rattle.edi_explore.specs.declared.ends.Found.{Found}
 use Rattle.edi_explore.specs.declared.ends.Limits.{Limits}
 use Rattle.edi_explore.specs.declared.ends.Verdict.{Verdict}
-use Rattle.edi_explore.specs.Fewest.{AreFewest}
+use Rattle.edi_explore.specs.Fewest.{AreFewest, AreWithin}
 use Rattle.edi_explore.specs.Found.{AllTellWaits, AreRecorded}
 use Rattle.edi_explore.specs.Offline.{offline}
 use Rattle.edi_explore.specs.Shown.{AreDistinct, asks_of, told_by}
 use Rattle.edi_explore.specs.Verdicts.{HasCause, IsAnswer, IsConfirmed}
 use Rattle.edi_explore.specs.Watched.{IsWatched}
-use Rattle.edi_explore.proofs.Fewer.{fewest_confirmed}
+use Rattle.edi_explore.proofs.Fewer.{fewest_confirmed, within_confirmed}
 use Rattle.edi_explore.proofs.Findings.{never_bad}
 use Rattle.edi_explore.proofs.Levelling.{answer_all, answer_confirmed, answer_full, answer_many, answer_to}
 use Rattle.edi_explore.proofs.Telling.{all_ends, below_ends, some_asks}
@@ -60,6 +60,14 @@ returns-clause-fewest g c =
     (subst (AreFewest c.args.code.now c.args.input.now c.args.limits c.confirmed-verdict.result) (sym (ap (λ x. x.items) c.report.ensures.found))
     (fewest_confirmed c.args.code.now c.args.input.now c.args.limits c.follow_all-first.result c.confirmed-verdict.result s.found.items
     c.confirmed-verdict.ensures.same c.follow_all-first.ensures.fewest))
+
+pub returns-clause-within : goal.returns-clause-within
+returns-clause-within g c =
+    let s = c.follow_all-first.new.self in
+    subst (λ (v : Verdict). AreWithin v c.report.result.found.items) (sym c.report.ensures.verdict)
+    (subst (AreWithin c.confirmed-verdict.result) (sym (ap (λ x. x.items) c.report.ensures.found))
+    (within_confirmed c.args.code.now c.args.input.now c.args.limits c.follow_all-first.result c.confirmed-verdict.result s.found.items
+    c.confirmed-verdict.ensures.same c.follow_all-first.ensures.within))
 
 -- what the verdict says
 answer : (code : CodeParts) (input : List ℕ) (limits : Limits) (count : ℕ) (fs gs : List Found) (first now told : Verdict) → gs ≡ fs → told ≡ now →

@@ -2,9 +2,10 @@
 use Rattle.std.proofs.Common.{◌≡◌, ◌+◌, length, sym, subst}
 use Rattle.edi_explore.specs.declared.ends.Verdict.{Verdict}
 use Rattle.edi_explore.specs.declared.ends.Verdict.TheVariants as verdict
+use Rattle.edi_explore.specs.Fewest.{AreWithin}
 use Rattle.edi_explore.specs.Verdicts.{IsAnswer}
 use Rattle.edi_explore.specs.Watched.{IsWatched}
-use Rattle.edi_explore.proofs.Fewer.{fewest_none}
+use Rattle.edi_explore.proofs.Fewer.{fewest_none, up_to_none, within_given_up}
 use Rattle.edi_explore.proofs.Findings.{finds_on}
 use Rattle.edi_explore.proofs.Levelling.{all_to_none, early_none}
 use Rattle.edi_explore.proofs.Watching.{sees_none, told_same, watched_early, watched_not}
@@ -78,3 +79,14 @@ returns-in-Err-clause-watches g c =
     told_same (IsWatched c.verdict.result (c.args.limits.states + 1) states) (g.W.Watcher.seen c.args.watcher.now)
     (λ x. watched_early verdict.All c.verdict.result c.in-Err.given_up 0 (c.args.limits.states + 1) states x x c.verdict.ensures
     (sees_none 0 (c.args.limits.states + 1) x).0)
+
+pub levels-requires-clause-first : goal.levels-requires-clause-first
+levels-requires-clause-first g c =
+    up_to_none c.args.code.now c.args.input.now c.args.limits c.args.self.now c.begin.new.self c.requires.new.found c.requires.new.moves c.begin.ensures.finds
+
+pub returns-in-Err-clause-within : goal.returns-in-Err-clause-within
+returns-in-Err-clause-within g c =
+    subst (λ (v : Verdict). AreWithin v c.begin.new.self.found.items) (sym c.verdict.ensures)
+    (within_given_up c.args.code.now c.args.input.now c.args.limits c.in-Err.given_up 0 c.begin.new.self.found.items
+    (up_to_none c.args.code.now c.args.input.now c.args.limits c.args.self.now c.begin.new.self c.requires.new.found c.requires.new.moves
+    c.begin.ensures.finds))

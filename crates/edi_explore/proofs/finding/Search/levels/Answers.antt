@@ -7,10 +7,10 @@ use Rattle.edi_explore.specs.declared.ends.Verdict.TheVariants as verdict
 use Rattle.edi_explore.specs.declared.expand.Expanded.{Expanded}
 use Rattle.edi_explore.specs.declared.finding.Search.{Search}
 use Rattle.edi_explore.specs.declared.step.GivenUp.{GivenUp}
-use Rattle.edi_explore.specs.Fewest.{AreFewest}
+use Rattle.edi_explore.specs.Fewest.{AreFewest, AreUpTo, AreWithin}
 use Rattle.edi_explore.specs.Verdicts.{IsAnswer, or_else, verdict_of, verdict_of_given_up}
 use Rattle.edi_explore.specs.Watched.{IsWatched, Sees, SeesLevel}
-use Rattle.edi_explore.proofs.Fewer.{IsLow, fewest_more, fewest_or, low_none}
+use Rattle.edi_explore.proofs.Fewer.{IsLow, fewest_more, fewest_or, low_none, up_to_more, within_given_up, within_or, within_whole}
 use Rattle.edi_explore.proofs.Findings.{finds_none, finds_on}
 use Rattle.edi_explore.proofs.Levelling.{IsSoFar, ends_bound, ends_early, ends_whole, no_levels, so_far_more}
 use Rattle.edi_explore.proofs.Noted.{noted_levels, noted_search}
@@ -29,6 +29,7 @@ loop-depth-init g c = record {
   so = no_levels c.args.code.now c.args.input.now c.args.limits c.args.self.now c.requires.begun;
   low = λ m up. absurd up;
   fewest = c.requires.fewest;
+  early = c.requires.first;
   few = c.requires.few;
   deep = omega arith;
   within = omega arith;
@@ -88,6 +89,9 @@ loop-depth-preserved g c =
           (fewest_or code input limits c.loop-depth.verdict (verdict_of c.in-Ok.expanded (suc c.loop-depth.depth)) b.found.items
           (fewest_more code input limits a b c.loop-depth.depth c.loop-depth.from finds (sym next) c.loop-depth.verdict was c.loop-depth.invariant.low
           c.loop-depth.invariant.fewest));
+      early =
+          subst (λ n. AreUpTo n b.found.items) next
+          (up_to_more code input limits a b c.loop-depth.depth finds (sym next) c.loop-depth.invariant.early);
       few = c.level.ensures.few;
       deep = omega (arith, c.loop-depth.invariant.deep, c.loop-depth.invariant.within, c.if-from-to.false, c.len-to.ensures);
       within = omega (arith, c.len-to.ensures, longer a.states b.states input c.loop-depth.invariant.search.states came.further.grows);
@@ -170,3 +174,31 @@ returns-clause-watches g c =
     (λ x y s.
     watched_full c.loop-depth.verdict c.or-2.result (c.args.limits.states + 2) (c.args.limits.states + 1) (length c.loop-depth.self.states.keys.keys + 1)
     x y c.or-2.ensures s.0) c.loop-depth.invariant.watches
+
+pub returns-then-from-to-clause-within : goal.returns-then-from-to-clause-within
+returns-then-from-to-clause-within g c =
+    within_whole c.args.code.now c.args.input.now c.args.limits c.loop-depth.verdict c.loop-depth.self c.loop-depth.depth c.loop-depth.from
+    c.loop-depth.invariant.so
+
+pub returns-in-Err-clause-within : goal.returns-in-Err-clause-within
+returns-in-Err-clause-within g c =
+    let code = c.args.code.now in
+    let input = c.args.input.now in
+    let limits = c.args.limits in
+    let a : Search = record c.loop-depth.self { moves = c.loop-depth.depth + 1 } in
+    let b : Search = c.level.new.self in
+    let next : suc c.loop-depth.depth ≡ c.loop-depth.depth + 1 = omega arith in
+    let early : AreUpTo (c.loop-depth.depth + 1) b.found.items =
+    subst (λ n. AreUpTo n b.found.items) next (up_to_more code input limits a b c.loop-depth.depth c.level.ensures.finds (sym next) c.loop-depth.invariant.early) in
+    subst (λ (v : Verdict). AreWithin v b.found.items) (sym (c.or.ensures ∙ ap (or_else c.loop-depth.verdict) c.verdict-in-Err.ensures))
+    (within_or code input limits c.loop-depth.verdict (verdict_of_given_up c.in-Err.given_up (c.loop-depth.depth + 1)) c.loop-depth.self
+    c.loop-depth.depth c.loop-depth.from b.found.items c.loop-depth.invariant.so
+    (within_given_up code input limits c.in-Err.given_up (c.loop-depth.depth + 1) b.found.items early))
+
+pub returns-clause-within : goal.returns-clause-within
+returns-clause-within g c =
+    let most = c.args.limits.states + 2 in
+    subst (λ (v : Verdict). AreWithin v c.loop-depth.self.found.items) (sym c.or-2.ensures)
+    (within_or c.args.code.now c.args.input.now c.args.limits c.loop-depth.verdict (verdict.Full most) c.loop-depth.self c.loop-depth.depth
+    c.loop-depth.from c.loop-depth.self.found.items c.loop-depth.invariant.so
+    (λ one there. omega (arith, c.loop-depth.invariant.early one there, c.loop-depth-test.false, c.loop-depth.auto.depth-end)))

@@ -1,7 +1,7 @@
 use Rattle.std.proofs.Common.{◌≡◌, ◌+◌, ◌≤◌, length}
 use Rattle.edi_told.specs.Told.{WhereTold}
 use Rattle.edi_explore.specs.Expand.{IsSearch}
-use Rattle.edi_explore.specs.Fewest.{AreFewest}
+use Rattle.edi_explore.specs.Fewest.{AreFewest, AreUpTo}
 use Rattle.edi_explore.specs.Finding.{Finds}
 use Rattle.edi_explore.specs.Watched.{Sees}
 use Rattle.edi_explore.proofs.Fewer.{IsLow}
@@ -16,6 +16,7 @@ invariant-loop-depth g l = record {
   so : IsSoFar l.code l.input l.limits l.verdict l.self l.depth l.from;
   low : IsLow l.code l.input l.limits l.verdict l.depth;
   fewest : AreFewest l.code l.input l.limits l.verdict l.self.found.items;
+  early : AreUpTo l.depth l.self.found.items;
   few : length l.self.states.keys.keys ≤ l.limits.states;
   deep : l.depth ≤ l.from;
   within : l.from ≤ length l.self.states.keys.keys;
