@@ -7,7 +7,8 @@ use Rattle.edi_grammar.specs.Parser.{done, taken, other, over}
 use Rattle.edi_grammar.specs.Kinds as kind
 use Rattle.edi_grammar.specs.Rules.{Sort, opens}
 use Rattle.edi_grammar.specs.Edison.{edison}
-use Rattle.edi_explain.specs.expected.Awaited.{part_no, waits, level_with, levels_on, end_with, ends_on}
+use Rattle.edi_explain.specs.expected.Awaited.{end_with, ends_on, first_part, gives_way, level_with, levels_on, part_no, waits}
+use Rattle.edi_explain.specs.expected.Numbered.{taken_at}
 use Rattle.edi_explain.specs.expected.Advances.{Advances, Front, Leads}
 use Rattle.edi_explain.specs.declared.expected.parser.Step.{Step}
 use Rattle.edi_explain.specs.declared.expected.parser.Step.TheVariants as step
@@ -107,6 +108,13 @@ rule_ends numbers rule new number ends more some same counted e =
     let one : 1 ≤ number = omega (arith, some) in
     e ∙ ap (λ n. ends_on rule n) (counted ∙ symbol_ends number (ends_on numbers 0) one) ∙ sym (ends_more numbers rule 0) ∙ ap (λ l. ends_on l 0) (sym same)
 
+pub gives_rule : (numbers rule new : List ℕ) (number a : ℕ) → (number ≡ 0 → ⊥) → new ≡ numbers ++ rule → rule ≡ taken_at (number - first_part) a
+    → new ≡ gives_way numbers number a
+gives_rule numbers rule new number a some same is_rule = by (number == 0) refl where
+  by : (b : Bool) → (number == 0) ≡ b → new ≡ gives_way numbers number a
+  by true e = absurd (some (eqb-true number 0 e))
+  by false e = same ∙ ap (λ l. numbers ++ l) is_rule ∙ sym (ap (λ b. if b then numbers else numbers ++ taken_at (number - first_part) a) e)
+
 -- ---- the end of the text
 
 pub whole_at_end : (a : ℕ) → a ≡ 0 → Advances (waits []) (waits []) a step.Whole
@@ -129,13 +137,14 @@ advances_from from to new a step.Wrong l h = λ s e words. l.go s e words _ _ (h
 advances_from from to new a step.TooDeep l h = (h.0, λ s e words. l.go s e words _ _ (h.1 s e words))
 advances_from from to new a step.Whole l h = record { none = h.none; go = λ s e words. l.go s e words _ _ (h.go s e words) }
 
+pub none_in : (l : List ℕ) → length l ≡ 0 → l ≡ []
+none_in [] h = refl
+none_in (a ∷ l) h = absurd (omega (arith, h))
+
 pub front_taken : (old new : List ℕ) (many left : ℕ) (r : Option ℕ) → many ≡ length old → left ≡ length new → old ≡ new ++ option_to_list r
     → MatchOption r ((many ≡ 0) × (left ≡ 0)) (λ n. left + 1 ≡ many) → Front old new r
-front_taken old new many left (Some number) is more e cases = e
-front_taken old new many left None is more e cases = (none_in old (sym is ∙ cases.0), none_in new (sym more ∙ cases.1)) where
-  none_in : (l : List ℕ) → length l ≡ 0 → l ≡ []
-  none_in [] h = refl
-  none_in (a ∷ l) h = absurd (omega (arith, h))
+front_taken old new many left (Some number) long rest e cases = e
+front_taken old new many left None long rest e cases = (none_in old (sym long ∙ cases.0), none_in new (sym rest ∙ cases.1))
 
 pub at_front : (from : List (Part Sort)) (items front : List ℕ) (number a : ℕ) (s : Step) → Leads from (waits items) a → Front items front (Some number)
     → Advances (part_no number ∷ waits front) (waits front) a s → Advances from (waits front) a s

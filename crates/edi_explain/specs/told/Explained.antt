@@ -19,7 +19,7 @@ use Rattle.edi_explain.specs.declared.expected.waiting.Held.{Held}
 use Rattle.edi_explain.specs.expected.Opened.{opened}
 use Rattle.edi_explain.specs.expected.Reaches.{May}
 use Rattle.edi_explain.specs.places.Places.{place_of}
-use Rattle.edi_explain.specs.told.Names.{Found, before_of, declared_from, marked_name}
+use Rattle.edi_explain.specs.told.Names.{Found, before_of, declared_after, marked_name}
 use Rattle.edi_explain.specs.told.Words.{kind_name, here_text}
 use Rattle.edi_explain.specs.told.Words.{name_text as name_of_letters}
 use Rattle.edi_explain.specs.told.Groups.{may_lines}
@@ -152,7 +152,7 @@ abbrev pub name_text : List ℕ → List Mark → (line : ℕ) → Found → Lis
 name_text text marks line None = whole_line text line
 name_text text marks line (Some one) =
     pointed_line text line (place_of text one.0).0
-    ++ (name_of_letters one.1 ++ (codes " seems to mean nothing here\n" ++ later_text one.1 (declared_from one.1 0 0 (drop one.0 marks))))
+    ++ (name_of_letters one.1 ++ (codes " seems to mean nothing here\n" ++ later_text one.1 (declared_after one.1 marks one.0)))
 
 abbrev pub static_line : List ℕ → List Mark → RefusalKind → (line : ℕ) → List ℕ
 static_line text marks kind.UndeclaredName line = name_text text marks line (marked_name marks line)

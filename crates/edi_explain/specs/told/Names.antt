@@ -1,7 +1,7 @@
 -- Definition. THE UNDECLARED NAME of a line: the one name of it that can be undeclared, or else the first one that is declared nowhere in the text. A name
 -- can be undeclared that is no standard name, is not declared at its place, and is no call of the system that the heading of the program names before it.
--- Each other name of a line means something there.
-use Rattle.std.specs.Prelude.{ℕ, zero, suc, ◌+◌, ◌-◌, ◌==◌, Bool, true, false, not, ◌&&◌, ◌||◌, List, [], ◌∷◌, length, take, Option, Some, None}
+-- This is told by the symbols alone, and not by scopes: another name of the line may mean nothing at its place too.
+use Rattle.std.specs.Prelude.{ℕ, zero, suc, ◌+◌, ◌-◌, ◌==◌, Bool, true, false, not, ◌&&◌, ◌||◌, List, [], ◌∷◌, length, take, drop, Option, Some, None}
 use Rattle.std.specs.Prelude.{slice_get, if◌then◌else◌, codes}
 use Rattle.std.specs.Str.{bytes_eq}
 use Rattle.edi_lex.specs.declared.symbol.Symbol.{Symbol}
@@ -44,12 +44,22 @@ is_name letters (Some other) = bytes_eq letters other
 abbrev pub opened_by : (open_ k : ℕ) → ℕ
 opened_by open_ k = if k == kind.Open then open_ + 1 else if k == kind.Close then open_ - 1 else open_
 
--- So many parentheses are open. A name after `proc` in one parenthesis is a parameter of the program; the heading ends where none is open.
+-- whether the heading of a parameter of the program ends at a symbol of this kind, where so many parentheses are open before it
+abbrev pub ends_at : (open_ k : ℕ) → Bool
+ends_at open_ k = (open_ == 1) && (k == kind.Semicolon || k == kind.Close)
+
+abbrev pub ends_heading : (open_ : ℕ) → List Mark → Bool
+ends_heading open_ [] = false
+ends_heading open_ (m ∷ marks) =
+    if ends_at open_ (kind_of m.symbol) then true else ends_heading (opened_by open_ (kind_of m.symbol)) marks
+
+-- So many parentheses are open. A name after `proc` in one parenthesis is a parameter of the program; the heading ends where none is open. A parameter is
+-- declared behind its own heading, and not within it.
 abbrev pub is_parameter : List ℕ → (open_ last : ℕ) → List Mark → Bool
 is_parameter letters open_ last [] = false
 is_parameter letters open_ last (m ∷ marks) =
     if open_ == 0 then false
-    else if (open_ == 1) && (last == kind.Proc) && is_name letters (name_in m.symbol) then true
+    else if (open_ == 1) && (last == kind.Proc) && is_name letters (name_in m.symbol) then ends_heading 1 marks
     else is_parameter letters (opened_by open_ (kind_of m.symbol)) (kind_of m.symbol) marks
 
 -- the marks after the first `proc`, its name and `(`
@@ -114,20 +124,28 @@ next_name marks line index = next_from marks line index (length marks - index)
 abbrev pub declares_after : (declares : Bool) → (k : ℕ) → Bool
 declares_after declares k = not (k == kind.Begin) && (declares || is_among k declaration)
 
--- among declarations each name may be declared, but for those after `:` and `=`
-abbrev pub may_declare : (declares : Bool) → (last : ℕ) → Bool
-may_declare declares last = declares && not (last == kind.Colon || last == kind.Equal)
+-- whether a parenthesis that comes next, or was just opened, has a type that is used: that of an array's elements, after `]`, or that of a set's members
+abbrev pub uses_after : (uses : Bool) → (k : ℕ) → Bool
+uses_after uses k = k == kind.CloseBracket || k == kind.Set || (uses && (k == kind.Name || k == kind.Open))
+
+-- the kinds of symbols after which a name is used, among declarations too
+abbrev pub users : List ℕ
+users = kind.Colon ∷ kind.Equal ∷ kind.OpenBracket ∷ []
+
+-- among declarations each name may be declared, but for those after such a symbol, and those in such a parenthesis
+abbrev pub may_declare : (declares uses : Bool) → (last : ℕ) → Bool
+may_declare declares uses last = declares && not (is_among last users || (uses && last == kind.Open))
 
 -- whether such a place has the name
-abbrev pub is_placed : List ℕ → (declares : Bool) → (last : ℕ) → List Mark → Bool
-is_placed letters declares last [] = false
-is_placed letters declares last (m ∷ marks) =
-    if may_declare declares last && is_name letters (name_in m.symbol) then true
-    else is_placed letters (declares_after declares (kind_of m.symbol)) (kind_of m.symbol) marks
+abbrev pub is_placed : List ℕ → (declares uses : Bool) → (last : ℕ) → List Mark → Bool
+is_placed letters declares uses last [] = false
+is_placed letters declares uses last (m ∷ marks) =
+    if may_declare declares uses last && is_name letters (name_in m.symbol) then true
+    else is_placed letters (declares_after declares (kind_of m.symbol)) (uses_after uses (kind_of m.symbol)) (kind_of m.symbol) marks
 
 -- whether the name may be declared somewhere in the text, which begins with declarations; if not, it means nothing anywhere
 abbrev pub may_mean : List ℕ → List Mark → Bool
-may_mean letters marks = is_placed letters true 0 marks
+may_mean letters marks = is_placed letters true false 0 marks
 
 -- ---- the name that is marked
 
@@ -177,3 +195,12 @@ declared_from letters open_ last [] = None
 declared_from letters open_ last (m ∷ marks) =
     if (open_ == 0) && (last == kind.Proc) && is_name letters (name_in m.symbol) then Some m.line
     else declared_from letters (opened_by open_ (kind_of m.symbol)) (kind_of m.symbol) marks
+
+-- how many parentheses are open behind symbols, where so many were open before them
+abbrev pub open_behind : (open_ : ℕ) → List Mark → ℕ
+open_behind open_ [] = open_
+open_behind open_ (m ∷ marks) = open_behind (opened_by open_ (kind_of m.symbol)) marks
+
+-- the line on which a procedure of this name is declared behind so many symbols
+abbrev pub declared_after : List ℕ → List Mark → (index : ℕ) → Option ℕ
+declared_after letters marks index = declared_from letters (open_behind 0 (take index marks)) 0 (drop index marks)

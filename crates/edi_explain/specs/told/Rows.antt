@@ -11,7 +11,7 @@ use Rattle.edi_explain.specs.told.Groups.{group_line, may_lines}
 use Rattle.edi_explain.specs.told.Words.{here_text, name_text}
 use Rattle.edi_explain.specs.told.Source.{pointed_line, under_byte, whole_line}
 use Rattle.edi_explain.specs.told.Stray.{stray_from, stray_of}
-use Rattle.edi_explain.specs.told.Names.{declared_from, marked_name}
+use Rattle.edi_explain.specs.told.Names.{declared_after, declared_from, marked_name}
 use Rattle.edi_explain.specs.told.Notes.{Seen, lost_note, note_of, word_note}
 
 abbrev on : (line : ℕ) → Symbol → Mark
@@ -197,6 +197,16 @@ pub row_further : declared_from (codes "b") 0 0 (mark is.Proc ∷ mark (is.Name 
     ∷ mark is.Close ∷ mark is.Begin ∷ mark is.End ∷ mark is.Proc ∷ record { symbol = is.Name (codes "b"); line = 7 } ∷ []) ≡ Some 7
 row_further = refl
 
+-- proc q(x: foo; proc foo): where the name stands a parenthesis is open, so the parameter is no declaration here either
+pub row_further_parameter : declared_after (codes "foo") (mark is.Proc ∷ mark (is.Name (codes "q")) ∷ mark is.Open ∷ mark (is.Name (codes "x"))
+    ∷ mark is.Colon ∷ mark (is.Name (codes "foo")) ∷ mark is.Semicolon ∷ mark is.Proc ∷ mark (is.Name (codes "foo")) ∷ mark is.Close ∷ []) 5 ≡ None
+row_further_parameter = refl
+
+-- foo(1) proc foo: the arguments of a call are closed again
+pub row_further_call : declared_after (codes "foo") (mark (is.Name (codes "foo")) ∷ mark is.Open ∷ mark (is.Numeral (pos 1)) ∷ mark is.Close
+    ∷ mark is.Proc ∷ on 3 (is.Name (codes "foo")) ∷ []) 0 ≡ Some 3
+row_further_call = refl
+
 -- ---- the undeclared name
 
 -- y := 1
@@ -247,3 +257,40 @@ row_before_heading = refl
 -- y.int: the field can be it, whatever else its name means
 pub row_field : marked_name (var_y ++ (on 2 (is.Name (codes "y")) ∷ on 2 is.Period ∷ on 2 (is.Name (codes "int")) ∷ [])) 2 ≡ Some (7, codes "int")
 row_field = refl
+
+-- proc main(proc d(c: d)): in its own heading d is not declared yet
+pub row_own_heading : marked_name (mark is.Proc ∷ mark (is.Name (codes "main")) ∷ mark is.Open ∷ mark is.Proc ∷ mark (is.Name (codes "d")) ∷ mark is.Open
+    ∷ mark (is.Name (codes "c")) ∷ mark is.Colon ∷ mark (is.Name (codes "d")) ∷ mark is.Close ∷ mark is.Close ∷ []) 1 ≡ Some (8, codes "d")
+row_own_heading = refl
+
+-- proc p(proc d(c: t): d; proc e): its type comes within its heading too, though the parenthesis of its own parameters is closed
+pub row_own_type : marked_name (on 1 is.Proc ∷ on 1 (is.Name (codes "p")) ∷ on 1 is.Open ∷ on 1 is.Proc ∷ on 1 (is.Name (codes "d")) ∷ on 1 is.Open
+    ∷ on 1 (is.Name (codes "c")) ∷ on 1 is.Colon ∷ on 1 (is.Name (codes "t")) ∷ on 1 is.Close ∷ on 2 is.Colon ∷ on 2 (is.Name (codes "d")) ∷ on 2 is.Semicolon
+    ∷ on 2 is.Proc ∷ on 2 (is.Name (codes "e")) ∷ on 2 is.Close ∷ []) 2 ≡ Some (11, codes "d")
+row_own_type = refl
+
+-- proc p(proc d; proc e(x: d)): behind the semicolon d is declared, so e alone can be it
+pub row_next_heading : marked_name (on 1 is.Proc ∷ on 1 (is.Name (codes "p")) ∷ on 1 is.Open ∷ on 1 is.Proc ∷ on 1 (is.Name (codes "d")) ∷ on 1 is.Semicolon
+    ∷ on 1 is.Proc ∷ on 1 (is.Name (codes "e")) ∷ on 1 is.Open ∷ on 1 (is.Name (codes "x")) ∷ on 1 is.Colon ∷ on 2 (is.Name (codes "d")) ∷ on 2 is.Semicolon
+    ∷ on 2 (is.Name (codes "y")) ∷ on 2 is.Colon ∷ on 2 (is.Name (codes "e")) ∷ on 2 is.Close ∷ on 2 is.Close ∷ []) 2 ≡ Some (15, codes "e")
+row_next_heading = refl
+
+-- const n = 3
+abbrev const_n : List Mark
+const_n = on 1 is.Const ∷ on 1 (is.Name (codes "n")) ∷ on 1 is.Equal ∷ on 1 (is.Numeral (pos 3)) ∷ []
+
+-- array t [1:n] (chr): the type of the elements is used, and not declared
+pub row_elements : marked_name (const_n ++ (on 2 is.Array ∷ on 2 (is.Name (codes "t")) ∷ on 2 is.OpenBracket ∷ on 2 (is.Numeral (pos 1)) ∷ on 2 is.Colon
+    ∷ on 2 (is.Name (codes "n")) ∷ on 2 is.CloseBracket ∷ on 2 is.Open ∷ on 2 (is.Name (codes "chr")) ∷ on 2 is.Close ∷ [])) 2 ≡ Some (12, codes "chr")
+row_elements = refl
+
+-- array t [low:n] (char): so is the lower bound
+pub row_bound : marked_name (const_n ++ (on 2 is.Array ∷ on 2 (is.Name (codes "t")) ∷ on 2 is.OpenBracket ∷ on 2 (is.Name (codes "low")) ∷ on 2 is.Colon
+    ∷ on 2 (is.Name (codes "n")) ∷ on 2 is.CloseBracket ∷ on 2 is.Open ∷ on 2 (is.Name (codes "char")) ∷ on 2 is.Close ∷ [])) 2 ≡ Some (7, codes "low")
+row_bound = refl
+
+-- enum e (a, b) set s (chr): the parenthesis of an enumeration declares names, that of a set uses one
+pub row_members : marked_name (mark is.Enum ∷ mark (is.Name (codes "e")) ∷ mark is.Open ∷ mark (is.Name (codes "a")) ∷ mark is.Comma
+    ∷ mark (is.Name (codes "b")) ∷ mark is.Close ∷ mark is.Set ∷ mark (is.Name (codes "s")) ∷ mark is.Open ∷ mark (is.Name (codes "chr")) ∷ mark is.Close ∷ []) 1
+    ≡ Some (10, codes "chr")
+row_members = refl

@@ -40,7 +40,11 @@ pub enum Step {
 fn is_taken_before(kinds: &[u8], kind: u8) -> bool
     ensures exact { result ≡ table.is_taken_before kinds.now kind }
 {
-    kinds.is_empty() || is_among(kind, kinds)
+    match kinds {
+        [] => true,
+        [one] => *one == kind,
+        _ => is_among(kind, kinds),
+    }
 }
 
 // The first of these rules that is taken before a symbol of this kind.
@@ -220,6 +224,9 @@ fn put_rule(numbers: &mut Vec<u8>, ends: usize, number: u8, kind: u8) -> Result<
     }
     let index = usize::from(number.saturating_sub(FIRST_PART));
     let rule = taken_at(index, kind);
+    if rule.is_empty() {
+        return Ok(ends);
+    }
     numbers.extend_from_slice(rule)?;
     Ok(ends_with(rule, ends))
 }

@@ -24,6 +24,9 @@ static DECLARERS: [u8; 7] = [
     kind::VAR,
 ];
 
+// The kinds of symbols after which a name is used, among declarations too.
+static USERS: [u8; 3] = [kind::COLON, kind::EQUAL, kind::OPEN_BRACKET];
+
 // As many symbols as are looked at for the heading of the program.
 const MOST_HEADING: usize = 256;
 
@@ -52,6 +55,7 @@ pub(crate) fn before_of(marks: &[Mark], index: usize) -> Option<&Mark>
 pub(crate) fn marks_to(marks: &[Mark], count: usize) -> &[Mark]
     ensures exact { result.now ≡ take count marks.now }
     ensures few { length result.now ≤ count }
+    ensures within { length result.now ≤ length marks.now }
 {
     if count < marks.len() {
         let (front, _) = marks.split_at(count);
@@ -94,7 +98,7 @@ fn is_name(letters: &[u8], mark: &Mark) -> bool
 
 // How many parentheses are open behind a symbol of this kind.
 fn opened_by(depth: usize, kind: u8) -> usize
-    requires few { depth ≤ 262144 }
+    requires few { depth ≤ 524288 }
     ensures exact { result ≡ spec.opened_by depth kind }
 {
     match kind {
@@ -111,15 +115,33 @@ fn is_parameter(letters: &[u8], heading: &[Mark]) -> bool
 {
     let mut depth: usize = 1;
     let mut last: u8 = 0;
-    for mark in heading {
+    let mut rest = heading;
+    while let [mark, after @ ..] = rest {
         if depth == 0 {
             return false;
         }
         if depth == 1 && last == kind::PROC && is_name(letters, mark) {
-            return true;
+            return ends_heading(after);
         }
         last = kind_at(Some(mark));
         depth = opened_by(depth, last);
+        rest = after;
+    }
+    false
+}
+
+// Whether the heading of a parameter ends in these marks, which follow its name.
+fn ends_heading(marks: &[Mark]) -> bool
+    requires few { length marks.now ≤ 256 }
+    ensures exact { result ≡ spec.ends_heading 1 marks.now }
+{
+    let mut depth: usize = 1;
+    for mark in marks {
+        let kind = kind_at(Some(mark));
+        if depth == 1 && (kind == kind::SEMICOLON || kind == kind::CLOSE) {
+            return true;
+        }
+        depth = opened_by(depth, kind);
     }
     false
 }
@@ -249,11 +271,20 @@ fn declares_after(declares: bool, kind: u8) -> bool
     kind != kind::BEGIN && (declares || is_among(kind, &DECLARATION))
 }
 
-// Whether a name after a symbol of this kind may be declared.
-fn may_declare(declares: bool, last: u8) -> bool
-    ensures exact { result ≡ spec.may_declare declares last }
+// Whether a parenthesis that comes next, or was just opened, has a type that is used.
+fn uses_after(uses: bool, kind: u8) -> bool
+    ensures exact { result ≡ spec.uses_after uses kind }
 {
-    declares && !(last == kind::COLON || last == kind::EQUAL)
+    kind == kind::CLOSE_BRACKET
+        || kind == kind::SET
+        || (uses && (kind == kind::NAME || kind == kind::OPEN))
+}
+
+// Whether a name after a symbol of this kind may be declared.
+fn may_declare(declares: bool, uses: bool, last: u8) -> bool
+    ensures exact { result ≡ spec.may_declare declares uses last }
+{
+    declares && !(is_among(last, &USERS) || (uses && last == kind::OPEN))
 }
 
 // Whether a name may be declared somewhere in these marks, which begin a text.
@@ -261,13 +292,15 @@ fn may_mean(letters: &[u8], marks: &[Mark]) -> bool
     ensures exact { result ≡ spec.may_mean letters.now marks.now }
 {
     let mut declares = true;
+    let mut uses = false;
     let mut last: u8 = 0;
     for mark in marks {
-        if may_declare(declares, last) && is_name(letters, mark) {
+        if may_declare(declares, uses, last) && is_name(letters, mark) {
             return true;
         }
         last = kind_at(Some(mark));
         declares = declares_after(declares, last);
+        uses = uses_after(uses, last);
     }
     false
 }
@@ -310,8 +343,7 @@ fn with_second<'a>(
     }
 }
 
-/// The name of the line that is marked, with the number of symbols before it: the one that can be undeclared, or, where more than one can,
-/// the first that is declared nowhere.
+/// The name that is marked, with its index: the only one that can be undeclared, or the first that is declared nowhere.
 pub(crate) fn marked_name(marks: &[Mark], line: u16) -> Option<(u32, &[u8])>
     requires few { length marks.now ≤ 262144 }
     ensures exact { found_of result ≡ spec.marked_name marks.now line }
@@ -321,8 +353,6 @@ pub(crate) fn marked_name(marks: &[Mark], line: u16) -> Option<(u32, &[u8])>
         None => None,
     }
 }
-
-// ---- elsewhere in the text
 
 /// Whether a name stands after a symbol that declares it.
 pub(crate) fn is_introduced(letters: &[u8], marks: &[Mark]) -> bool
@@ -338,12 +368,25 @@ pub(crate) fn is_introduced(letters: &[u8], marks: &[Mark]) -> bool
     false
 }
 
+// How many parentheses are open behind these marks, which begin a text.
+fn open_behind(marks: &[Mark]) -> usize
+    requires few { length marks.now ≤ 262144 }
+    ensures exact { result ≡ spec.open_behind 0 marks.now }
+    ensures few { result ≤ 262144 }
+{
+    let mut depth: usize = 0;
+    for mark in marks {
+        depth = opened_by(depth, kind_at(Some(mark)));
+    }
+    depth
+}
+
 /// The line on which a procedure of this name is declared behind so many symbols, if one is.
 pub(crate) fn declared_after(marks: &[Mark], index: usize, letters: &[u8]) -> Option<u16>
     requires few { length marks.now ≤ 262144 }
-    ensures exact { result ≡ spec.declared_from letters.now 0 0 (drop index marks.now) }
+    ensures exact { result ≡ spec.declared_after letters.now marks.now index }
 {
-    let mut depth: usize = 0;
+    let mut depth = open_behind(marks_to(marks, index));
     let mut last: u8 = 0;
     for mark in marks_from(marks, index) {
         if depth == 0 && last == kind::PROC && is_name(letters, mark) {
