@@ -1,5 +1,5 @@
 -- Words of contracts. The stints for which the rows of a timeline stand.
-use Rattle.std.specs.Prelude.{◌≡◌, ◌≤◌, ℕ, zero, suc, ◌-◌, ◌==◌, if◌then◌else◌, List, [], ◌∷◌, ◌++◌, replicate, slice_index_or, take, All, length}
+use Rattle.std.specs.Prelude.{◌≡◌, ◌≤◌, ℕ, zero, suc, ◌-◌, ◌==◌, if◌then◌else◌, List, [], ◌∷◌, ◌++◌, replicate, slice_index_or, take, All}
 use Rattle.edi_calls.specs.Names.{Name}
 use Rattle.edi_calls.specs.Outcome as outcome
 use Rattle.edi_kernel.specs.declared.ends.Ending.{Ending}

@@ -1,8 +1,10 @@
 //! Laws of timelines.
 
 ghost use Rattle.std.specs.Prelude.{◌≡◌, ◌≤◌, ◌<◌, ℕ, List, [], ◌∷◌, ◌++◌, ◌&&◌, not, true, length};
+ghost use Rattle.std.specs.List.{list_all};
+ghost use Rattle.edi_calls.specs.SoundState.{is_byte};
 ghost use Rattle.edi_timeline.specs.Stints.{Stint, ending_by, ending_of};
-ghost use Rattle.edi_timeline.specs.Text.{text_of};
+ghost use Rattle.edi_timeline.specs.Text.{characters_text, text_of};
 ghost use Rattle.edi_timeline.specs.Picture.{picture_of};
 ghost use Rattle.edi_timeline.specs.Timelines.{told_of};
 ghost use Rattle.edi_timeline.specs.Adding.{SeatFits, added, counted, end_of, ends_run, is_going, said_in, stint_after};
@@ -27,4 +29,9 @@ pub fn timelines_grow()
     ensures going { (xs : List Stint) → is_going xs ≡ true → is_going (told_of xs).stints ≡ true }
     ensures goes { (xs : List Stint) (x : Stint) → is_going (xs ++ x ∷ []) ≡ (is_going xs && not (ends_run x.end)) }
     ensures seats { (xs : List Stint) (seat : Seat) (came : Came) → length xs < 100000 → SeatFits xs seat came → SeatFits (told_of xs).stints seat came }
+{}
+
+/// The characters that were shown are read from a line in one way.
+pub fn characters_are_read_in_one_way()
+    ensures one { (xs ys : List ℕ) → list_all is_byte xs ≡ true → list_all is_byte ys ≡ true → characters_text xs ≡ characters_text ys → xs ≡ ys }
 {}
