@@ -1,7 +1,11 @@
 -- Each answered call changes one part of the state at most, so a torn state is whole.
-use Rattle.std.proofs.Common.{◌≡◌, ℕ, List, [], ◌∷◌, length, Option, Some, None, refl, sym, ◌∙◌, ◌⊎◌, inl, inr}
+use Rattle.std.proofs.Common.{◌≡◌, ℕ, Bool, true, false, List, [], ◌∷◌, length, Option, Some, None, refl, sym, subst, ◌∙◌, ◌⊎◌, inl, inr}
+use Rattle.std.proofs.lemmas.Bool.{eqb-true}
 use Rattle.std.specs.Prelude.{slice_index, slice_get, nat_lt, ◌==◌}
+use Rattle.edi_calls.specs.Asked.{may_have_done, uses}
 use Rattle.edi_calls.specs.State.{Found, State, title_of, most_bytes}
+use Rattle.edi_calls.specs.declared.ends.Outside.{Outside}
+use Rattle.edi_calls.specs.declared.ends.Outside.TheVariants as outside
 use Rattle.edi_calls.specs.Calls as calls
 use Rattle.edi_calls.specs.Calls.{CallResult, call}
 use Rattle.edi_calls.specs.Ends.{IsTorn}
@@ -88,24 +92,52 @@ same_outside input shown printed slots blocks = record {
 -- it has, of a part that stays, what was before; so it has of the one other part what is before or what is behind
 whole : (before next after : State) → ChangesOnePart before next → next.blocks ≡ before.blocks → IsTorn before next after
     → IsSameOutside before after ⊎ IsSameOutside next after
-whole before next after (only_input shown printed slots) blocks torn = elim torn.input [
-  | inl e ↦ inl (same_outside e (unmoved torn.shown shown) (unmoved torn.printed printed) (unmoved torn.slots slots) torn.blocks)
-  | inr e ↦ inr (same_outside e (moved torn.shown shown) (moved torn.printed printed) (moved torn.slots slots) (torn.blocks ∙ sym blocks))
-]
+whole before next after (only_input shown printed slots) blocks torn =
+    inl (same_outside torn.input (unmoved torn.shown shown) (unmoved torn.printed printed) (unmoved torn.slots slots) torn.blocks)
 whole before next after (only_shown input printed slots) blocks torn = elim torn.shown [
-  | inl e ↦ inl (same_outside (unmoved torn.input input) e (unmoved torn.printed printed) (unmoved torn.slots slots) torn.blocks)
-  | inr e ↦ inr (same_outside (moved torn.input input) e (moved torn.printed printed) (moved torn.slots slots) (torn.blocks ∙ sym blocks))
+  | inl e ↦ inl (same_outside torn.input e (unmoved torn.printed printed) (unmoved torn.slots slots) torn.blocks)
+  | inr e ↦ inr (same_outside (torn.input ∙ sym input) e (moved torn.printed printed) (moved torn.slots slots) (torn.blocks ∙ sym blocks))
 ]
 whole before next after (only_printed input shown slots) blocks torn = elim torn.printed [
-  | inl e ↦ inl (same_outside (unmoved torn.input input) (unmoved torn.shown shown) e (unmoved torn.slots slots) torn.blocks)
-  | inr e ↦ inr (same_outside (moved torn.input input) (moved torn.shown shown) e (moved torn.slots slots) (torn.blocks ∙ sym blocks))
+  | inl e ↦ inl (same_outside torn.input (unmoved torn.shown shown) e (unmoved torn.slots slots) torn.blocks)
+  | inr e ↦ inr (same_outside (torn.input ∙ sym input) (moved torn.shown shown) e (moved torn.slots slots) (torn.blocks ∙ sym blocks))
 ]
 whole before next after (only_slots input shown printed) blocks torn = elim torn.slots [
-  | inl e ↦ inl (same_outside (unmoved torn.input input) (unmoved torn.shown shown) (unmoved torn.printed printed) e torn.blocks)
-  | inr e ↦ inr (same_outside (moved torn.input input) (moved torn.shown shown) (moved torn.printed printed) e (torn.blocks ∙ sym blocks))
+  | inl e ↦ inl (same_outside torn.input (unmoved torn.shown shown) (unmoved torn.printed printed) e torn.blocks)
+  | inr e ↦ inr (same_outside (torn.input ∙ sym input) (moved torn.shown shown) (moved torn.printed printed) e (torn.blocks ∙ sym blocks))
 ]
 
+-- `accept` changes the input alone
+abbrev OnlyTakes : State → List ℕ → State → Type 0
+OnlyTakes s words after = (after.shown ≡ s.shown) × (after.printed ≡ s.printed) × (after.slots ≡ s.slots)
+
+only_takes : (input : List ℕ) (s : State) → IfAnswered (OnlyTakes s) (calls.accept_from input s)
+only_takes [] s = (refl, refl, refl)
+only_takes (b ∷ bs) s = (refl, refl, refl)
+
+-- so where it was torn, the state is the one before it
+torn_accept : (words answer : List ℕ) (before next after : State) → call 1 words before ≡ calls.answered answer next → IsTorn before next after
+    → IsSameOutside before after
+torn_accept words answer before next after is torn =
+    let same : OnlyTakes before answer next =
+    answer_is (OnlyTakes before) (calls.accept_from before.input before) answer next (only_takes before.input before) is in
+    same_outside torn.input (unmoved torn.shown same.0) (unmoved torn.printed same.1) (unmoved torn.slots same.2) torn.blocks
+
 pub torn_is_before_or_behind_all : TornIsBeforeOrBehind
-torn_is_before_or_behind_all number words answer before next after is torn =
-    whole before next after (each_call_changes_one_part_all number words answer before next is)
-    (each_call_goes_on_all number words answer before next is).blocks torn
+torn_is_before_or_behind_all number words answer before next after is torn = go (number == 1) refl where
+  go : (b : Bool) → (number == 1) ≡ b → IsSameOutside before after ⊎ ((uses number outside.Input ≡ false) × IsSameOutside next after)
+  go true e =
+      inl (torn_accept words answer before next after (subst (λ n. call n words before ≡ calls.answered answer next) (eqb-true number 1 e) is) torn)
+  go false e =
+      elim (whole before next after (each_call_changes_one_part_all number words answer before next is)
+      (each_call_goes_on_all number words answer before next is).blocks torn) [
+        | inl same ↦ inl same
+        | inr same ↦ inr (e, same)
+      ]
+
+-- what a call uses that does not use the input may have done its part
+pub done_by : (number : ℕ) (failed : Outside) → uses number outside.Input ≡ false → uses number failed ≡ true → may_have_done failed ≡ true
+done_by number outside.Input apart used = absurd (let wrong : false ≡ true = sym apart ∙ used in cc)
+done_by number outside.Terminal apart used = refl
+done_by number outside.Printer apart used = refl
+done_by number outside.Drive apart used = refl

@@ -1,5 +1,5 @@
 -- Definition. Which object outside a call uses, and two states of a system one right after the other.
-use Rattle.std.specs.Prelude.{◌≡◌, ℕ, Bool, true, ◌||◌, ◌==◌, not, List, ◌∷◌, ◌++◌}
+use Rattle.std.specs.Prelude.{◌≡◌, ℕ, Bool, true, ◌||◌, ◌==◌, not, false, List, ◌∷◌, ◌++◌}
 use Rattle.edi_calls.specs.declared.ends.Outside.{Outside}
 use Rattle.edi_calls.specs.declared.ends.Outside.TheVariants as outside
 use Rattle.edi_calls.specs.Calls.{answered, call}
@@ -12,6 +12,13 @@ uses number outside.Input = number == 1
 uses number outside.Terminal = number == 2
 uses number outside.Printer = number == 3
 uses number outside.Drive = not (number == 1 || number == 2 || number == 3)
+
+-- An object that fails may have done what was asked of it. The input has not: a byte is taken only by an answer.
+abbrev pub may_have_done : Outside → Bool
+may_have_done outside.Input = false
+may_have_done outside.Terminal = true
+may_have_done outside.Printer = true
+may_have_done outside.Drive = true
 
 -- a call that uses this object is answered in the one state, and leaves the other
 pub record Asks (outside : Outside) (before next : State) : Type 0 where

@@ -9,10 +9,10 @@ use Rattle.edi_calls.specs.State.{State}
 use Rattle.edi_calls.specs.Asked.{uses}
 use Rattle.edi_calls.specs.Calls.{CallResult, answered, no_file, file_limit}
 
--- after a call that an object outside failed, the input, the bytes shown, the bytes printed and the slots are each
--- as before it or as it was to leave them; the found file and the buffer are open
+-- after a call that an object outside failed, the input is as before it: its bytes are taken only by an answer. The bytes shown, the
+-- bytes printed and the slots are each as before it or as it was to leave them; the found file and the buffer are open
 pub record IsTorn (before next after : State) : Type 0 where
-  pub input : (after.input ≡ before.input) ⊎ (after.input ≡ next.input)
+  pub input : after.input ≡ before.input
   pub shown : (after.shown ≡ before.shown) ⊎ (after.shown ≡ next.shown)
   pub printed : (after.printed ≡ before.printed) ⊎ (after.printed ≡ next.printed)
   pub slots : (after.slots ≡ before.slots) ⊎ (after.slots ≡ next.slots)

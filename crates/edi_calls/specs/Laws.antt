@@ -1,9 +1,11 @@
 -- Words of contracts. Laws of the ten calls.
-use Rattle.std.specs.Prelude.{◌≡◌, ◌⊎◌, ◌↔◌, ℕ, ◌≤◌, true, List, [], ◌∷◌, ◌++◌, length, map, replicate, Some}
+use Rattle.std.specs.Prelude.{◌≡◌, ◌⊎◌, ◌↔◌, ℕ, ◌≤◌, true, false, List, [], ◌∷◌, ◌++◌, length, map, replicate, Some}
 use Rattle.edi_calls.specs.State.{State, character, is_title, title_of, find_file}
 use Rattle.edi_calls.specs.SoundState.{IsState}
 use Rattle.edi_calls.specs.Calls.{call, close, answered, answer_words, text_file}
 use Rattle.edi_calls.specs.Ends.{IsTorn}
+use Rattle.edi_calls.specs.Asked.{uses}
+use Rattle.edi_calls.specs.declared.ends.Outside.TheVariants as outside
 
 -- input is only taken, shown and printed bytes only follow those before them, and the numbers of slots and blocks stay
 pub record GoesOn (before after : State) : Type 0 where
@@ -54,11 +56,11 @@ pub record IsSameOutside (one other : State) : Type 0 where
   pub blocks : other.blocks ≡ one.blocks
 
 -- so a call that was to be answered and was failed by an object outside leaves, but for the found file and the buffer, the
--- state before it, or the whole state that it was to leave
+-- state before it, or the whole state that it was to leave; one that uses the input leaves the state before it
 abbrev pub TornIsBeforeOrBehind : Type 0
 TornIsBeforeOrBehind = (number : ℕ) (words answer : List ℕ) (before next after : State)
     → call number words before ≡ answered answer next → IsTorn before next after
-    → IsSameOutside before after ⊎ IsSameOutside next after
+    → IsSameOutside before after ⊎ ((uses number outside.Input ≡ false) × IsSameOutside next after)
 
 -- the title that words spell is t exactly where their characters are those of t, which is a title, and blanks behind them
 abbrev pub TitlesAreSpelled : Type 0

@@ -31,7 +31,7 @@ pub fn each_call_changes_one_part()
 {}
 
 /// A call that was to be answered and was failed by an object outside leaves these parts all as they were before it, or all
-/// as it was to leave them.
+/// as it was to leave them; one that uses the input leaves them as they were.
 pub fn torn_is_before_or_behind()
     ensures { TornIsBeforeOrBehind }
 {}

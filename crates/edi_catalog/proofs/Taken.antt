@@ -230,8 +230,8 @@ pub memory_in_range : {X : Type 0} (r : Result X MountFault) (P : X → Type 0) 
 memory_in_range (Ok x) P count m = tt
 memory_in_range (Err e) P count m = subst (IsInRange count) (sym m) tt
 
-pub drive_of_count : (count : ℕ) (e : MountFault) → is_drive_fault e ≡ true → IsOfCount count e
-drive_of_count count e h = subst (IsOfCount count) (sym (drive_fault_is e h)) tt
+pub drive_of_count : (count : ℕ) (e : MountFault) → 64 ≤ count → count ≤ 4096 → is_drive_fault e ≡ true → IsOfCount count e
+drive_of_count count e least most h = subst (IsOfCount count) (sym (drive_fault_is e h)) (least, most)
 
 pub memory_of_count : {X : Type 0} (r : Result X MountFault) (P : X → Type 0) (count : ℕ) → MatchResult r P (λ e. e ≡ fault.NoMemory) → IfErr r (IsOfCount count)
 memory_of_count (Ok x) P count m = tt
@@ -243,13 +243,13 @@ slots_of_count count fault.Header least most h = absurd h
 slots_of_count count (fault.Entry slot) least most h = (least, (most, h))
 slots_of_count count (fault.Page slot page) least most h = (least, (most, h))
 slots_of_count count (fault.Shared block) least most h = (least, (most, h))
-slots_of_count count fault.Fault least most h = tt
+slots_of_count count fault.Fault least most h = (least, most)
 slots_of_count count fault.NoMemory least most h = tt
 
 pub slots_count : {X : Type 0} (r : Result X MountFault) (count : ℕ) → 64 ≤ count → count ≤ 4096 → IfErr r (IsInRange count) → IfErr r (IsOfCount count)
 slots_count (Ok x) count least most h = tt
 slots_count (Err e) count least most h = slots_of_count count e least most h
 
-pub either_of_count : (count : ℕ) (e : MountFault) → (e ≡ fault.Fault) ⊎ (e ≡ fault.NoMemory) → IsOfCount count e
-either_of_count count e (inl is) = subst (IsOfCount count) (sym is) tt
-either_of_count count e (inr is) = subst (IsOfCount count) (sym is) tt
+pub either_of_count : (count : ℕ) (e : MountFault) → 64 ≤ count → count ≤ 4096 → (e ≡ fault.Fault) ⊎ (e ≡ fault.NoMemory) → IsOfCount count e
+either_of_count count e least most (inl is) = subst (IsOfCount count) (sym is) (least, most)
+either_of_count count e least most (inr is) = subst (IsOfCount count) (sym is) tt

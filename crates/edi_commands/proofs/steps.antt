@@ -2,5 +2,4 @@ pub mod LoadedFiles
 pub mod OnFilesLemmas
 pub mod Opens
 pub mod Shown
-pub mod Units
 pub mod Unmounted

@@ -15,10 +15,9 @@ use Rattle.edi_texts.specs.declared.refusal.Refusal.{Refusal}
 use Rattle.edi_texts.specs.Texts.{AreAccepted, HaveUnit, IsUnit}
 use Rattle.edi_texts.specs.Length.{extent_of, symbol_count}
 use Rattle.edi_texts.specs.Answers.{GivesBy, TextAnswers}
-use Rattle.edi_texts.specs.Run.{IsCodeFor}
 use Rattle.edi_texts.proofs.Once.{exactly}
 use Rattle.edi_texts.proofs.Joined.{by_symbols}
-use Rattle.edi_compile.specs.Compiled.{IsCompiledFrom, IsFront, IsFrontOf, IsShort}
+use Rattle.edi_compile.specs.Compiled.{IsCodeOf, IsCompiledFrom, IsFront, IsFrontOf, IsShort}
 use Rattle.edi_compile.specs.Meant.{IsPrivateCode}
 use Rattle.edi_compile.proofs.Meant.{made_for, private_is}
 
@@ -54,38 +53,23 @@ front_answers text known result same g =
     exactly Is text result (λ unit f. (unit_of unit, f.unit_is))
     (by_symbols (λ unit. IsFront known (unit_of unit)) Is (Ok known) (symbols_of text) result same (λ unit f. front_is text known (unit_of unit) same f) g)
 
--- a code: it is of the unit of the text, and does what the text does
-record IsMade (text : List ℕ) (code : CodeParts) : Type 0 where
-  unit : ProgramUnit
-  unit_is : IsUnit text unit
-  code_is : IsCodeFor text code
-
-made_is : (text : List ℕ) (known : List Mark × ℕ) (code : CodeParts) → symbols_of text ≡ Ok known → IsCompiledFrom known code → IsMade text code
+-- a code: it is that of the unit of the text, and does what the text does
+made_is : (text : List ℕ) (known : List Mark × ℕ) (code : CodeParts) → symbols_of text ≡ Ok known → IsCompiledFrom known code → IsCodeOf text code
 made_is text known code same f =
     let is = unit_is text known f.unit same f.unit_is in
     record {
       unit = f.unit;
       unit_is = is;
-      code_is = subst (IsCodeFor text) (sym f.code_is)
-          (made_for text f.unit is f.can (subst (λ (c : CodeParts). IsShort (symbol_count text) (length c.words)) f.code_is
-          (short_is text known (length code.words) same f.short)));
+      code_is = f.code_is;
+      code_for = made_for text f.unit is f.can (subst (λ (c : CodeParts). IsShort (symbol_count text) (length c.words)) f.code_is
+          (short_is text known (length code.words) same f.short));
     }
-
--- what is answered so is answered by less
-gives_less : (Is Becomes : CodeParts → Type 0) (known : Result (List Mark × ℕ) LexFault) (result : Result CodeParts Refusal)
-    → ((code : CodeParts) → Is code → Becomes code) → GivesBy Is known result → GivesBy Becomes known result
-gives_less Is Becomes known result f g = by_symbols Is Becomes known known result refl f g
 
 pub code_answers : (text : List ℕ) (known : List Mark × ℕ) (result : Result CodeParts Refusal) → symbols_of text ≡ Ok known
-    → GivesBy (IsCompiledFrom known) (Ok known) result → TextAnswers (IsCodeFor text) text result
+    → GivesBy (IsCompiledFrom known) (Ok known) result → TextAnswers (IsCodeOf text) text result
 code_answers text known result same g =
-    let made = exactly (IsMade text) text result (λ code f. (f.unit, f.unit_is))
-    (by_symbols (IsCompiledFrom known) (IsMade text) (Ok known) (symbols_of text) result same (λ code f. made_is text known code same f) g) in
-    record {
-      gives = gives_less (IsMade text) (IsCodeFor text) (symbols_of text) result (λ code f. f.code_is) made.gives;
-      refused = made.refused;
-      accepted = made.accepted;
-    }
+    exactly (IsCodeOf text) text result (λ code f. (f.unit, f.unit_is))
+    (by_symbols (IsCompiledFrom known) (IsCodeOf text) (Ok known) (symbols_of text) result same (λ code f. made_is text known code same f) g)
 
 -- and its processes are private
 pub code_private : (known : List Mark × ℕ) (result : Result CodeParts Refusal) → GivesBy (IsCompiledFrom known) (Ok known) result → IfOk result IsPrivateCode

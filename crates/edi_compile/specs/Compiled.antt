@@ -9,6 +9,7 @@ use Rattle.edi_scheme.specs.Laws.{parts_of}
 use Rattle.edi_follows.specs.Theorem.{CanBeCoded}
 use Rattle.edi_texts.specs.Texts.{HaveUnit, IsUnit}
 use Rattle.edi_texts.specs.Length.{symbol_count}
+use Rattle.edi_texts.specs.Run.{IsCodeFor}
 
 -- at most 8 words for each of so many symbols, and 64
 abbrev pub IsShort : (symbols words : ℕ) → Type 0
@@ -19,6 +20,13 @@ pub record IsFrontOf (text : List ℕ) (unit : ProgramUnit) : Type 0 where
   pub unit_is : IsUnit text unit
   pub can : CanBeCoded unit
   pub short : IsShort (symbol_count text) (length (code_of unit))
+
+-- THE CODE OF A TEXT: that of its unit by the scheme, which may be made of the text
+pub record IsCodeOf (text : List ℕ) (code : CodeParts) : Type 0 where
+  pub unit : ProgramUnit
+  pub unit_is : IsUnit text unit
+  pub code_is : code ≡ parts_of unit
+  pub code_for : IsCodeFor text (parts_of unit)
 
 -- The same by the symbols of the text. No public contract cites these.
 pub record IsFront (known : List Mark × ℕ) (unit : ProgramUnit) : Type 0 where

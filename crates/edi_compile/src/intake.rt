@@ -2,7 +2,7 @@
 
 ghost use Rattle.std.specs.Prelude.{◌≡◌, ◌↔◌, ◌++◌, ℕ, List, [], Err, IfOk, IsErr, OnOk};
 ghost use Rattle.edi_texts.specs.Answers.{TextAnswers};
-ghost use Rattle.edi_texts.specs.Run.{IsCodeFor};
+ghost use Rattle.edi_compile.specs.Compiled.{IsCodeOf};
 ghost use Rattle.edi_compile.specs.Meant.{IsPrivateCode};
 
 use crate::passes::code_by;
@@ -42,7 +42,7 @@ impl Intake {
 
     /// What `compile` gives for the text so far, however it was cut into pieces.
     pub fn finish(self, alloc: Global) -> Result<Code, Refusal>
-        ensures exact { (text : List ℕ) → HasTaken self text → TextAnswers (IsCodeFor text) text result }
+        ensures exact { (text : List ℕ) → HasTaken self text → TextAnswers (IsCodeOf text) text result }
         ensures is_private { IfOk result IsPrivateCode }
         ensures failed { HasFailed self → result ≡ Err Refusal.NoMemory }
     {

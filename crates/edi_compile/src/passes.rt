@@ -4,8 +4,7 @@ ghost use Rattle.std.specs.Prelude.{◌≡◌, ℕ, List, Ok, Err, IfOk};
 ghost use Rattle.edi_lex.specs.Symbols.{ScanGives, symbols_of};
 ghost use Rattle.edi_unit.specs.View.{unit_of};
 ghost use Rattle.edi_texts.specs.Answers.{GivesBy, TextAnswers};
-ghost use Rattle.edi_texts.specs.Run.{IsCodeFor};
-ghost use Rattle.edi_compile.specs.Compiled.{IsCompiledFrom, IsFront, IsFrontOf};
+ghost use Rattle.edi_compile.specs.Compiled.{IsCodeOf, IsCompiledFrom, IsFront, IsFrontOf};
 ghost use Rattle.edi_compile.specs.Meant.{IsPrivateCode};
 
 use edi_code::generate;
@@ -45,7 +44,7 @@ pub fn unit_by(alloc: Global, scanned: Result<Symbols, LexFault>) -> Result<Unit
 
 /// The code of a text that was scanned so, or its first fault.
 pub fn code_by(alloc: Global, scanned: Result<Symbols, LexFault>) -> Result<Code, Refusal>
-    ensures answers { (text : List ℕ) → ScanGives scanned (symbols_of text) → TextAnswers (IsCodeFor text) text result }
+    ensures answers { (text : List ℕ) → ScanGives scanned (symbols_of text) → TextAnswers (IsCodeOf text) text result }
     ensures is_private { IfOk result IsPrivateCode }
     ensures failed { scanned ≡ Err LexFault.NoMemory → result ≡ Err Refusal.NoMemory }
 {

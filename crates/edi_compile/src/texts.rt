@@ -3,8 +3,7 @@
 ghost use Rattle.std.specs.Prelude.{◌≤◌, IfOk, length};
 ghost use Rattle.edi_unit.specs.View.{blocks_of, unit_of};
 ghost use Rattle.edi_texts.specs.Answers.{TextAnswers};
-ghost use Rattle.edi_texts.specs.Run.{IsCodeFor};
-ghost use Rattle.edi_compile.specs.Compiled.{IsFrontOf};
+ghost use Rattle.edi_compile.specs.Compiled.{IsCodeOf, IsFrontOf};
 ghost use Rattle.edi_compile.specs.Meant.{IsPrivateCode};
 
 use crate::passes::{code_by, unit_by};
@@ -17,12 +16,12 @@ use std::alloc::Global;
 /// The code of a text, or the text's first fault.
 ///
 /// The faults come in this order: the text is too long, on line 0; its first lexical fault; its syntax fault; the first
-/// construct of its tree that breaks a static rule. The code has no fault, has at most 8 words for each symbol of the text and
-/// 64, a string counting its characters, and does what the program of the text means: on every system, with every bound on the
-/// turns and all choices it has the same outcome, and comes through the same states of the system. While a process is at work, no
-/// word changes that is not its own.
+/// construct of its tree that breaks a static rule. The code is that of the text's unit, as `translate` gives it. It has no
+/// fault, has at most 8 words for each symbol of the text and 64, a string counting its characters, and does what the program
+/// of the text means: on every system, with every bound on the turns and all choices it has the same outcome, and comes
+/// through the same states of the system. While a process is at work, no word changes that is not its own.
 pub fn compile(alloc: Global, text: &[u8]) -> Result<Code, Refusal>
-    ensures exact { TextAnswers (IsCodeFor text.now) text.now result }
+    ensures exact { TextAnswers (IsCodeOf text.now) text.now result }
     ensures is_private { IfOk result IsPrivateCode }
 {
     code_by(alloc, scan(alloc, text))

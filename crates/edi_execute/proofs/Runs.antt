@@ -21,6 +21,7 @@ use Rattle.edi_execute.specs.declared.run.Ran.{Ran}
 use Rattle.edi_execute.specs.Execution.{IsAtCall, IsAtMoment}
 use Rattle.edi_execute.specs.Objects.{Contents, HasRun, NoneFalls, Objects, RunLeaves, Show, StandsAtCall, StandsAtMoment, contents_of, contents_with}
 use Rattle.edi_execute.specs.Objects.{faults_in, system_on}
+use Rattle.edi_execute.proofs.Executing.{byte_before}
 
 -- what is told of four objects together, seen otherwise
 pub told_otherwise : {A B C E X Y : Type 0} (make make' : A → B → C → E → X) (other : A → B → C → E → Y) (a a' : Option A) (b b' : Option B) (c c' : Option C)
@@ -101,14 +102,15 @@ call_is : (code : CodeParts) (bound : ℕ) (old : Drawn) (outside : Outside) (x 
     → IsAtCall code (system_on x) bound old outside now
     → y.input ≡ now.input → y.shown ≡ now.shown → y.printed ≡ now.printed → system_on y ≡ fresh now → StandsAtCall code bound old outside x y
 call_is code bound old outside x now y at input shown printed rest = record {
-  from = at.1.before;
-  next = at.1.next;
-  calls = (at.0, at.1.follows);
-  asks = at.1.asks;
+  from = at.0.1.before;
+  next = at.0.1.next;
+  calls = (at.0.0, at.0.1.follows);
+  asks = at.0.1.asks;
+  left = byte_before outside at.0.1.before at.0.1.next now at.0.1.at at.1;
   shows =
-      elim at.1.at [
-        | inl same ↦ inl (shows_of at.1.before now y same input shown printed rest)
-        | inr same ↦ inr (shows_of at.1.next now y same input shown printed rest)
+      elim at.0.1.at [
+        | inl same ↦ inl (shows_of at.0.1.before now y same input shown printed rest)
+        | inr same ↦ inr (same.0, shows_of at.0.1.next now y same.1 input shown printed rest)
       ];
 }
 

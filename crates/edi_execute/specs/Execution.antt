@@ -6,6 +6,7 @@ use Rattle.edi_calls.specs.State.{State}
 use Rattle.edi_kernel.specs.declared.ends.Ending.{Ending}
 use Rattle.edi_kernel.specs.declared.ends.Ending.TheVariants as ending
 use Rattle.edi_kernel.specs.Passed.{past_at, IsFailedCall}
+use Rattle.edi_system.specs.AsCalls.{LeavesByte}
 use Rattle.edi_target.specs.Check.{CodeParts}
 use Rattle.edi_target.specs.Fetch.{fetch}
 use Rattle.edi_target.specs.Moments.{ComesThrough}
@@ -22,7 +23,11 @@ pub record IsAtMoment (code : CodeParts) (system : State) (bound : ℕ) (old : D
   pub comes : ComesThrough (fetch code.words) code.entry code.calls system bound old.source old.drawn moment
   pub same : IsSameOutside moment now
 
--- This object has failed a call of the run that uses it: the system is, but for the found file and the buffer, at the state before that call or at
--- the one that the call was to leave.
+-- this object has failed a call of the run that uses it: the system is, but for the found file and the buffer, at the state before that call or at
+-- the one that the call was to leave
+abbrev pub IsAtFailedCall : (code : CodeParts) (system : State) (bound : ℕ) (old : Drawn) (outside : Outside) (now : State) → Type 0
+IsAtFailedCall code system bound old outside now = (n : ℕ) × IsFailedCall outside system (past_at code system bound old.source old.drawn n) now
+
+-- and an input that has failed has a byte left
 abbrev pub IsAtCall : (code : CodeParts) (system : State) (bound : ℕ) (old : Drawn) (outside : Outside) (now : State) → Type 0
-IsAtCall code system bound old outside now = (n : ℕ) × IsFailedCall outside system (past_at code system bound old.source old.drawn n) now
+IsAtCall code system bound old outside now = IsAtFailedCall code system bound old outside now × LeavesByte outside now.input

@@ -1,16 +1,17 @@
 -- Words of contracts. The four objects that a program sees, and what a run of code leaves of them.
-use Rattle.std.specs.Prelude.{◌≡◌, ◌⊎◌, ℕ, ◌+◌, ◌<◌, ◌≤◌, ◌^◌, false, List, drop, length, Option, Some, None, ⊤}
+use Rattle.std.specs.Prelude.{◌≡◌, ◌⊎◌, ℕ, ◌+◌, ◌<◌, ◌≤◌, ◌^◌, false, List, drop, length, Option, Some, None, ⊤, true}
 use Rattle.edi_told.specs.Faults.{CountRose}
 use Rattle.edi_told.specs.Told.{WhereTold}
 use Rattle.edi_calls.specs.declared.ends.Outside.{Outside}
 use Rattle.edi_calls.specs.declared.ends.Outside.TheVariants as outside
-use Rattle.edi_calls.specs.Asked.{Asks, IsFollowed}
+use Rattle.edi_calls.specs.Asked.{may_have_done, Asks, IsFollowed}
 use Rattle.edi_calls.specs.State.{State}
 use Rattle.edi_image.specs.Image.{slots_of}
 use Rattle.edi_kernel.specs.declared.ends.Ending.{Ending}
 use Rattle.edi_kernel.specs.declared.ends.Ending.TheVariants as ending
 use Rattle.edi_kernel.specs.Passed.{past_at}
 use Rattle.edi_kernel.specs.Runs.{RunsTo}
+use Rattle.edi_system.specs.AsCalls.{LeavesByte}
 use Rattle.edi_system.specs.Parts.{due_after, ToldStays}
 use Rattle.edi_system.specs.State.{all_told}
 use Rattle.edi_system.specs.Begun.{state_begun}
@@ -71,13 +72,15 @@ pub record StandsAtMoment (code : CodeParts) (bound : ℕ) (old : Drawn) (before
   pub comes : ComesThrough (fetch code.words) code.entry code.calls (system_on before) bound old.source old.drawn moment
   pub shows : Show moment after
 
--- This object has failed a call of the run that uses it: the objects have what the state before that call has, or the one that it was to leave.
+-- This object has failed a call of the run that uses it: the objects have what the state before that call has, or, unless it is the input, the
+-- one that it was to leave. The input has failed before its end.
 pub record StandsAtCall (code : CodeParts) (bound : ℕ) (old : Drawn) (outside : Outside) (before after : Contents) : Type 0 where
   pub from : State
   pub next : State
   pub calls : (n : ℕ) × IsFollowed (system_on before) (past_at code (system_on before) bound old.source old.drawn n) from next
   pub asks : Asks outside from next
-  pub shows : Show from after ⊎ Show next after
+  pub left : LeavesByte outside from.input
+  pub shows : Show from after ⊎ ((may_have_done outside ≡ true) × Show next after)
 
 -- What a run leaves: where the four objects tell what they hold, what the kernel's run leaves; after a fault, what a state has
 -- through which it comes; what is told in the end was told at the start, the input only loses its first bytes, what the terminal and

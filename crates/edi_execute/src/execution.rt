@@ -31,7 +31,7 @@ pub fn execute<D: Drive, S: Source, T: Sink, P: Sink>(
     requires ready { IsReady D.contents D.count system.old }
     // Where the objects tell what they hold, the run is that of the machine's definition, and they hold afterwards what it leaves
     // (`exact`), after `Fault` what a state has through which it comes (`moment`): the one before the call that failed, or the one
-    // that this call was to leave; and the call uses the object that has failed (`call`).
+    // that this call was to leave; and the call uses the object that has failed, which is no input at its end (`call`).
     ensures exact { choices.old.drawn + bound < 2 ^ 64 → WhereTold (state_of D.contents S.left T.taken P.taken system.old)
         (state_of D.contents S.left T.taken P.taken system.new)
         (λ before after. RunsTo code.now (fresh before) bound choices.old result kernel.new.store kernel.new.used after choices.new) }

@@ -54,7 +54,7 @@ pub fn run_on<D: Drive, S: Source, T: Sink, P: Sink>(
     ensures leaves { IfOk result (λ ran. RunLeaves D.contents S.left T.taken P.taken code.now bound choices.old ran kernel.new.store kernel.new.used choices.new
         (objects drive.old input.old terminal.old printer.old) (objects drive.new input.new terminal.new printer.new)) }
     // After `Fault` this is the state before the call that failed, or the one that this call was to leave; and the call uses the object
-    // that has failed.
+    // that has failed, which is no input at its end.
     ensures call { IfOk result (λ ran. (outside : Outside) → ran.failed ≡ Some outside → choices.old.drawn + bound < 2 ^ 64
         → WhereTold (contents_of D.contents S.left T.taken P.taken (objects drive.old input.old terminal.old printer.old))
         (contents_of D.contents S.left T.taken P.taken (objects drive.new input.new terminal.new printer.new))

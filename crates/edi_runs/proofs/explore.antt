@@ -1,5 +1,4 @@
 mod Explored
 mod Keeping
-mod Processes
 mod Reading
 mod Runs

@@ -1,11 +1,11 @@
 -- Where an object may fail in a course: it may fail there in a longer one too, and there the course has a state.
-use Rattle.std.proofs.Common.{◌≡◌, inl, inr, ℕ, List, [], ◌∷◌, ◌++◌, refl, sym, ap, subst, ◌∙◌, arith, append_assoc}
+use Rattle.std.proofs.Common.{inl, inr, List, ◌∷◌, ◌++◌, refl, sym, ap, subst, ◌∙◌, arith, append_assoc}
 use Rattle.std.specs.Prelude.{Contains}
 use Rattle.std.proofs.lemmas.List.Elements.{Contains-append_right}
 use Rattle.edi_calls.specs.declared.ends.Outside.{Outside}
 use Rattle.edi_calls.specs.declared.ends.Outside.TheVariants as outside
 use Rattle.edi_calls.specs.State.{State}
-use Rattle.edi_session.specs.Course.{IsAtByte, IsAtItsByte, IsFollowedBy, MayFail, PrintsByte, ShowsByte}
+use Rattle.edi_session.specs.Course.{IsAtByte, IsAtItsByte, IsFollowedBy, MayFail, PrintsByte, ShowsByte, TakesByte}
 
 -- two that follow one another do so among newer ones too, and before older ones
 pub followed_on : (news old : List State) (before next : State) → IsFollowedBy old before next → IsFollowedBy (news ++ old) before next
@@ -30,7 +30,7 @@ its_byte_on : (news old : List State) (failed : Outside) (m : State) → IsAtIts
 its_byte_on news old outside.Terminal m h = byte_on ShowsByte news old m h
 its_byte_on news old outside.Printer m h = byte_on PrintsByte news old m h
 its_byte_on news old outside.Drive m h = tt
-its_byte_on news old outside.Input m h = tt
+its_byte_on news old outside.Input m h = (h.0, followed_on news old m h.0 h.1, h.2)
 
 -- newer states take nothing away
 pub may_fail_on : (news old : List State) (failed : Outside) (m : State) → MayFail failed old m → MayFail failed (news ++ old) m
@@ -63,5 +63,5 @@ printer_fails states m h = record { there = byte_there PrintsByte states m h; by
 pub drive_fails : (states : List State) (m : State) → Contains states m → MayFail outside.Drive states m
 drive_fails states m h = record { there = h; byte = tt }
 
-pub input_fails : (states : List State) (m : State) → Contains states m → MayFail outside.Input states m
-input_fails states m h = record { there = h; byte = tt }
+pub input_fails : (states : List State) (m next : State) → IsFollowedBy states m next → TakesByte m next → MayFail outside.Input states m
+input_fails states m next follows takes = record { there = (both_there states m next follows).0; byte = (next, follows, takes) }

@@ -102,3 +102,22 @@ take_text_on (b ∷ input) text line s =
     (one_on (b == 10 && ends_text line) s (took text (took_byte input s)) (take_text input (text_with b text line) (line_with b line) (took_byte input s))
     (λ o m h. took_on input s o m h)
     (λ o m h. take_text_on input (text_with b text line) (line_with b line) (took_byte input s) o m (took_on input s o m h)))
+
+-- what a line and a text come to behind their next byte
+pub line_behind : (echo : Bool) (line left : List ℕ) (b : ℕ) (s : Shell)
+    → Later (took_byte left s) (shell_of (if b == 10 then took line (echoed echo (10 ∷ []) (took_byte left s))
+    else take_line echo left (line ++ b ∷ []) (echoed echo (b ∷ []) (took_byte left s))))
+line_behind echo line left b s =
+    one_on (b == 10) (took_byte left s) (took line (echoed echo (10 ∷ []) (took_byte left s)))
+    (take_line echo left (line ++ b ∷ []) (echoed echo (b ∷ []) (took_byte left s)))
+    (λ o m h. echoed_on echo (10 ∷ []) (took_byte left s) o m h)
+    (λ o m h. take_line_on echo left (line ++ b ∷ []) (echoed echo (b ∷ []) (took_byte left s)) o m
+    (echoed_on echo (b ∷ []) (took_byte left s) o m h))
+
+pub text_behind : (text line left : List ℕ) (b : ℕ) (s : Shell)
+    → Later (took_byte left s) (shell_of (if b == 10 && ends_text line then took text (took_byte left s)
+    else take_text left (text_with b text line) (line_with b line) (took_byte left s)))
+text_behind text line left b s =
+    one_on (b == 10 && ends_text line) (took_byte left s) (took text (took_byte left s))
+    (take_text left (text_with b text line) (line_with b line) (took_byte left s)) (λ o m h. h)
+    (λ o m h. take_text_on left (text_with b text line) (line_with b line) (took_byte left s) o m h)

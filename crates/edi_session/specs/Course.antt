@@ -1,6 +1,6 @@
 -- Definition. A system with its course: the states through which it went. Each byte that is taken, shown or printed, each change
 -- of the files and each system call of a program is one step. So the states at which an object outside may fail are those of its
--- course: an output only where a byte is shown or printed.
+-- course: an output only where a byte is shown or printed, the input only where one is taken.
 use Rattle.std.specs.Prelude.{◌≡◌, ◌⊎◌, ℕ, List, [], ◌∷◌, ◌++◌, Option, Contains, ⊤}
 use Rattle.edi_calls.specs.declared.ends.Outside.{Outside}
 use Rattle.edi_calls.specs.declared.ends.Outside.TheVariants as outside
@@ -57,6 +57,10 @@ ShowsByte before next = (byte : ℕ) × (next ≡ record before { shown = before
 abbrev pub PrintsByte : (before next : State) → Type 0
 PrintsByte before next = (byte : ℕ) × (next ≡ record before { printed = before.printed ++ byte ∷ [] })
 
+-- the next byte of the input is taken, and all else is the same
+abbrev pub TakesByte : (before next : State) → Type 0
+TakesByte before next = (byte : ℕ) × (before.input ≡ byte ∷ next.input) × (next ≡ record before { input = next.input })
+
 -- among these states two follow one another so, and the moment is the first of them, or the second: what fails may have taken the byte
 pub record IsAtByte (Puts : (before next : State) → Type 0) (states : List State) (moment : State) : Type 0 where
   pub before : State
@@ -65,15 +69,15 @@ pub record IsAtByte (Puts : (before next : State) → Type 0) (states : List Sta
   pub puts : Puts before next
   pub at : (moment ≡ before) ⊎ (moment ≡ next)
 
--- an output is at a byte of its own
+-- an output is at a byte of its own; the input is before one that is taken
 abbrev pub IsAtItsByte : Outside → (states : List State) → (moment : State) → Type 0
 IsAtItsByte outside.Terminal states moment = IsAtByte ShowsByte states moment
 IsAtItsByte outside.Printer states moment = IsAtByte PrintsByte states moment
 IsAtItsByte outside.Drive states moment = ⊤
-IsAtItsByte outside.Input states moment = ⊤
+IsAtItsByte outside.Input states moment = (next : State) × IsFollowedBy states moment next × TakesByte moment next
 
--- WHERE AN OBJECT MAY FAIL in a course with these states: the drive and the input at each state, the terminal only where a byte is shown, the
--- printer only where one is printed
+-- WHERE AN OBJECT MAY FAIL in a course with these states: the drive at each state, the terminal only where a byte is shown, the printer only
+-- where one is printed, and the input only right before one is taken
 pub record MayFail (failed : Outside) (states : List State) (moment : State) : Type 0 where
   pub there : Contains states moment
   pub byte : IsAtItsByte failed states moment

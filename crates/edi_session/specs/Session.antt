@@ -1,8 +1,8 @@
 -- Definition. A SESSION: lines one after another, each by the table of commands, or in an editing by the table of its lines.
 --
--- A line has one effect, but for two points. Any code that may be made of a text may be stored by `compile`. And the line
--- `no memory` may stand in place of the effect of `compile` behind `no file` and `not text`, of an execution behind `no file` and
--- `not code`, of `edit` behind `not text`, and of a change that is not refused, an undo with something to undo, and `w`.
+-- A line has one effect, but for one point: the line `no memory` may stand in place of the effect of `compile` behind `no file` and
+-- `not text`, of an execution behind `no file` and `not code`, of `edit` behind `not text`, and of a change that is not refused, an
+-- undo with something to undo, and `w`.
 use Rattle.std.specs.Prelude.{◌≡◌, ◌⊎◌, ℕ, zero, suc, ◌+◌, ◌-◌, true, false, nat_lt, if◌then◌else◌, List, [], ◌∷◌, length, insert, remove, slice_set, Option}
 use Rattle.std.specs.Prelude.{Some, None, codes}
 use Rattle.edi_calls.specs.declared.ends.Outside.{Outside}
@@ -17,6 +17,7 @@ use Rattle.edi_edit.specs.declared.EditEnd.{EditEnd}
 use Rattle.edi_edit.specs.declared.EditEnd.TheVariants as edit_end
 use Rattle.edi_edit.specs.Editing.{Editing, changed, undone, is_index, refusal, missing}
 use Rattle.edi_edit.specs.Lines as lines
+use Rattle.edi_scheme.specs.Laws.{parts_of}
 use Rattle.edi_target.specs.Check.{CodeParts}
 use Rattle.edi_target.specs.Fetch.{fetch}
 use Rattle.edi_target.specs.File.{code_bytes, code_fault_of, code_of}
@@ -25,8 +26,9 @@ use Rattle.edi_target.specs.Moments.{EndsThrough}
 use Rattle.edi_target.specs.declared.code_fault.CodeFault.{CodeFault}
 use Rattle.edi_texts.specs.Kinds.{kind_text}
 use Rattle.edi_texts.specs.Run.{IsCodeFor}
-use Rattle.edi_texts.specs.Texts.{IsRefused}
+use Rattle.edi_texts.specs.Texts.{IsRefused, IsUnit}
 use Rattle.edi_texts.specs.declared.kind.RefusalKind.{RefusalKind}
+use Rattle.edi_unit.specs.Tree.{ProgramUnit}
 use Rattle.edi_session.specs.declared.end.SessionEnd.{SessionEnd}
 use Rattle.edi_session.specs.declared.end.SessionEnd.TheVariants.{Halted, InputEnd, Limit}
 use Rattle.edi_session.specs.declared.line.Line.{Line}
@@ -70,10 +72,11 @@ stores_code g bytes s =
     if nat_lt most_bytes (length bytes) then says (with_number (codes "code too large") (length bytes)) s
     else stores g file_kind.Code bytes s
 
+-- what is stored is the code of the text's unit, by the scheme, which does what the text does
 abbrev pub CompilesText : (text g : List ℕ) → Shell → AfterLine → Type 0
 CompilesText text g s next =
     ((kind : RefusalKind) × (n : ℕ) × IsRefused text kind n × (next ≡ goes (says (on_line n (kind_text kind)) s)))
-    ⊎ (((code : CodeParts) × IsCodeFor text code × (next ≡ goes (stores_code g (code_bytes code) s)))
+    ⊎ (((unit : ProgramUnit) × IsUnit text unit × IsCodeFor text (parts_of unit) × (next ≡ goes (stores_code g (code_bytes (parts_of unit)) s)))
     ⊎ (next ≡ goes (says_no_memory s)))
 
 abbrev pub CompilesKind : FileKind → (f g bytes : List ℕ) → Shell → AfterLine → Type 0

@@ -1,5 +1,5 @@
-//! Laws of sessions: each comes to an end, and two of the same input differ only where memory is wanting and in the codes that
-//! `compile` makes. The functions do nothing, and their contracts are the laws.
+//! Laws of sessions: each comes to an end, and two of the same input differ only where memory is wanting. The functions do
+//! nothing, and their contracts are the laws.
 
 ghost use Rattle.edi_session.specs.ends.Laws.{EverySessionEnds, LinesAreFew, OneEffect, SessionsDifferInThese};
 
@@ -18,7 +18,7 @@ pub fn one_effect()
     ensures law { OneEffect }
 {}
 
-/// Where two sessions part, the line `no memory` is shown in one of them, or both compile one text to two codes that may be made of it.
+/// Where two sessions part, the line `no memory` is shown in one of them.
 pub fn sessions_differ_in_these()
     ensures law { SessionsDifferInThese }
 {}

@@ -12,7 +12,7 @@ use Rattle.edi_statuses.specs.Steps.{goes}
 use Rattle.edi_statuses.specs.Commands.{IsNothing, TextSteps}
 use Rattle.edi_statuses.specs.Broken.{HasBegun}
 use Rattle.edi_statuses.specs.Explored.{Explored, ExploredFront, ExploredInPart, ExploredThen, ExploresText}
-use Rattle.edi_statuses.specs.Explored.{IsTooLong, KeepsFirst, LosesInput, LosesNext, LosesSome, OnlyTakes, TakesAll}
+use Rattle.edi_statuses.specs.Explored.{FailsIn, IsTooLong, KeepsFirst, LosesNext, LosesSome, OnlyAccepts, OnlyTakes, TakesAll}
 use Rattle.edi_statuses.specs.Decided.{with_shown}
 use Rattle.edi_statuses.proofs.Terminal.{StillTold, nothing_later, text_later}
 
@@ -51,6 +51,10 @@ module _ (b m : Outside) (y : Option (List ℕ)) (still : StillTold m.shown y) w
     printed = h.printed;
   }
 
+  accepts_later : (P : List ℕ → List ℕ → Type 0) (unit : ProgramUnit) (shown : List ℕ) (kernel : Lent) → OnlyAccepts P unit before_ m shown kernel
+      → OnlyAccepts P unit seen_later later_ shown kernel
+  accepts_later P unit shown kernel h = (h.0, only_later P shown kernel h.1)
+
   pub explores_later : (bytes : List ℕ) (unit : ProgramUnit) (o : ExploreOptions) (s : Status) (shown : List ℕ) (kernel : Lent)
       → ExploresText bytes unit o s before_ m shown kernel → ExploresText bytes unit o s seen_later later_ shown kernel
   explores_later bytes unit o s shown kernel (inl h) = inl (record {
@@ -60,11 +64,7 @@ module _ (b m : Outside) (y : Option (List ℕ)) (still : StillTold m.shown y) w
     shown_ = h.shown_;
     keeps = h.keeps;
   })
-  explores_later bytes unit o s shown kernel (inr h) = inr (h.0, (h.1.0, only_later IsTooLong shown kernel h.1.1))
-
-  loses_later : (unit : ProgramUnit) (shown : List ℕ) (kernel : Lent) → LosesInput unit before_ m shown kernel
-      → LosesInput unit seen_later later_ shown kernel
-  loses_later unit shown kernel h = (h.0, only_later LosesSome shown kernel h.1)
+  explores_later bytes unit o s shown kernel (inr h) = inr (h.0, accepts_later IsTooLong unit shown kernel h.1)
 
   then_later : (Leaves : List Kept → Outside → Outside → Type 0) (bytes : List ℕ) (unit : ProgramUnit) (o : ExploreOptions) (shown : List ℕ)
       → ((kept : List Kept) → Leaves kept before_ m → Leaves kept seen_later later_) → ExploredThen Leaves bytes unit o before_ m shown
@@ -84,7 +84,7 @@ module _ (b m : Outside) (y : Option (List ℕ)) (still : StillTold m.shown y) w
 
   part_later : (bytes : List ℕ) (unit : ProgramUnit) (o : ExploreOptions) (shown : List ℕ) (kernel : Lent)
       → ExploredInPart bytes unit o before_ m shown kernel → ExploredInPart bytes unit o seen_later later_ shown kernel
-  part_later bytes unit o shown kernel (inl h) = inl (loses_later unit shown kernel h)
+  part_later bytes unit o shown kernel (inl h) = inl (accepts_later LosesSome unit shown kernel h)
   part_later bytes unit o shown kernel (inr (inl h)) = inr (inl (record {
     input = h.input;
     takes = takes_later (names_accept unit) h.input h.takes;
@@ -111,9 +111,9 @@ module _ (b m : Outside) (y : Option (List ℕ)) (still : StillTold m.shown y) w
       (h.0, text_later b m y still file (goes h.0) h.1, then_later LosesNext h.0.0 h.0.1 o shown next_later h.2)
 
   pub explored_took : (file : List ℕ) (shown : List ℕ) (kernel : Lent)
-      → HasBegun (TextSteps before_ file) (λ a. LosesInput a.1 before_ m shown kernel)
-      → HasBegun (TextSteps seen_later file) (λ a. LosesInput a.1 seen_later later_ shown kernel)
-  explored_took file shown kernel h = (h.0, text_later b m y still file (goes h.0) h.1, loses_later h.0.1 shown kernel h.2)
+      → HasBegun (TextSteps before_ file) (λ a. OnlyAccepts FailsIn a.1 before_ m shown kernel)
+      → HasBegun (TextSteps seen_later file) (λ a. OnlyAccepts FailsIn a.1 seen_later later_ shown kernel)
+  explored_took file shown kernel h = (h.0, text_later b m y still file (goes h.0) h.1, accepts_later FailsIn h.0.1 shown kernel h.2)
 
   front_later : (bytes : List ℕ) (unit : ProgramUnit) (o : ExploreOptions) (shown : List ℕ) → ExploredFront bytes unit o before_ m shown
       → ExploredFront bytes unit o seen_later later_ shown

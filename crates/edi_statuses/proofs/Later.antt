@@ -198,8 +198,8 @@ module _ (b m : Outside) (y : Option (List ℕ)) (still : StillTold m.shown y) w
 
   compile_is : (file out shown : List ℕ) (kernel : Lent) → Later (words.compile file out) shown kernel
   compile_is file out shown kernel = record {
-    comes = λ s. does_later b m y still (TextSteps before_ file) (TextSteps seen_later file) (λ a. IsDone (KeepsCode out a.0))
-        (λ a. IsDone (KeepsCode out a.0)) s shown kernel (text_later b m y still file) (λ a h. (h.0, code_later b m y still out a.0 shown kernel h.1));
+    comes = λ s. does_later b m y still (TextSteps before_ file) (TextSteps seen_later file) (λ a. IsDone (KeepsCode out a.0 a.1))
+        (λ a. IsDone (KeepsCode out a.0 a.1)) s shown kernel (text_later b m y still file) (λ a h. (h.0, code_later b m y still out a.0 a.1 shown kernel h.1));
     wants = nothing_later b m y still shown kernel;
     files = λ h. (h.0, text_later b m y still file (goes h.0) h.1, begun_later b m y still shown kernel h.2);
     drive = λ h. absurd h;

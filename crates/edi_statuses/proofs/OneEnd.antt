@@ -1,16 +1,13 @@
 -- Contents that are told decide all that a command leaves.
-use Rattle.std.proofs.Common.{◌≡◌, ◌∙◌, ℕ, Bool, cond, List, [], ◌∷◌, length, Option, Some, None, false, true, refl, sym, ap, subst, inl, inr, rules, true≢false}
-use Rattle.std.specs.Cmp.Lexicographic.{slice_cmp}
-use Rattle.std.specs.FinMap as map
-use Rattle.std.specs.FinMap.{slice_cmp-IsAntisymmetric, nat_cmp-IsAntisymmetric}
-use Rattle.std.specs.Ordering.{nat_cmp, eq_by_cmp}
-use Rattle.std.proofs.lemmas.Cmp.{nat_list_cmp_total}
+use Rattle.std.proofs.Common.{◌≡◌, ◌∙◌, ℕ, List, [], ◌∷◌, length, Option, Some, None, false, true, refl, sym, ap, subst, inl, inr, rules, true≢false}
 use Rattle.edi_calls.specs.Choice.{Choices}
 use Rattle.edi_calls.specs.Outcome.{Ending, Outcome}
 use Rattle.edi_calls.specs.State.{State}
 use Rattle.edi_debug.specs.stops.Stops.{Watched}
 use Rattle.edi_host.specs.Contents.{Contents}
 use Rattle.edi_image.specs.Image.{slots_of}
+use Rattle.edi_scheme.specs.Laws.{parts_of}
+use Rattle.edi_target.specs.File.{code_bytes}
 use Rattle.edi_unit.specs.Tree.{ProgramUnit}
 use Rattle.edi_utils.specs.Demo.{demo_text}
 use Rattle.edi_utils.specs.Listing.{listing_of}
@@ -19,7 +16,7 @@ use Rattle.edi_timed.specs.on.Laws.{TimelinesAreOne}
 use Rattle.edi_words.specs.Words as words
 use Rattle.edi_words.specs.Words.{Command}
 use Rattle.edi_statuses.specs.declared.status.Status.{Status}
-use Rattle.edi_statuses.specs.Outside.{Outside, Devices, Kept, KernelLeft, system_on, with_kept, without_names}
+use Rattle.edi_statuses.specs.Outside.{Outside, Devices, Kept, KernelLeft, system_on, with_kept}
 use Rattle.edi_statuses.specs.Steps.{AfterStep, goes, stops, Fetches, FindsPoints, Ready}
 use Rattle.edi_statuses.specs.Executions.{Runnable, text, code, HasRun, record_of}
 use Rattle.edi_statuses.specs.Walked.{Walks}
@@ -29,7 +26,7 @@ use Rattle.edi_statuses.specs.Commands.{Runs, ShowsReport, AreMigrated, AreNew, 
 use Rattle.edi_statuses.specs.Commands.{OnlyKeeps, OnlyShows, ShowsSize, PutSteps, GetSteps, ListSteps, DemoSteps}
 use Rattle.edi_statuses.specs.Decided.{IsTold, is_decided}
 use Rattle.edi_statuses.specs.Always.{lent_from, told_outside}
-use Rattle.edi_statuses.specs.OneEnd.{LeaveSame, OneEnd, names_free}
+use Rattle.edi_statuses.specs.OneEnd.{LeaveSame, OneEnd}
 use Rattle.edi_statuses.proofs.OneLog.{one_log}
 use Rattle.edi_statuses.proofs.always.Programs.{watch_then}
 use Rattle.edi_statuses.proofs.StepLemmas.{IsOne, TextsAreOne, fetches_one, not_both, ready_one, value_or}
@@ -39,25 +36,6 @@ use Rattle.edi_statuses.proofs.OneStatus.{demo_steps}
 pub told_is : (files : Contents) (d : Devices) → IsTold (told_outside files d)
 told_is files d =
     record { files = search rules; blocks = search rules; input = search rules; shown = search rules; printed = search rules }
-
--- ---- a file whose bytes differ
-
-abbrev is_named : List ℕ → List ℕ → Bool
-is_named name other = eq_by_cmp (slice_cmp nat_cmp) other name
-
-either_gone : (same : Bool) (x y rest : Option (List ℕ)) → cond same None (cond same x rest) ≡ cond same None (cond same y rest)
-either_gone true x y rest = refl
-either_gone false x y rest = refl
-
--- without the file of a name the others are the same, whatever its bytes are
-gone_same : (files : Contents) (name bytes other : List ℕ) → map.remove (map.insert files name bytes) name ≡ map.remove (map.insert files name other) name
-gone_same files name bytes other =
-    map.same_map nat_list_cmp_total (slice_cmp-IsAntisymmetric nat_cmp-IsAntisymmetric) _ _ (λ q.
-    map.get-remove nat_list_cmp_total (map.insert files name bytes) name q
-    ∙ ap (λ o. cond (is_named name q) None o) (map.get-insert nat_list_cmp_total files name bytes q)
-    ∙ either_gone (is_named name q) (Some bytes) (Some other) (map.get files q)
-    ∙ sym (map.get-remove nat_list_cmp_total (map.insert files name other) name q
-    ∙ ap (λ o. cond (is_named name q) None o) (map.get-insert nat_list_cmp_total files name other q)))
 
 -- ---- two runs of a program
 
@@ -82,19 +60,19 @@ runs_leave program bound choices s t m n d e f shown bytes left also h k =
       turns = h.kernel_is.turns ∙ ap (λ (o : Outcome). o.turns) same ∙ sym k.kernel_is.turns;
     }
 
--- an effect that leaves one thing, but for the files of these names
-abbrev LeavesOne : Contents → Devices → KernelLeft → List (List ℕ) → CommandEffect → Type 0
-LeavesOne files d kernel names effect =
+-- an effect that leaves one thing
+abbrev LeavesOne : Contents → Devices → KernelLeft → CommandEffect → Type 0
+LeavesOne files d kernel effect =
     (s t : Status) (one other : Contents) (e f : Devices) (shown bytes : List ℕ) (left also : KernelLeft)
     → effect s (told_outside files d) (told_outside one e) shown (lent_from kernel left)
     → effect t (told_outside files d) (told_outside other f) bytes (lent_from kernel also)
-    → LeaveSame names one other e f left also
+    → LeaveSame one other e f left also
 
 -- ---- runs, on any devices
 
 module _ (files : Contents) (d : Devices) (kernel : KernelLeft) where
   runs_end : (program : Runnable) (bound : ℕ) (choices : Choices) (record_file : Option (List ℕ))
-      → LeavesOne files d kernel [] (Runs program bound choices record_file)
+      → LeavesOne files d kernel (Runs program bound choices record_file)
   runs_end program bound choices record_file s t one other e f shown bytes left also h k =
       let same = runs_leave program bound choices h.ending k.ending h.drawn k.drawn d e f shown bytes left also h.ran k.ran in record {
         files_ = h.keeps ∙ ap (λ n. with_kept (record_of record_file choices n) files) same.draws ∙ sym k.keeps;
@@ -106,7 +84,7 @@ module _ (files : Contents) (d : Devices) (kernel : KernelLeft) where
       }
 
   times_end : TimelinesAreOne → (program : Runnable) (bound : ℕ) (choices : Choices) (out : List ℕ) (record_file : Option (List ℕ))
-      → LeavesOne files d kernel [] (Times program bound choices out record_file)
+      → LeavesOne files d kernel (Times program bound choices out record_file)
   times_end timelines program bound choices out record_file s t one other e f shown bytes left also h k =
       let same = runs_leave program bound choices h.0 k.0 h.2.drawn k.2.drawn d e f shown bytes left also h.2.ran k.2.ran in
       let told : h.2.told ≡ k.2.told =
@@ -123,15 +101,15 @@ module _ (files : Contents) (d : Devices) (kernel : KernelLeft) where
       }
 
 module _ (each : TextsAreOne) (files : Contents) (d : Devices) (kernel : KernelLeft) where
-  abbrev EndsOne : List (List ℕ) → CommandEffect → Type 0
-  EndsOne names effect = LeavesOne files d kernel names effect
+  abbrev EndsOne : CommandEffect → Type 0
+  EndsOne effect = LeavesOne files d kernel effect
 
   -- all is as before
-  stays : (names : List (List ℕ)) (one other : Contents) (e f : Devices) (left also : KernelLeft) → one ≡ files → other ≡ files
+  stays : (one other : Contents) (e f : Devices) (left also : KernelLeft) → one ≡ files → other ≡ files
       → e.blocks ≡ d.blocks → f.blocks ≡ d.blocks → e.input ≡ d.input → f.input ≡ d.input → e.printed ≡ d.printed → f.printed ≡ d.printed
-      → left ≡ kernel → also ≡ kernel → LeaveSame names one other e f left also
-  stays names one other e f left also o p b c i j q r l m = record {
-    files_ = ap (without_names names) (o ∙ sym p);
+      → left ≡ kernel → also ≡ kernel → LeaveSame one other e f left also
+  stays one other e f left also o p b c i j q r l m = record {
+    files_ = o ∙ sym p;
     slots = ap slots_of (b ∙ sym c);
     count = ap length (b ∙ sym c);
     input = i ∙ sym j;
@@ -139,50 +117,49 @@ module _ (each : TextsAreOne) (files : Contents) (d : Devices) (kernel : KernelL
     turns = ap (λ (x : KernelLeft). x.used) (l ∙ sym m);
   }
 
-  nothing_one : (names : List (List ℕ)) (one other : Contents) (e f : Devices) (shown bytes : List ℕ) (left also : KernelLeft)
+  nothing_one : (one other : Contents) (e f : Devices) (shown bytes : List ℕ) (left also : KernelLeft)
       → IsNothing (told_outside files d) (told_outside one e) shown (lent_from kernel left)
-      → IsNothing (told_outside files d) (told_outside other f) bytes (lent_from kernel also) → LeaveSame names one other e f left also
-  nothing_one names one other e f shown bytes left also h k =
-      stays names one other e f left also h.same.files k.same.files h.same.blocks k.same.blocks h.same.input k.same.input h.same.printed k.same.printed
+      → IsNothing (told_outside files d) (told_outside other f) bytes (lent_from kernel also) → LeaveSame one other e f left also
+  nothing_one one other e f shown bytes left also h k =
+      stays one other e f left also h.same.files k.same.files h.same.blocks k.same.blocks h.same.input k.same.input h.same.printed k.same.printed
       h.kernel_same k.kernel_same
 
-  does_end : {A : Type 0} (names : List (List ℕ)) (steps : AfterStep A → Type 0) (effect : A → CommandEffect) → IsOne steps
-      → ((a : A) → steps (goes a) → EndsOne names (effect a)) → EndsOne names (Does steps effect)
-  does_end names steps effect one_step ones s t one other e f shown bytes left also (inl h) (inl k) =
-      nothing_one names one other e f shown bytes left also h.1 k.1
-  does_end names steps effect one_step ones s t one other e f shown bytes left also (inl h) (inr k) =
+  does_end : {A : Type 0} (steps : AfterStep A → Type 0) (effect : A → CommandEffect) → IsOne steps
+      → ((a : A) → steps (goes a) → EndsOne (effect a)) → EndsOne (Does steps effect)
+  does_end steps effect one_step ones s t one other e f shown bytes left also (inl h) (inl k) =
+      nothing_one one other e f shown bytes left also h.1 k.1
+  does_end steps effect one_step ones s t one other e f shown bytes left also (inl h) (inr k) =
       absurd (not_both k.0 s (one_step (goes k.0) (stops s) k.1 h.0))
-  does_end names steps effect one_step ones s t one other e f shown bytes left also (inr h) (inl k) =
+  does_end steps effect one_step ones s t one other e f shown bytes left also (inr h) (inl k) =
       absurd (not_both h.0 t (one_step (goes h.0) (stops t) h.1 k.0))
-  does_end names steps effect one_step ones s t one other e f shown bytes left also (inr h) (inr k) =
+  does_end steps effect one_step ones s t one other e f shown bytes left also (inr h) (inr k) =
       let same = ap (λ x. value_or h.0 x) (one_step (goes h.0) (goes k.0) h.1 k.1) in
       ones k.0 k.1 s t one other e f shown bytes left also
       (subst (λ a. effect a s (told_outside files d) (told_outside one e) shown (lent_from kernel left)) same h.2) k.2
 
   -- ---- effects that touch one object
 
-  shows_end : (all : List ℕ) → EndsOne [] (IsDone (OnlyShows all))
+  shows_end : (all : List ℕ) → EndsOne (IsDone (OnlyShows all))
   shows_end all s t one other e f shown bytes left also h k =
-      stays [] one other e f left also h.1.same.files k.1.same.files h.1.same.blocks k.1.same.blocks h.1.same.input k.1.same.input h.1.same.printed
+      stays one other e f left also h.1.same.files k.1.same.files h.1.same.blocks k.1.same.blocks h.1.same.input k.1.same.input h.1.same.printed
       k.1.same.printed h.1.kernel_same k.1.kernel_same
 
-  report_end : (unit : ProgramUnit) → EndsOne [] (IsDone (ShowsReport unit))
+  report_end : (unit : ProgramUnit) → EndsOne (IsDone (ShowsReport unit))
   report_end unit s t one other e f shown bytes left also h k =
-      stays [] one other e f left also h.1.2.same.files k.1.2.same.files h.1.2.same.blocks k.1.2.same.blocks h.1.2.same.input k.1.2.same.input
+      stays one other e f left also h.1.2.same.files k.1.2.same.files h.1.2.same.blocks k.1.2.same.blocks h.1.2.same.input k.1.2.same.input
       h.1.2.same.printed k.1.2.same.printed h.1.2.kernel_same k.1.2.kernel_same
 
-  explains_end : (program : List ℕ) → EndsOne [] (Explains program)
+  explains_end : (program : List ℕ) → EndsOne (Explains program)
   explains_end program s t one other e f shown bytes left also h k =
-      stays [] one other e f left also h.2.same.files k.2.same.files h.2.same.blocks k.2.same.blocks h.2.same.input k.2.same.input h.2.same.printed
+      stays one other e f left also h.2.same.files k.2.same.files h.2.same.blocks k.2.same.blocks h.2.same.input k.2.same.input h.2.same.printed
       k.2.same.printed h.2.kernel_same k.2.kernel_same
 
-  -- the files of these names may differ
-  kept_end : (names : List (List ℕ)) (one other : Contents) (e f : Devices) (kept others : List Kept) (shown bytes : List ℕ) (left also : KernelLeft)
-      → without_names names (with_kept kept files) ≡ without_names names (with_kept others files)
+  -- these files are kept
+  kept_end : (one other : Contents) (e f : Devices) (kept : List Kept) (shown bytes : List ℕ) (left also : KernelLeft)
       → OnlyKeeps kept (told_outside files d) (told_outside one e) shown (lent_from kernel left)
-      → OnlyKeeps others (told_outside files d) (told_outside other f) bytes (lent_from kernel also) → LeaveSame names one other e f left also
-  kept_end names one other e f kept others shown bytes left also same h k = record {
-    files_ = ap (without_names names) h.keeps ∙ same ∙ sym (ap (without_names names) k.keeps);
+      → OnlyKeeps kept (told_outside files d) (told_outside other f) bytes (lent_from kernel also) → LeaveSame one other e f left also
+  kept_end one other e f kept shown bytes left also h k = record {
+    files_ = h.keeps ∙ sym k.keeps;
     slots = ap slots_of (h.blocks ∙ sym k.blocks);
     count = ap length (h.blocks ∙ sym k.blocks);
     input = h.input ∙ sym k.input;
@@ -190,16 +167,15 @@ module _ (each : TextsAreOne) (files : Contents) (d : Devices) (kernel : KernelL
     turns = ap (λ (x : KernelLeft). x.used) (h.kernel_same ∙ sym k.kernel_same);
   }
 
-  keeps_end : (kept : List Kept) → EndsOne [] (IsDone (OnlyKeeps kept))
-  keeps_end kept s t one other e f shown bytes left also h k = kept_end [] one other e f kept kept shown bytes left also refl h.1 k.1
+  keeps_end : (kept : List Kept) → EndsOne (IsDone (OnlyKeeps kept))
+  keeps_end kept s t one other e f shown bytes left also h k = kept_end one other e f kept shown bytes left also h.1 k.1
 
-  code_end : (out program : List ℕ) → EndsOne (out ∷ []) (IsDone (KeepsCode out program))
-  code_end out program s t one other e f shown bytes left also h k =
-      kept_end (out ∷ []) one other e f _ _ shown bytes left also
-      (gone_same files out _ _) h.1.keeps k.1.keeps
+  code_end : (out program : List ℕ) (unit : ProgramUnit) → EndsOne (IsDone (KeepsCode out program unit))
+  code_end out program unit s t one other e f shown bytes left also h k =
+      kept_end one other e f ((out, code_bytes (parts_of unit)) ∷ []) shown bytes left also h.1.keeps k.1.keeps
 
   blocks_end : (P : List (List ℕ) → List (List ℕ) → Type 0)
-      → ((a b : List (List ℕ)) → P d.blocks a → P d.blocks b → (slots_of a ≡ slots_of b) × (length a ≡ length b)) → EndsOne [] (IsDone (OnlyBlocks P))
+      → ((a b : List (List ℕ)) → P d.blocks a → P d.blocks b → (slots_of a ≡ slots_of b) × (length a ≡ length b)) → EndsOne (IsDone (OnlyBlocks P))
   blocks_end P same s t one other e f shown bytes left also h k =
       let blocks = same e.blocks f.blocks h.1.blocks k.1.blocks in record {
         files_ = h.1.files ∙ sym k.1.files;
@@ -212,7 +188,7 @@ module _ (each : TextsAreOne) (files : Contents) (d : Devices) (kernel : KernelL
 
   -- ---- walks, and programs that are run on their own
 
-  walks_end : (program : List ℕ) (bound : ℕ) (choices : Choices) → EndsOne [] (Walks program bound choices)
+  walks_end : (program : List ℕ) (bound : ℕ) (choices : Choices) → EndsOne (Walks program bound choices)
   walks_end program bound choices s t one other e f shown bytes left also h k =
       let last : h.walked.last ≡ k.walked.last =
       (texts_have_one_walk program (system_on d) bound choices h.ending k.ending h.walked.last k.walked.last h.walked.walk k.walked.walk).1 in record {
@@ -225,7 +201,7 @@ module _ (each : TextsAreOne) (files : Contents) (d : Devices) (kernel : KernelL
       }
 
   size_end : (n : ℕ) (effect : CommandEffect)
-      → LeavesOne files (record { blocks = []; input = []; shown = d.shown; printed = d.printed }) kernel [] effect → EndsOne [] (ShowsSize n effect)
+      → LeavesOne files (record { blocks = []; input = []; shown = d.shown; printed = d.printed }) kernel effect → EndsOne (ShowsSize n effect)
   size_end n effect ends s t one other e f shown bytes left also h k =
       let same = ends s t one other (record { blocks = h.ran.disk; input = h.ran.left; shown = e.shown; printed = e.printed })
       (record { blocks = k.ran.disk; input = k.ran.left; shown = f.shown; printed = f.printed }) h.by_program k.by_program left also
@@ -239,7 +215,7 @@ module _ (each : TextsAreOne) (files : Contents) (d : Devices) (kernel : KernelL
       }
 
   watches_end : (program lines : List ℕ) (points : List Watched) → FindsPoints program lines (goes points) → (bound : ℕ) (choices : Choices)
-      (out : List ℕ) (record_file : Option (List ℕ)) → EndsOne [] (Watches program points bound choices out record_file)
+      (out : List ℕ) (record_file : Option (List ℕ)) → EndsOne (Watches program points bound choices out record_file)
   watches_end program lines points finds bound choices out record_file s t one other e f shown bytes left also h k =
       let same = runs_leave (text program) bound choices h.ending k.ending h.drawn k.drawn d e f shown bytes left also h.ran k.ran in
       let log : h.log ≡ k.log = one_log program lines points finds (system_on d) bound choices h.log k.log h.log_is k.log_is in record {
@@ -265,49 +241,49 @@ module _ (each : TextsAreOne) (files : Contents) (d : Devices) (kernel : KernelL
   told : IsTold (told_outside files d)
   told = told_is files d
 
-  ends_one : TimelinesAreOne → (c : Command) → is_decided c ≡ true → EndsOne (names_free c) (Comes c)
-  ends_one timelines (words.run file o) decided = does_end [] (RunSteps before file o.choices) (λ a. Runs (text a.0) o.turns a.1 o.record_file)
+  ends_one : TimelinesAreOne → (c : Command) → is_decided c ≡ true → EndsOne (Comes c)
+  ends_one timelines (words.run file o) decided = does_end (RunSteps before file o.choices) (λ a. Runs (text a.0) o.turns a.1 o.record_file)
       (text_steps each before before before told told told file o.choices) (λ a went. runs_end files d kernel (text a.0) o.turns a.1 o.record_file)
-  ends_one timelines (words.replay file choices turns) decided = does_end [] (RunSteps before file (words.file choices)) (λ a. Runs (text a.0) turns a.1 None)
+  ends_one timelines (words.replay file choices turns) decided = does_end (RunSteps before file (words.file choices)) (λ a. Runs (text a.0) turns a.1 None)
       (text_steps each before before before told told told file (words.file choices)) (λ a went. runs_end files d kernel (text a.0) turns a.1 None)
-  ends_one timelines (words.exec file o) decided = does_end [] (ExecSteps before file o.choices) (λ a. Runs (code a.0) o.turns a.1 o.record_file)
+  ends_one timelines (words.exec file o) decided = does_end (ExecSteps before file o.choices) (λ a. Runs (code a.0) o.turns a.1 o.record_file)
       (code_steps each before before before told told told file o.choices) (λ a went. runs_end files d kernel (code a.0) o.turns a.1 o.record_file)
   ends_one timelines (words.boot o) decided = absurd (true≢false (sym decided))
-  ends_one timelines (words.compile file out) decided = does_end (out ∷ []) (TextSteps before file) (λ a. IsDone (KeepsCode out a.0))
-      (compile_steps each before before before told told told file) (λ a went. code_end out a.0)
-  ends_one timelines (words.newdisk blocks None) decided = does_end [] (Ready blocks) (λ n. IsDone (OnlyBlocks (AreNew n))) (ready_one blocks)
+  ends_one timelines (words.compile file out) decided = does_end (TextSteps before file) (λ a. IsDone (KeepsCode out a.0 a.1))
+      (compile_steps each before before before told told told file) (λ a went. code_end out a.0 a.1)
+  ends_one timelines (words.newdisk blocks None) decided = does_end (Ready blocks) (λ n. IsDone (OnlyBlocks (AreNew n))) (ready_one blocks)
       (λ n went. blocks_end (AreNew n) (λ a b h k. (h.1.files ∙ sym k.1.files, h.0 ∙ sym k.0)))
   ends_one timelines (words.newdisk blocks (Some file)) decided =
-      does_end [] (OldSteps before blocks file) (λ old. IsDone (OnlyBlocks (AreMigrated blocks old))) (old_steps each before before before told told told blocks file)
+      does_end (OldSteps before blocks file) (λ old. IsDone (OnlyBlocks (AreMigrated blocks old))) (old_steps each before before before told told told blocks file)
       (λ old went. blocks_end (AreMigrated blocks old) (λ a b h k. (h.1.files ∙ sym k.1.files, h.0 ∙ sym k.0)))
-  ends_one timelines (words.put file title) decided = does_end [] (PutSteps before file title) (λ bytes. IsDone (OnlyBlocks (ArePut title bytes)))
+  ends_one timelines (words.put file title) decided = does_end (PutSteps before file title) (λ bytes. IsDone (OnlyBlocks (ArePut title bytes)))
       (put_steps each before before before told told told file title)
       (λ bytes went. blocks_end (ArePut title bytes) (λ a b h k. (h.1.files ∙ sym k.1.files, h.0 ∙ sym k.0)))
-  ends_one timelines (words.get title file) decided = does_end [] (GetSteps before title) (λ bytes. IsDone (OnlyKeeps ((file, bytes) ∷ [])))
+  ends_one timelines (words.get title file) decided = does_end (GetSteps before title) (λ bytes. IsDone (OnlyKeeps ((file, bytes) ∷ [])))
       (get_steps each before before before told told told title) (λ bytes went. keeps_end ((file, bytes) ∷ []))
-  ends_one timelines (words.list file) decided = does_end [] (ListSteps before file) (λ parts. IsDone (OnlyShows (listing_of parts.words)))
+  ends_one timelines (words.list file) decided = does_end (ListSteps before file) (λ parts. IsDone (OnlyShows (listing_of parts.words)))
       (list_steps each before before before told told told file) (λ parts went. shows_end (listing_of parts.words))
-  ends_one timelines (words.demo n o) decided = does_end [] (DemoSteps before o.choices) (λ choices. Demonstrates n o.turns choices o.record_file)
+  ends_one timelines (words.demo n o) decided = does_end (DemoSteps before o.choices) (λ choices. Demonstrates n o.turns choices o.record_file)
       (demo_steps each before before before told told told o.choices)
       (λ choices went. size_end n (Runs (text (demo_text n)) o.turns choices o.record_file)
       (runs_end files own kernel (text (demo_text n)) o.turns choices o.record_file))
-  ends_one timelines (words.check file) decided = does_end [] (TextSteps before file) (λ a. IsDone (ShowsReport a.1))
+  ends_one timelines (words.check file) decided = does_end (TextSteps before file) (λ a. IsDone (ShowsReport a.1))
       (compile_steps each before before before told told told file) (λ a went. report_end a.1)
-  ends_one timelines (words.explain file) decided = does_end [] (Fetches before file) Explains (fetches_one before told.files file) (λ bytes went. explains_end bytes)
-  ends_one timelines (words.walk file choices turns) decided = does_end [] (RunSteps before file (words.file choices)) (λ a. Walks a.0 turns a.1)
+  ends_one timelines (words.explain file) decided = does_end (Fetches before file) Explains (fetches_one before told.files file) (λ bytes went. explains_end bytes)
+  ends_one timelines (words.walk file choices turns) decided = does_end (RunSteps before file (words.file choices)) (λ a. Walks a.0 turns a.1)
       (text_steps each before before before told told told file (words.file choices)) (λ a went. walks_end a.0 turns a.1)
   ends_one timelines (words.watch file points_file out o) decided =
-      does_end [] (WatchSteps before file points_file o.choices) (λ a. Watches a.0 a.2 o.turns a.1 out o.record_file)
+      does_end (WatchSteps before file points_file o.choices) (λ a. Watches a.0 a.2 o.turns a.1 out o.record_file)
       (watch_steps each before before before told told told file points_file o.choices) (λ a went. let found = (watch_then before file points_file o.choices a went).0.1 in
       watches_end a.0 found.0 a.2 found.1 o.turns a.1 out o.record_file)
   ends_one timelines (words.time file out o) decided =
-      does_end [] (RunSteps before file o.choices) (λ a. Times (text a.0) o.turns a.1 out o.record_file)
+      does_end (RunSteps before file o.choices) (λ a. Times (text a.0) o.turns a.1 out o.record_file)
       (text_steps each before before before told told told file o.choices) (λ a went. times_end files d kernel timelines (text a.0) o.turns a.1 out o.record_file)
   ends_one timelines (words.time_code file out o) decided =
-      does_end [] (ExecSteps before file o.choices) (λ a. Times (code a.0) o.turns a.1 out o.record_file)
+      does_end (ExecSteps before file o.choices) (λ a. Times (code a.0) o.turns a.1 out o.record_file)
       (code_steps each before before before told told told file o.choices) (λ a went. times_end files d kernel timelines (code a.0) o.turns a.1 out o.record_file)
   ends_one timelines (words.time_demo n out o) decided =
-      does_end [] (DemoSteps before o.choices) (λ choices. DemonstratesTimed n o.turns choices out o.record_file)
+      does_end (DemoSteps before o.choices) (λ choices. DemonstratesTimed n o.turns choices out o.record_file)
       (demo_steps each before before before told told told o.choices)
       (λ choices went. size_end n (Times (text (demo_text n)) o.turns choices out o.record_file)
       (times_end files own kernel timelines (text (demo_text n)) o.turns choices out o.record_file))

@@ -204,8 +204,8 @@ module _ (each : TextsAreOne) (before after behind : Outside) (is_told : IsTold 
   explains_one program s t shown bytes kernel other h k =
       let same = shown_of_one program s t h.0 k.0 h.1 k.1 in (same.0, h.2.shown_ ∙ same.1 ∙ sym k.2.shown_)
 
-  code_one : (out bytes_ : List ℕ) → IsOneEffect before after behind (IsDone (KeepsCode out bytes_))
-  code_one out bytes_ s t shown bytes kernel other h k = (h.0 ∙ sym k.0, h.1.keeps.shown_ ∙ sym k.1.keeps.shown_)
+  code_one : (out bytes_ : List ℕ) (unit : ProgramUnit) → IsOneEffect before after behind (IsDone (KeepsCode out bytes_ unit))
+  code_one out bytes_ unit s t shown bytes kernel other h k = (h.0 ∙ sym k.0, h.1.keeps.shown_ ∙ sym k.1.keeps.shown_)
 
   walks_one : (program : List ℕ) (bound : ℕ) (choices : Choices) → IsOneEffect before after behind (Walks program bound choices)
   walks_one program bound choices s t shown bytes kernel other h k =
@@ -275,7 +275,7 @@ module _ (each : TextsAreOne) (before after behind : Outside) (is_told : IsTold 
   comes_one (words.exec file o) decided = does_one before after behind (ExecSteps before file o.choices)
       (λ a. Runs (code a.0) o.turns a.1 o.record_file) (code_steps file o.choices) (λ a went. runs_one (code a.0) o.turns a.1 o.record_file)
   comes_one (words.compile file out) decided = does_one before after behind (TextSteps before file)
-      (λ a. IsDone (KeepsCode out a.0)) (compile_steps file) (λ a went. code_one out a.0)
+      (λ a. IsDone (KeepsCode out a.0 a.1)) (compile_steps file) (λ a went. code_one out a.0 a.1)
   comes_one (words.newdisk blocks None) decided = does_one before after behind (Ready blocks)
       (λ n. IsDone (OnlyBlocks (AreNew n))) (ready_one blocks) (λ n went. blocks_one (AreNew n))
   comes_one (words.newdisk blocks (Some file)) decided = does_one before after behind (OldSteps before blocks file)

@@ -267,8 +267,9 @@ module _ (b m : Outside) (y : Option (List ℕ)) (still : StillTold m.shown y) w
       → OnlyBlocks P seen_now now shown kernel
   blocks_later P shown kernel h = search h
 
-  pub code_later : (out bytes shown : List ℕ) (kernel : Lent) → KeepsCode out bytes seen_then m shown kernel → KeepsCode out bytes seen_now now shown kernel
-  code_later out bytes shown kernel h = record { parts = h.parts; code_is = h.code_is; keeps = keeps_later _ shown kernel h.keeps }
+  pub code_later : (out bytes : List ℕ) (unit : ProgramUnit) (shown : List ℕ) (kernel : Lent) → KeepsCode out bytes unit seen_then m shown kernel
+      → KeepsCode out bytes unit seen_now now shown kernel
+  code_later out bytes unit shown kernel h = record { code_is = h.code_is; keeps = keeps_later _ shown kernel h.keeps }
 
   pub shows_later : (bytes shown : List ℕ) (kernel : Lent) → OnlyShows bytes seen_then m shown kernel → OnlyShows bytes seen_now now shown kernel
   shows_later bytes shown kernel h = record {
@@ -316,9 +317,10 @@ module _ (b m : Outside) (y : Option (List ℕ)) (still : StillTold m.shown y) w
     next = h.next;
     calls = h.calls;
     asks = h.asks;
+    left = h.left;
     at = elim h.at [
       | inl first ↦ inl (at_silent h.before shown d e bytes first)
-      | inr then_ ↦ inr (at_silent h.next shown d e bytes then_)
+      | inr then_ ↦ inr (then_.0, at_silent h.next shown d e bytes then_.1)
     ];
   }
 

@@ -17,6 +17,7 @@ use Rattle.edi_image.specs.NoFiles.{no_files}
 use Rattle.edi_image.specs.Image.{Holds, slots_of}
 use Rattle.edi_image.specs.migrate.OldImage.{old_slots_of}
 use Rattle.edi_image.specs.migrate.MigratedSlots.{migrated_slots}
+use Rattle.edi_scheme.specs.Laws.{parts_of}
 use Rattle.edi_target.specs.Check.{CodeParts}
 use Rattle.edi_target.specs.File.{code_bytes}
 use Rattle.edi_unit.specs.Tree.{ProgramUnit}
@@ -199,11 +200,10 @@ pub record Watches (bytes : List ℕ) (points : List Watched) (bound : ℕ) (cho
   pub log_is : IsLog bytes points bound choices before after log
   pub keeps : Keeps before after ((out, log) ∷ record_of record_file choices drawn)
 
--- any code that may be made of the text is kept
-pub record KeepsCode (out bytes : List ℕ) (before after : Outside) (shown : List ℕ) (kernel : Lent) : Type 0 where
-  pub parts : CodeParts
-  pub code_is : IsCodeFor bytes parts
-  pub keeps : OnlyKeeps ((out, code_bytes parts) ∷ []) before after shown kernel
+-- the code of the text's unit is kept, which does what the text does
+pub record KeepsCode (out bytes : List ℕ) (unit : ProgramUnit) (before after : Outside) (shown : List ℕ) (kernel : Lent) : Type 0 where
+  pub code_is : IsCodeFor bytes (parts_of unit)
+  pub keeps : OnlyKeeps ((out, code_bytes (parts_of unit)) ∷ []) before after shown kernel
 
 -- ---- the demonstration
 
@@ -284,7 +284,7 @@ Comes (words.exec file o) s before after shown kernel =
 Comes (words.boot o) s before after shown kernel =
     Does (BootSteps before o.choices) (λ choices s b a shown k. HoldsSession o.turns choices o.record_file s b a shown) s before after shown kernel
 Comes (words.compile file out) s before after shown kernel =
-    Does (TextSteps before file) (λ a. IsDone (KeepsCode out a.0)) s before after shown kernel
+    Does (TextSteps before file) (λ a. IsDone (KeepsCode out a.0 a.1)) s before after shown kernel
 Comes (words.newdisk blocks None) s before after shown kernel =
     Does (Ready blocks) (λ n. IsDone (OnlyBlocks (AreNew n))) s before after shown kernel
 Comes (words.newdisk blocks (Some file)) s before after shown kernel =

@@ -180,8 +180,8 @@ pub record MayBeImage (count : ℕ) : Type 0 where
   pub least : 0 < count → count < 64 → ⊥
   pub most : count ≤ 4096
 
--- The number of blocks of a drive that is mounted: a broken rule of the image fits it, and behind the mount it is one of an image. A
--- fault of an object and want of memory may come before the mount, and a fault of the output stands for every status.
+-- The number of blocks of a drive that is mounted: a broken rule of the image fits it; where the drive has failed, and behind the mount, it
+-- is one of an image. A fault of the files and want of memory may come before the mount, and a fault of the output stands for every status.
 abbrev pub FitsCount : Status → (count : ℕ) → Type 0
 FitsCount (status.BadImage broken) count = IsOfCount count broken
 FitsCount status.Ok count = MayBeImage count
@@ -192,6 +192,7 @@ FitsCount (status.BadState address) count = MayBeImage count
 FitsCount status.SessionLimit count = MayBeImage count
 FitsCount status.DiskFull count = MayBeImage count
 FitsCount status.InputFault count = MayBeImage count
+FitsCount status.DriveFault count = MayBeImage count
 FitsCount s count = ⊤
 
 -- so for `get`, which looks for the title and keeps the file on a mounted drive

@@ -1,9 +1,10 @@
 -- Definition. What a command leaves that has run a program.
-use Rattle.std.specs.Prelude.{◌≡◌, ◌⊎◌, ℕ, min, List, [], ◌∷◌, Option, Some, None, ⊤}
+use Rattle.std.specs.Prelude.{◌≡◌, ◌⊎◌, ◌<◌, ℕ, min, List, [], ◌∷◌, length, Option, Some, None, ⊤, true}
 use Rattle.edi_told.specs.Told.{WhereTold}
 use Rattle.edi_calls.specs.declared.ends.Outside as failing
+use Rattle.edi_calls.specs.declared.ends.Outside.TheVariants as object
 use Rattle.edi_calls.specs.declared.kinds.Cause.TheVariants as cause
-use Rattle.edi_calls.specs.Asked.{Asks}
+use Rattle.edi_calls.specs.Asked.{may_have_done, Asks}
 use Rattle.edi_calls.specs.Choice.{Choices, first_choices}
 use Rattle.edi_calls.specs.Outcome as outcome
 use Rattle.edi_calls.specs.Outcome.{Ending, Outcome}
@@ -63,9 +64,7 @@ abbrev pub StoreIs : Ending → (memory words : List ℕ) → Type 0
 StoreIs outcome.done memory words = words ≡ memory
 StoreIs (outcome.halted line) memory words = words ≡ memory
 StoreIs (outcome.failed why line) memory words = words ≡ memory
-StoreIs outcome.turns memory words = ⊤
-StoreIs outcome.standstill memory words = ⊤
-StoreIs (outcome.bad address) memory words = ⊤
+StoreIs other memory words = ⊤
 
 -- The kernel stands as the machine left it that ran such a code of the program: it used the turns of the outcome.
 pub record KernelRan (program : Runnable) (system : State) (bound : ℕ) (choices : Choices) (o : Outcome) (kernel : KernelLeft) : Type 0 where
@@ -97,7 +96,8 @@ Ran program bound choices ending drawn before after shown kernel =
 -- ---- where an object outside has failed in the midst of them
 
 -- The execution was broken off in a call that uses the object which is blamed, and whose fault this status is. The devices are as they were before that
--- call, or as it was to leave them: a change of the files in which the drive failed may have been made.
+-- call, or as it was to leave them: a change of the files in which the drive failed may have been made. Where the input has failed, they are as before
+-- it: no byte is taken, and one is left.
 pub record FailedAt (s : Status) (blamed : Option failing.Outside) (Calls : State → State → Type 0) (d e : Devices) (shown : List ℕ) : Type 0 where
   pub failed : failing.Outside
   pub blamed_is : blamed ≡ Some failed
@@ -106,7 +106,8 @@ pub record FailedAt (s : Status) (blamed : Option failing.Outside) (Calls : Stat
   pub next : State
   pub calls : Calls before next
   pub asks : Asks failed before next
-  pub at : DevicesAreAt before d e shown ⊎ DevicesAreAt next d e shown
+  pub left : failed ≡ object.Input → 0 < length before.input
+  pub at : DevicesAreAt before d e shown ⊎ ((may_have_done failed ≡ true) × DevicesAreAt next d e shown)
 
 abbrev pub BrokeRun : Status → (blamed : Option failing.Outside) → Runnable → (bound : ℕ) → Choices → Outside → Outside → (shown : List ℕ) → Type 0
 BrokeRun s blamed program bound choices before after shown =

@@ -52,17 +52,17 @@ pub record OnlyTakes (P : List ℕ → List ℕ → Type 0) (before after : Outs
 abbrev pub IsTooLong : List ℕ → List ℕ → Type 0
 IsTooLong old new = (most_input < length old) × (new ≡ drop (suc most_input) old)
 
--- the input has more bytes than it may have, and the program names `accept`
-abbrev pub ExceedsInput : ProgramUnit → Outside → Outside → (shown : List ℕ) → Lent → Type 0
-ExceedsInput unit before after shown kernel = (names_accept unit ≡ true) × OnlyTakes IsTooLong before after shown kernel
-
 -- Some first bytes of an input were taken, at most one more than it may have.
 abbrev pub LosesSome : List ℕ → List ℕ → Type 0
 LosesSome old new = (taken : ℕ) × (taken ≤ suc most_input) × (new ≡ drop taken old)
 
--- some first bytes of the input were taken, and nothing else was done; the program names `accept`
-abbrev pub LosesInput : ProgramUnit → Outside → Outside → (shown : List ℕ) → Lent → Type 0
-LosesInput unit before after shown kernel = (names_accept unit ≡ true) × OnlyTakes LosesSome before after shown kernel
+-- An input has failed at a byte that is still left, at most one more than it may have: the bytes before that byte were taken, and no other.
+abbrev pub FailsIn : List ℕ → List ℕ → Type 0
+FailsIn old new = (taken : ℕ) × (taken ≤ most_input) × (taken < length old) × (new ≡ drop taken old)
+
+-- the program names `accept`, and its input is as P says, with nothing else done
+abbrev pub OnlyAccepts : (P : List ℕ → List ℕ → Type 0) → ProgramUnit → Outside → Outside → (shown : List ℕ) → Lent → Type 0
+OnlyAccepts P unit before after shown kernel = (names_accept unit ≡ true) × OnlyTakes P before after shown kernel
 
 -- ---- the exploration
 
@@ -85,7 +85,7 @@ pub record Explores (bytes : List ℕ) (unit : ProgramUnit) (o : ExploreOptions)
 -- so, or the input is too long
 abbrev pub ExploresText : (bytes : List ℕ) → ProgramUnit → ExploreOptions → Status → Outside → Outside → (shown : List ℕ) → Lent → Type 0
 ExploresText bytes unit o s before after shown kernel =
-    Explores bytes unit o s before after shown ⊎ ((s ≡ status.InputLimit) × ExceedsInput unit before after shown kernel)
+    Explores bytes unit o s before after shown ⊎ ((s ≡ status.InputLimit) × OnlyAccepts IsTooLong unit before after shown kernel)
 
 -- ---- where it was broken off
 
@@ -137,5 +137,5 @@ pub record ExploredUnshown (unit : ProgramUnit) (before after : Outside) (shown 
 -- Memory ran out: while the input was read, before the lines were shown, or at a file that was to be kept.
 abbrev pub ExploredInPart : (bytes : List ℕ) → ProgramUnit → ExploreOptions → Outside → Outside → (shown : List ℕ) → Lent → Type 0
 ExploredInPart bytes unit o before after shown kernel =
-    LosesInput unit before after shown kernel
+    OnlyAccepts LosesSome unit before after shown kernel
     ⊎ (ExploredUnshown unit before after shown ⊎ ExploredThen KeepsFirst bytes unit o before after shown)

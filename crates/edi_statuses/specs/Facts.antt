@@ -17,7 +17,7 @@ use Rattle.edi_statuses.specs.Broken.{RanWhole, RanUnkept, AtRecord, HasNotBegun
 use Rattle.edi_statuses.specs.Broken.{ShowsFront, ShowsReportFront, ExplainsFront}
 use Rattle.edi_statuses.specs.Broken.{HasBegun, WentOn, RunAsks, ExecAsks, WatchAsks, WatchedLost, WatchedUnkept}
 use Rattle.edi_statuses.specs.Walked.{BrokeWalk, FailedWalk}
-use Rattle.edi_statuses.specs.Explored.{ExploredFront, ExploredInPart, ExploredThen, LosesInput, LosesNext, names_of_records}
+use Rattle.edi_statuses.specs.Explored.{ExploredFront, ExploredInPart, ExploredThen, FailsIn, LosesNext, OnlyAccepts, names_of_records}
 use Rattle.edi_statuses.specs.Timelines.{TimedInPart, TimedLost, timeline_names}
 
 -- ---- facts
@@ -265,7 +265,7 @@ facts_of (words.explore file o) = record plain {
       IsNothing before after shown kernel
       ⊎ HasBegun (TextSteps before file) (λ a. ExploredInPart a.0 a.1 o before after shown kernel);
   files_failed = λ before after shown kernel. HasBegun (TextSteps before file) (λ a. ExploredThen LosesNext a.0 a.1 o before after shown);
-  input_failed = λ before after shown kernel. HasBegun (TextSteps before file) (λ a. LosesInput a.1 before after shown kernel);
+  input_failed = λ before after shown kernel. HasBegun (TextSteps before file) (λ a. OnlyAccepts FailsIn a.1 before after shown kernel);
   output_failed = λ before after shown kernel. HasBegun (TextSteps before file) (λ a. ExploredFront a.0 a.1 o before after shown);
 }
 facts_of (words.time file out o) =

@@ -1,24 +1,18 @@
 -- Words of contracts. The law that told contents decide all that a command leaves.
-use Rattle.std.specs.Prelude.{◌≡◌, ℕ, true, List, [], ◌∷◌, length}
+use Rattle.std.specs.Prelude.{◌≡◌, ℕ, true, List, length}
 use Rattle.edi_host.specs.Contents.{Contents}
 use Rattle.edi_image.specs.Image.{slots_of}
-use Rattle.edi_words.specs.Words as words
 use Rattle.edi_words.specs.Words.{Command}
 use Rattle.edi_statuses.specs.declared.status.Status.{Status}
-use Rattle.edi_statuses.specs.Outside.{Devices, KernelLeft, without_names}
+use Rattle.edi_statuses.specs.Outside.{Devices, KernelLeft}
 use Rattle.edi_statuses.specs.Commands.{Comes}
 use Rattle.edi_statuses.specs.Decided.{is_decided}
 use Rattle.edi_statuses.specs.Always.{lent_from, told_outside}
 
--- The files of whose bytes nothing is said: of a text any code may be kept that may be made of it.
-abbrev pub names_free : Command → List (List ℕ)
-names_free (words.compile file out) = out ∷ []
-names_free c = []
-
--- Two calls have left the same: the same files, but for those of these names; as many blocks with the same files on them, wherever these lie; the
--- same input, and the same bytes printed; and each run has taken as many turns. The record of a run tells its choices, and so how many were drawn.
-pub record LeaveSame (names : List (List ℕ)) (files other_files : Contents) (d other : Devices) (left other_left : KernelLeft) : Type 0 where
-  pub files_ : without_names names files ≡ without_names names other_files
+-- Two calls have left the same: the same files of the host; as many blocks with the same files on them, wherever these lie; the same input, and the
+-- same bytes printed; and each run has taken as many turns. The record of a run tells its choices, and so how many were drawn.
+pub record LeaveSame (files other_files : Contents) (d other : Devices) (left other_left : KernelLeft) : Type 0 where
+  pub files_ : files ≡ other_files
   pub slots : slots_of d.blocks ≡ slots_of other.blocks
   pub count : length d.blocks ≡ length other.blocks
   pub input : d.input ≡ other.input
@@ -33,4 +27,4 @@ OneEnd =
     → is_decided c ≡ true
     → Comes c s (told_outside files d) (told_outside one e) shown (lent_from kernel left)
     → Comes c t (told_outside files d) (told_outside other f) bytes (lent_from kernel also)
-    → LeaveSame (names_free c) one other e f left also
+    → LeaveSame one other e f left also

@@ -31,7 +31,7 @@ pub record BrokeWalk (bytes : List ℕ) (bound : ℕ) (choices : Choices) (befor
   pub kernel_same : kernel.after ≡ kernel.before
 
 -- The walk was broken off in a call that the object has failed which is blamed, and whose fault this status is. The devices are as they were before that call,
--- or as it was to leave them.
+-- or, unless it is the input, as it was to leave them.
 pub record FailedWalk (s : Status) (bytes : List ℕ) (bound : ℕ) (choices : Choices) (before after : Outside) (shown : List ℕ) (kernel : Lent) : Type 0 where
   pub at : WhereTold (devices_of before) (devices_of after) (λ d e. FailedAt s kernel.failed (IsCallOfWalk bytes (system_on d) bound choices) d e shown)
   pub files : SameFiles before after

@@ -1,6 +1,6 @@
 //! Showing bytes, and the line of a status behind them.
 
-ghost use Rattle.std.specs.Prelude.{◌≡◌, ◌≢◌, ◌⊎◌, ◌≤◌, None};
+ghost use Rattle.std.specs.Prelude.{◌≡◌, ◌≢◌, ◌⊎◌, ◌≤◌, [], None};
 ghost use Rattle.edi_told.specs.Faults.{CountRose};
 ghost use Rattle.edi_statuses.specs.Lines.{closing_line as line_for, text_of};
 ghost use Rattle.edi_statuses.specs.Showing.{ClosesWith, due_behind, ShowsBytes};
@@ -40,12 +40,20 @@ fn is_due_after(due: bool, bytes: &[u8]) -> bool
 }
 
 /// Shows bytes on the terminal. Answers `Ok`, or that the output has failed where not all of them could be shown; and whether a line
-/// feed is due behind those that were shown, where it was due before them or not. Takes no memory.
+/// feed is due behind those that were shown, where it was due before them or not. Where there are none, it asks the terminal nothing, which could
+/// fail. Takes no memory.
 pub fn show_bytes<T: Sink>(terminal: &mut T, bytes: &[u8], due: bool) -> Ended
     ensures shows { ShowsBytes bytes.now due result (T.taken terminal.old) (T.taken terminal.new) }
+    ensures nothing { bytes.now ≡ [] → result.status ≡ Status.Ok }
     ensures cause { result.status ≡ Status.OutputFault → CountRose (T.faults terminal.old) (T.faults terminal.new) }
     ensures later { T.faults terminal.old ≤ T.faults terminal.new }
 {
+    if bytes.is_empty() {
+        return Ended {
+            status: Status::Ok,
+            due,
+        };
+    }
     let put = terminal.put(bytes);
     let (front, _) = bytes.split_at(put.taken);
     let due = is_due_after(due, front);

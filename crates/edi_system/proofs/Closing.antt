@@ -135,7 +135,7 @@ module _ {D S T P X : Type 0} (before after : System D S T P) (answer : Result X
       go (inr fault) =
           subst (λ r. Reaches (gives 1 (stored title bytes index (state_with before b i s p))) (done r) (state_with before b i s p)
           (state_with after b' i s p)) (sym fault) (record {
-            input = inl refl;
+            input = refl;
             shown = inl refl;
             printed = inl refl;
             slots = subst (λ r. Slots r (put_slot (slots_of b) index (Some (text_file title bytes))) b b') fault slots;
@@ -167,7 +167,7 @@ module _ {D S T P X : Type 0} (before after : System D S T P) (answer : Result X
       go (inr fault) =
           subst (λ r. Reaches (gives 1 (with_slot (state_with before b i s p) title index None)) (done r) (state_with before b i s p)
           (state_with after b' i s p)) (sym fault) (record {
-            input = inl refl;
+            input = refl;
             shown = inl refl;
             printed = inl refl;
             slots = subst (λ r. Slots r (put_slot (slots_of b) index None) b b') fault slots;

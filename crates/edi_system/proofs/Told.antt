@@ -1,5 +1,6 @@
 -- What four objects tell together, over one call.
 use Rattle.std.proofs.Common.{◌≡◌, Option, Some, None, sym, ap, ◌∙◌}
+use Rattle.std.specs.Prelude.{IfSome}
 use Rattle.edi_told.specs.Told.{WhereTold}
 use Rattle.edi_system.specs.State.{all_told}
 
@@ -13,6 +14,12 @@ pub told_map : {A : Type 0} (P Q : A → A → Type 0) (a b : Option A) → ((x 
 told_map P Q a None so p = tt
 told_map P Q None (Some y) so p = absurd p
 told_map P Q (Some x) (Some y) so p = so x y p
+
+-- and what is so of the end
+pub told_with : {A : Type 0} (P : A → A → Type 0) (Q : A → Type 0) (a b : Option A) → IfSome b Q → WhereTold a b P → WhereTold a b (λ x y. P x y × Q y)
+told_with P Q a None so p = tt
+told_with P Q None (Some y) so p = absurd p
+told_with P Q (Some x) (Some y) so p = (p, so)
 
 -- what is told of four objects is told of all together
 pub told_together : {A B C E X : Type 0} (make make' : A → B → C → E → X) (a a' : Option A) (b b' : Option B) (c c' : Option C) (e e' : Option E)

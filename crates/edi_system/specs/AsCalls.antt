@@ -1,8 +1,9 @@
 -- Words of contracts. What a system is to the calls of a program.
-use Rattle.std.specs.Prelude.{◌≡◌, ℕ, ◌≤◌, Bool, true, false, List, [], ◌∷◌, drop, length, Option, None, IfSome}
+use Rattle.std.specs.Prelude.{◌≡◌, ℕ, ◌<◌, ◌≤◌, Bool, true, false, List, [], ◌∷◌, drop, length, Option, None, IfSome, ⊤}
 use Rattle.edi_told.specs.Told.{WhereTold}
 use Rattle.edi_disk.specs.Shown.{reference_of}
 use Rattle.edi_calls.specs.declared.ends.Outside.{Outside}
+use Rattle.edi_calls.specs.declared.ends.Outside.TheVariants as outside
 use Rattle.edi_calls.specs.Asked.{uses}
 use Rattle.edi_catalog.specs.Mounted.{disk_of, room_reference}
 use Rattle.edi_system.specs.State.{buffer_reference, catalog_in, drive_in, due_in, failed_in, input_in, input_reference, printer_in, printer_reference}
@@ -12,15 +13,26 @@ use Rattle.edi_system.specs.Parts.{due_after, IsValid}
 use Rattle.edi_system.specs.Growing.{Grows, Shrinks}
 use Rattle.edi_system.specs.declared.system.System.{System}
 
--- This is the object that has failed. Where none has, a call may be made.
-pub record HasFailed {D S T P : Type 0} (contents : D → Option (List (List ℕ))) (count : D → ℕ) (system : System D S T P) (outside : Option Outside) : Type 0
-  where
-    pub is : failed_in system ≡ outside
-    pub ready : outside ≡ None → IsReady contents count system
+-- an input that fails has a byte left: at its end it always answers that it has ended
+abbrev pub LeavesByte : Outside → (input : List ℕ) → Type 0
+LeavesByte outside.Input input = 0 < length input
+LeavesByte other input = ⊤
 
--- what has failed, if anything has, is an object that the call of this number uses
-abbrev pub FailsUsed : {D S T P : Type 0} → (number : ℕ) → System D S T P → Type 0
-FailsUsed number system = IfSome (failed_in system) (λ outside. uses number outside ≡ true)
+-- This is the object that has failed, and an input not at its end, where that is told. Where none has, a call may be made.
+pub record HasFailed {D S T P : Type 0} (contents : D → Option (List (List ℕ))) (count : D → ℕ) (left : S → Option (List ℕ)) (system : System D S T P)
+    (outside : Option Outside) : Type 0 where
+  pub is : failed_in system ≡ outside
+  pub before_end : IfSome outside (λ o. IfSome (left (input_in system)) (LeavesByte o))
+  pub ready : outside ≡ None → IsReady contents count system
+
+-- so of whatever has failed in the system
+abbrev pub FailsBeforeEnd : {D S T P : Type 0} → (left : S → Option (List ℕ)) → System D S T P → Type 0
+FailsBeforeEnd left system = IfSome (failed_in system) (λ outside. IfSome (left (input_in system)) (LeavesByte outside))
+
+-- what has failed, if anything has, is an object that the call of this number uses, and an input not at its end
+abbrev pub FailsUsed : {D S T P : Type 0} → (left : S → Option (List ℕ)) → (number : ℕ) → System D S T P → Type 0
+FailsUsed left number system =
+    IfSome (failed_in system) (λ outside. (uses number outside ≡ true) × IfSome (left (input_in system)) (LeavesByte outside))
 
 -- the references to its objects: the drive, the room of the catalogue, the input, the terminal, the printer and the buffer
 abbrev pub references_in : {D S T P : Type 0} → System D S T P → List ℕ

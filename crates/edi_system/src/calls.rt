@@ -26,8 +26,8 @@ impl<D: Drive, S: Source, T: Sink, P: Sink> System<'_, '_, '_, '_, '_, '_, D, S,
             (λ before after. Reaches (call number args.now before) result before after) }
         // What it leaves of the open files and of the kept catalogue, and the objects that it uses: also where none is told.
         ensures does { Does D.contents D.count S.left T.taken P.taken number args.now result self.old self.new }
-        // Where it is a fault, only an object has failed that the call uses.
-        ensures used { FailsUsed number self.new }
+        // Where it is a fault, only an object has failed that the call uses, and an input not at its end.
+        ensures used { FailsUsed S.left number self.new }
         ensures untouched { result ≡ Err Stop.NoFile → self.new ≡ self.old }
         ensures ready { is_fault result ≡ false → IsReady D.contents D.count self.new }
         ensures told { KeepsTold D.contents S.left T.taken P.taken self.old self.new }
@@ -58,7 +58,7 @@ impl<'d, 'c, 'i, 't, 'p, 'b, D: Drive, S: Source, T: Sink, P: Sink> Calls
 
     ghost faults = { λ system. faults_of D.faults S.faults T.faults P.faults system };
 
-    ghost failed = { λ system outside. HasFailed D.contents D.count system outside };
+    ghost failed = { λ system outside. HasFailed D.contents D.count S.left system outside };
 
     ghost references = { λ system. references_in system };
 

@@ -29,7 +29,7 @@ impl<D: Drive, S: Source, T: Sink, P: Sink> System<'_, '_, '_, '_, '_, '_, D, S,
         ensures exact { WhereTold (state_of D.contents S.left T.taken P.taken self.old) (state_of D.contents S.left T.taken P.taken self.new)
             (λ before after. Reaches (find words.now before) result before after) }
         ensures only { OnlyOpenFiles self.old self.new }
-        ensures used { FailsUsed 4 self.new }
+        ensures used { FailsUsed S.left 4 self.new }
         ensures found { self.new.found ≡ text_spelled words.now (files_of (catalog_in self.old)) }
         ensures answer { result ≡ Ok (Some (word_of (is_some self.new.found))) }
         ensures buffer { buffer_in self.new ≡ buffer_in self.old }
@@ -84,7 +84,7 @@ impl<D: Drive, S: Source, T: Sink, P: Sink> System<'_, '_, '_, '_, '_, '_, D, S,
         ensures exact { WhereTold (state_of D.contents S.left T.taken P.taken self.old) (state_of D.contents S.left T.taken P.taken self.new)
             (λ before after. Reaches (more before) result before after) }
         ensures needs { NeedsFile D.contents D.count result self.old self.new }
-        ensures used { FailsUsed 5 self.new }
+        ensures used { FailsUsed S.left 5 self.new }
         ensures tells { IfOk result (λ word. MoreIs word self.old.found self.new.found) }
         ensures untouched { result ≡ Err Stop.NoFile → self.new ≡ self.old }
         ensures ready { is_fault result ≡ false → IsReady D.contents D.count self.new }
@@ -103,7 +103,7 @@ impl<D: Drive, S: Source, T: Sink, P: Sink> System<'_, '_, '_, '_, '_, '_, D, S,
         ensures exact { WhereTold (state_of D.contents S.left T.taken P.taken self.old) (state_of D.contents S.left T.taken P.taken self.new)
             (λ before after. Reaches (read before) result before after) }
         ensures needs { NeedsFile D.contents D.count result self.old self.new }
-        ensures used { FailsUsed 6 self.new }
+        ensures used { FailsUsed S.left 6 self.new }
         ensures moves { IfOk result (λ word. ReadsOn word self.new.page self.old.found self.new.found) }
         ensures untouched { result ≡ Err Stop.NoFile → self.new ≡ self.old }
         ensures ready { is_fault result ≡ false → IsReady D.contents D.count self.new }

@@ -146,7 +146,7 @@ impl<D: Drive, S: Source, T: Sink, P: Sink> System<'_, '_, '_, '_, '_, '_, D, S,
         ensures asks { AsksOnly result }
         ensures accepts { WhereTold (S.left (input_in self.old)) (S.left (input_in self.new)) (AcceptsByte result) }
         ensures only { OnlyInput self.old self.new }
-        ensures used { FailsUsed 1 self.new }
+        ensures used { FailsUsed S.left 1 self.new }
         ensures untouched { result ≡ Err Stop.NoFile → self.new ≡ self.old }
         ensures ready { is_fault result ≡ false → IsReady D.contents D.count self.new }
         ensures told { KeepsTold D.contents S.left T.taken P.taken self.old self.new }
@@ -167,7 +167,7 @@ impl<D: Drive, S: Source, T: Sink, P: Sink> System<'_, '_, '_, '_, '_, '_, D, S,
         ensures tells { TellsOnly result }
         ensures shows { Shows T.taken (not (is_fault result)) (word % 128 ∷ []) self.old self.new }
         ensures only { OnlyTerminal self.old self.new }
-        ensures used { FailsUsed 2 self.new }
+        ensures used { FailsUsed S.left 2 self.new }
         ensures untouched { result ≡ Err Stop.NoFile → self.new ≡ self.old }
         ensures ready { is_fault result ≡ false → IsReady D.contents D.count self.new }
         ensures told { KeepsTold D.contents S.left T.taken P.taken self.old self.new }
@@ -188,7 +188,7 @@ impl<D: Drive, S: Source, T: Sink, P: Sink> System<'_, '_, '_, '_, '_, '_, D, S,
         ensures tells { TellsOnly result }
         ensures prints { Prints P.taken (not (is_fault result)) (word % 128 ∷ []) self.old self.new }
         ensures only { OnlyPrinter self.old self.new }
-        ensures used { FailsUsed 3 self.new }
+        ensures used { FailsUsed S.left 3 self.new }
         ensures untouched { result ≡ Err Stop.NoFile → self.new ≡ self.old }
         ensures ready { is_fault result ≡ false → IsReady D.contents D.count self.new }
         ensures told { KeepsTold D.contents S.left T.taken P.taken self.old self.new }

@@ -42,7 +42,7 @@ impl<D: Drive, S: Source, T: Sink, P: Sink> System<'_, '_, '_, '_, '_, '_, D, S,
         ensures begins { (result ≡ Ok None) × (buffer_in self.new ≡ Some []) }
         ensures found { self.new.found ≡ self.old.found }
         ensures only { OnlyOpenFiles self.old self.new }
-        ensures used { FailsUsed 7 self.new }
+        ensures used { FailsUsed S.left 7 self.new }
         ensures ready { IsReady D.contents D.count self.new }
         ensures told { KeepsTold D.contents S.left T.taken P.taken self.old self.new }
         ensures stays { KeepsSystem D.count T.taken D.faults S.faults T.faults P.faults (is_fault result) self.old self.new }
@@ -60,7 +60,7 @@ impl<D: Drive, S: Source, T: Sink, P: Sink> System<'_, '_, '_, '_, '_, '_, D, S,
         ensures answer { IfOk result (λ answer. answer ≡ None) }
         ensures found { self.new.found ≡ self.old.found }
         ensures only { OnlyOpenFiles self.old self.new }
-        ensures used { FailsUsed 8 self.new }
+        ensures used { FailsUsed S.left 8 self.new }
         ensures untouched { result ≡ Err Stop.NoFile → self.new ≡ self.old }
         ensures ready { IsReady D.contents D.count self.new }
         ensures told { KeepsTold D.contents S.left T.taken P.taken self.old self.new }
@@ -81,7 +81,7 @@ impl<D: Drive, S: Source, T: Sink, P: Sink> System<'_, '_, '_, '_, '_, '_, D, S,
         ensures no_file { (result ≡ Err Stop.NoFile) ↔ (buffer_in self.old ≡ None) }
         ensures stores { IfSome (buffer_in self.old) (λ bytes. Closes D.contents D.count result (title_of words.now) bytes self.old self.new) }
         ensures only { OnlyFiles self.old self.new }
-        ensures used { FailsUsed 9 self.new }
+        ensures used { FailsUsed S.left 9 self.new }
         ensures untouched { result ≡ Err Stop.NoFile → self.new ≡ self.old }
         ensures ready { is_fault result ≡ false → IsReady D.contents D.count self.new }
         ensures told { KeepsTold D.contents S.left T.taken P.taken self.old self.new }
@@ -111,7 +111,7 @@ impl<D: Drive, S: Source, T: Sink, P: Sink> System<'_, '_, '_, '_, '_, '_, D, S,
             (λ before after. Reaches (remove words.now before) result before after) }
         ensures removes { Removes D.contents D.count result (title_of words.now) self.old self.new }
         ensures only { OnlyFiles self.old self.new }
-        ensures used { FailsUsed 10 self.new }
+        ensures used { FailsUsed S.left 10 self.new }
         ensures ready { is_fault result ≡ false → IsReady D.contents D.count self.new }
         ensures told { KeepsTold D.contents S.left T.taken P.taken self.old self.new }
         ensures stays { KeepsSystem D.count T.taken D.faults S.faults T.faults P.faults (is_fault result) self.old self.new }

@@ -1,8 +1,7 @@
 -- What a timeline and the seats get of a stint.
 use Rattle.std.proofs.Common.{◌≡◌, ℕ, suc, Bool, true, false, nat_le, nat_lt, if◌then◌else◌, List, [], ◌∷◌, ◌++◌, drop, Option, Some, None}
-use Rattle.std.proofs.Common.{refl, ap, sym, ◌∙◌, subst, arith}
+use Rattle.std.proofs.Common.{refl, ap, sym, ◌∙◌, subst}
 use Rattle.std.specs.Prelude.{◌&&◌}
-use Rattle.std.proofs.lemmas.Bool.{leb-true}
 use Rattle.edi_machine.specs.declared.activity.Activity.{Activity}
 use Rattle.edi_kernel.specs.declared.ends.Ending.{Ending}
 use Rattle.edi_kernel.specs.declared.ends.Ending.TheVariants as ending
@@ -21,7 +20,7 @@ use Rattle.edi_timed.specs.declared.seats.Seated.{Seated}
 use Rattle.edi_timed.specs.declared.leaving.Begun.{Begun}
 use Rattle.edi_timed.specs.Ran.{is_spot, place}
 use Rattle.edi_timed.specs.Seats.{Fits, Fitting, seat_at, seats_after}
-use Rattle.edi_timed.specs.Leaving.{AddsBy, arrived_at, ending_at, is_fault, left_at, spot_in}
+use Rattle.edi_timed.specs.Leaving.{AddsBy, arrived_at, is_fault, left_at, spot_in}
 use Rattle.edi_timed.proofs.Seating.{fits_after, seat_fits}
 
 -- ---- endings

@@ -1,6 +1,6 @@
 -- Rounds of a timed run whose timeline is full: their stints are only counted.
-use Rattle.std.proofs.Common.{◌≡◌, ◌≤◌, ◌<◌, ℕ, zero, suc, ◌+◌, ◌-◌, Bool, true, false, nat_le, List, length, Option, Some, None, refl, sym, ap, ◌∙◌, subst, arith}
-use Rattle.std.specs.Prelude.{IsSome, nat_lt, replicate}
+use Rattle.std.proofs.Common.{◌≡◌, ◌≤◌, ◌<◌, ℕ, zero, suc, ◌+◌, ◌-◌, true, false, nat_le, List, length, Option, Some, None, refl, sym, ap, ◌∙◌, subst, arith}
+use Rattle.std.specs.Prelude.{IsSome, replicate}
 use Rattle.std.proofs.lemmas.Bool.{le-leb}
 use Rattle.std.specs.Option.{option_map}
 use Rattle.edi_told.specs.Told.{WhereTold}
@@ -14,7 +14,6 @@ use Rattle.edi_target.specs.Check.{CodeParts}
 use Rattle.edi_target.specs.Mach.{Machine}
 use Rattle.edi_kernel.specs.declared.ends.Ending.{Ending}
 use Rattle.edi_kernel.specs.declared.ends.StintEnd.{StintEnd}
-use Rattle.edi_kernel.specs.declared.ends.StintEnd.TheVariants as stint_end
 use Rattle.edi_kernel.specs.declared.state.KernelState.{KernelState}
 use Rattle.edi_kernel.specs.Table.{process_at, ready_slots}
 use Rattle.edi_kernel.specs.TableIsMachine.{IsTaken, Naming}
@@ -28,7 +27,7 @@ use Rattle.edi_timeline.specs.declared.entry.Said.{Said}
 use Rattle.edi_timed.specs.declared.seats.Seated.{Seated}
 use Rattle.edi_timed.specs.declared.leaving.Begun.{Begun}
 use Rattle.edi_timed.specs.declared.leaving.Spot.{Spot}
-use Rattle.edi_timed.specs.Leaving.{AddsBy, Begins, ended_as, ending_at, spot_at, spot_in}
+use Rattle.edi_timed.specs.Leaving.{AddsBy, Begins, ended_as, spot_at, spot_in}
 use Rattle.edi_timed.specs.Timed.{Timed}
 use Rattle.edi_timed.specs.Underway.{AsksFailed, Going, RoundsTo}
 use Rattle.edi_timed.proofs.Arms.{round_on, round_over}
@@ -64,14 +63,7 @@ has_begun k kernel some = go k.taken refl some
 
 -- ---- the timeline
 
--- where a stint has not ended the run, another process is ready
-pub others_ready : (ready : ℕ) (end : StintEnd) → ended_by (ended_as ready end) ≡ None → 0 < ready
-others_ready zero (stint_end.Over used e) is = absurd (cc)
-others_ready zero (stint_end.Arrived used) is = absurd (cc)
-others_ready zero (stint_end.Forked used) is = absurd (cc)
-others_ready zero (stint_end.Exited used) is = absurd (cc)
-others_ready (suc n) end is = omega arith
-
+-- nothing was shown
 abbrev silent : Said
 silent = record { characters = replicate 7 0; many = 0 }
 

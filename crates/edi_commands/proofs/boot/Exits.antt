@@ -301,7 +301,7 @@ pub ended_asked : (count : ℕ) → MayBeImage count → (e : SessionEnd) → Dr
 ended_asked count image end.Halted = record { behind_steps = refl; fits = image }
 ended_asked count image end.InputEnd = record { behind_steps = refl; fits = image }
 ended_asked count image end.Limit = record { behind_steps = refl; fits = image }
-ended_asked count image end.DriveFault = record { behind_steps = refl; fits = tt }
+ended_asked count image end.DriveFault = record { behind_steps = refl; fits = image }
 ended_asked count image end.InputFault = record { behind_steps = refl; fits = image }
 ended_asked count image end.TerminalFault = record { behind_steps = refl; fits = tt }
 ended_asked count image end.PrinterFault = record { behind_steps = refl; fits = tt }

@@ -28,7 +28,7 @@ unmounted_asked why count h = record { behind_steps = unmounted_behind why; fits
 
 -- an object has failed
 pub failed_asked : (count : ℕ) → MayBeImage count → (o : failing.Outside) → DriveAsked (object_status o) count
-failed_asked count image object.Drive = record { behind_steps = refl; fits = tt }
+failed_asked count image object.Drive = record { behind_steps = refl; fits = image }
 failed_asked count image object.Input = record { behind_steps = refl; fits = image }
 failed_asked count image object.Terminal = record { behind_steps = refl; fits = tt }
 failed_asked count image object.Printer = record { behind_steps = refl; fits = tt }

@@ -15,6 +15,7 @@ use Rattle.edi_kernel.specs.declared.ends.Ending.TheVariants as ending
 use Rattle.edi_kernel.specs.Kernel.{EndsAs, KeepsWords}
 use Rattle.edi_kernel.specs.Runs.{EndsAfter, RunsAs, RunsTo}
 use Rattle.edi_kernel.proofs.Machines.{runs_are_the_machines}
+use Rattle.edi_system.specs.AsCalls.{LeavesByte}
 use Rattle.edi_system.specs.Parts.{IsValid}
 use Rattle.edi_system.specs.State.{all_told}
 use Rattle.edi_target.specs.Check.{CodeParts}
@@ -122,6 +123,17 @@ never_bad : (program : Runnable) (system : State) (bound : ℕ) (choices : Choic
 never_bad (text bytes) system bound choices o run = runs_are_never_bad bytes system bound choices o run
 never_bad (code own) system bound choices o run = tt
 
+-- what is shown of a state with as many blocks as before
+pub at_state : (shown : List ℕ) (state : State) (x y : Contents) → mount_fault_of y.disk ≡ None → y.shown ≡ x.shown ++ shown
+    → state.blocks ≡ (execute.system_on x).blocks → Show state y → DevicesAreAt state (devices x) (devices y) shown
+at_state shown state x y valid shows blocks h = record {
+  input = h.input;
+  shown_ = sym shows ∙ h.shown;
+  printed = h.printed;
+  disk = record { valid = valid; files = h.slots };
+  count = h.blocks ∙ blocks;
+}
+
 module _ (program : Runnable) (parts : CodeParts) (is : HasCode program parts) (bound : ℕ) (old : Drawn) (none : old.drawn ≡ 0) (shown : List ℕ) where
   -- a run that has come to its ending
   pub has_run : (e : Ending) (words : List ℕ) (used : ℕ) (new : Drawn) (x y : Contents) → IsNoFault e → mount_fault_of y.disk ≡ None
@@ -140,14 +152,10 @@ module _ (program : Runnable) (parts : CodeParts) (is : HasCode program parts) (
         ending_is = same;
         never_bad = subst (NeverBad program) same (never_bad program (system_on (devices x)) bound old.source o run);
         draws = refl;
-        leaves = record {
-          input = h.shows.input;
-          shown_ = sym shows ∙ h.shows.shown;
-          printed = h.shows.printed;
-          disk = record { valid = valid; files = h.shows.slots };
-          count = h.shows.blocks ∙ ap (λ (s : State). s.blocks) (sym r.system_is)
-              ∙ end_blocks (fetch parts.words) parts.entry parts.calls (execute.system_on x) bound old.source old.drawn r.is.0 r.end r.machine new.drawn r.is.1;
-        };
+        leaves = at_state shown h.state x y valid shows
+            (ap (λ (s : State). s.blocks) (sym r.system_is)
+            ∙ end_blocks (fetch parts.words) parts.entry parts.calls (execute.system_on x) bound old.source old.drawn r.is.0 r.end r.machine new.drawn r.is.1)
+            h.shows;
         kernel_is = record {
           parts = parts;
           parts_are = is;
@@ -157,17 +165,6 @@ module _ (program : Runnable) (parts : CodeParts) (is : HasCode program parts) (
           store = subst (λ end. StoreIs end r.machine.memory words) (sym same) (store_is e r.machine.memory words r.memory);
         };
       }
-
-  -- what is shown of a state with as many blocks as before
-  at_state : (state : State) (x y : Contents) → mount_fault_of y.disk ≡ None → y.shown ≡ x.shown ++ shown
-      → state.blocks ≡ (execute.system_on x).blocks → Show state y → DevicesAreAt state (devices x) (devices y) shown
-  at_state state x y valid shows blocks h = record {
-    input = h.input;
-    shown_ = sym shows ∙ h.shown;
-    printed = h.printed;
-    disk = record { valid = valid; files = h.slots };
-    count = h.blocks ∙ blocks;
-  }
 
   -- a run in which an object has failed
   pub stands : (failed : failing.Outside) (blamed : Option failing.Outside) → blamed ≡ Some failed → (x y : Contents) → mount_fault_of y.disk ≡ None
@@ -187,8 +184,9 @@ module _ (program : Runnable) (parts : CodeParts) (is : HasCode program parts) (
               h.calls.0) h.from h.next) none h.calls.1,
         );
         asks = h.asks;
+        left = λ is. subst (λ o. LeavesByte o h.from.input) is h.left;
         at = elim h.shows [
-          | inl first ↦ inl (at_state h.from x y valid shows both.0 first)
-          | inr then_ ↦ inr (at_state h.next x y valid shows both.1 then_)
+          | inl first ↦ inl (at_state shown h.from x y valid shows both.0 first)
+          | inr then_ ↦ inr (then_.0, at_state shown h.next x y valid shows both.1 then_.1)
         ];
       }

@@ -9,10 +9,11 @@ use Rattle.edi_calls.specs.Outcome as outcome
 use Rattle.edi_calls.specs.Outcome.{Ending}
 use Rattle.edi_calls.specs.State.{State, moments_of}
 use Rattle.edi_execute.specs.Objects as execute
-use Rattle.edi_execute.specs.Objects.{Contents, Show}
+use Rattle.edi_execute.specs.Objects.{Contents}
 use Rattle.edi_image.specs.Image.{mount_fault_of}
 use Rattle.edi_image.specs.declared.faults.MountFault.{MountFault}
 use Rattle.edi_image.specs.declared.faults.MountFault.TheVariants as mount
+use Rattle.edi_system.specs.AsCalls.{LeavesByte}
 use Rattle.edi_system.proofs.Told.{told_map}
 use Rattle.edi_trace.specs.Drawn.{Drawn}
 use Rattle.edi_unit.specs.Tree.{ProgramUnit}
@@ -30,7 +31,7 @@ use Rattle.edi_statuses.specs.declared.status.Status.{Status}
 use Rattle.edi_statuses.specs.declared.status.Status.TheVariants as status
 use Rattle.edi_statuses.specs.Counts.{Counts, HasCause}
 use Rattle.edi_statuses.specs.EachObject.{MayBeImage}
-use Rattle.edi_statuses.specs.Outside.{Outside, DevicesAreAt, KernelLeft, Lent, blaming, idle, seen, system_on}
+use Rattle.edi_statuses.specs.Outside.{Outside, KernelLeft, Lent, blaming, idle, seen, system_on}
 use Rattle.edi_statuses.specs.Executions.{FailedAt, StandsAt, object_status, status_of}
 use Rattle.edi_statuses.specs.Walked.{BrokeWalk, FailedWalk, HasWalked, Walks}
 use Rattle.edi_statuses.proofs.Told.{same_told, shows_nothing}
@@ -39,7 +40,7 @@ use Rattle.edi_commands.specs.run.OnMounted.{DriveAsked, OnMounted}
 use Rattle.edi_commands.specs.run.OnWalked.{end_status, OnWalked, RanWalk, TextWalked}
 use Rattle.edi_commands.proofs.run.Asked.{asked_so, ended_asked}
 use Rattle.edi_commands.proofs.run.Kept.{not_there}
-use Rattle.edi_commands.proofs.run.Left.{devices, devices_told, told_by}
+use Rattle.edi_commands.proofs.run.Left.{at_state, devices, devices_told, told_by}
 use Rattle.edi_commands.proofs.run.Mounting.{IsLeft, IsUnmounted, left_due, left_each, left_shows, mounts, shown_in, unmounted_by, unmounted_each}
 
 -- ---- ends
@@ -100,24 +101,8 @@ module _ (unit : ProgramUnit) (bytes : List ℕ) (is : IsUnit bytes unit) (bound
       walk = subst (λ n. WalkEnds unit (execute.system_on x) bound old.source n h.ending h.last h.turns h.drawn h.order) none h.is;
       moment_is = h.among;
     };
-    at = record {
-      input = h.shows.input;
-      shown_ = sym shows ∙ h.shows.shown;
-      printed = h.shows.printed;
-      disk = record { valid = valid; files = h.shows.slots };
-      count = h.shows.blocks
-          ∙ walk_moment_blocks unit (execute.system_on x) bound old.source old.drawn h.ending h.last h.turns h.drawn h.order h.is h.moment h.among;
-    };
-  }
-
-  at_so : (x y : Contents) (s : State) → mount_fault_of y.disk ≡ None → y.shown ≡ x.shown ++ shown → s.blocks ≡ (execute.system_on x).blocks → Show s y
-      → DevicesAreAt s (devices x) (devices y) shown
-  at_so x y s valid shows blocks h = record {
-    input = h.input;
-    shown_ = sym shows ∙ h.shown;
-    printed = h.printed;
-    disk = record { valid = valid; files = h.slots };
-    count = h.blocks ∙ blocks;
+    at = at_state shown h.moment x y valid shows
+        (walk_moment_blocks unit (execute.system_on x) bound old.source old.drawn h.ending h.last h.turns h.drawn h.order h.is h.moment h.among) h.shows;
   }
 
   fails_at : (failed : failing.Outside) (blamed : Option failing.Outside) → blamed ≡ Some failed → (x y : Contents) → mount_fault_of y.disk ≡ None
@@ -145,9 +130,10 @@ module _ (unit : ProgramUnit) (bytes : List ℕ) (is : IsUnit bytes unit) (bound
           followed = h.followed;
         };
         asks = h.asks;
+        left = λ is. subst (λ o. LeavesByte o h.one.input) is h.left;
         at = elim h.shows [
-          | inl first ↦ inl (at_so x y h.one valid shows (same h.one among.0) first)
-          | inr then_ ↦ inr (at_so x y h.next valid shows (same h.next among.1) then_)
+          | inl first ↦ inl (at_state shown h.one x y valid shows (same h.one among.0) first)
+          | inr then_ ↦ inr (then_.0, at_state shown h.next x y valid shows (same h.next among.1) then_.1)
         ];
       }
 
@@ -167,14 +153,9 @@ module _ (unit : ProgramUnit) (bytes : List ℕ) (is : IsUnit bytes unit) (bound
           walk = subst (λ n. WalkEnds unit (execute.system_on x) bound old.source n (ending_of e) w.last w.turns new.drawn w.order) none w.is;
           last_is = w.system_is;
         };
-        leaves = record {
-          input = h.shows.input;
-          shown_ = sym shows ∙ h.shows.shown;
-          printed = h.shows.printed;
-          disk = record { valid = valid; files = h.shows.slots };
-          count = h.shows.blocks ∙ ap (λ (s : State). s.blocks) (sym w.system_is)
-              ∙ walk_end_blocks unit (execute.system_on x) bound old.source old.drawn (ending_of e) w.last w.turns new.drawn w.order w.is;
-        };
+        leaves = at_state shown h.state x y valid shows
+            (ap (λ (s : State). s.blocks) (sym w.system_is)
+            ∙ walk_end_blocks unit (execute.system_on x) bound old.source old.drawn (ending_of e) w.last w.turns new.drawn w.order w.is) h.shows;
       }
 
 -- ---- the drive is not mounted

@@ -1,5 +1,5 @@
 -- From the bytes that a command makes of a file to how it came to its status, where it touches the files and the terminal alone.
-use Rattle.std.proofs.Common.{◌≡◌, ◌∙◌, ◌⊎◌, inl, inr, ℕ, false, List, [], Option, Some, Ok, Err, refl, sym, subst}
+use Rattle.std.proofs.Common.{◌≡◌, ◌∙◌, ◌⊎◌, inl, inr, ℕ, false, List, [], Option, Some, Result, Ok, Err, IfErr, refl, sym, subst}
 use Rattle.edi_told.specs.Faults.{CountRose}
 use Rattle.edi_told.specs.Told.{WhereTold}
 use Rattle.edi_host.specs.Contents.{Contents}
@@ -18,7 +18,7 @@ use Rattle.edi_statuses.proofs.Due.{due_then}
 use Rattle.edi_statuses.proofs.EachLeft.{each_same}
 use Rattle.edi_statuses.proofs.Told.{same_told, shows_nothing, still}
 use Rattle.edi_commands.specs.steps.OnFiles.{files_only}
-use Rattle.edi_commands.specs.steps.OnTerminal.{CameShowing, EndsShowing, GivesBytes, HasCauseShown, ShowsTo}
+use Rattle.edi_commands.specs.steps.OnTerminal.{CameShowing, EndsShowing, GivesBytes, HasCauseShown, ShowsMade, ShowsTo}
 
 -- What is known of such a command, which ends with this status where it has shown its bytes: what its statuses mean, by its steps, which look
 -- at the files alone, and by what its bytes are.
@@ -144,3 +144,37 @@ ends_cause ends s had has had_shown has_shown none (inl same) = λ drive input p
     (λ t. HasCause t (counts_with had drive input had_shown printer) (counts_with has drive input has_shown printer)) (sym same) (none _ _)
 ends_cause ends s had has had_shown has_shown none (inr failed) = λ drive input printer. subst
     (λ t. HasCause t (counts_with had drive input had_shown printer) (counts_with has drive input has_shown printer)) (sym failed.0) (inl failed.1)
+
+-- ---- what was made was shown, or the command stopped
+
+done_or_cut : (s : Status) (front all : List ℕ) (had has : ℕ) → ShowsFar s front all → (s ≡ status.OutputFault → CountRose had has)
+    → (s ≡ status.Ok) ⊎ ((s ≡ status.OutputFault) × CountRose had has)
+done_or_cut status.Ok front all had has far rose = inl refl
+done_or_cut status.OutputFault front all had has far rose = inr (refl, rose refl)
+done_or_cut s front all had has far rose = absurd far
+
+pub shows_made : (all : List ℕ) (ended : Ended) (taken takes : Option (List ℕ)) (had has : ℕ) → ShowsBytes all false ended taken takes
+    → (ended.status ≡ status.OutputFault → CountRose had has) → ShowsMade {V = List ℕ} (λ bytes. bytes) (Ok all) ended taken takes had has
+shows_made all ended taken takes had has h rose =
+    (shows_done all ended taken takes h, done_or_cut ended.status h.0 all had has h.1 rose)
+
+module _ {A : Type 0} (c : Command) (name : List ℕ) (steps : Outside → AfterStep A → Type 0) (Is : A → List ℕ → Type 0)
+    (shows : ShowsOf c name steps Is status.Ok) {V : Type 0} (items : V → List ℕ) (taken takes : Option (List ℕ))
+    (had_shown has_shown : ℕ) (ended : Ended) where
+  pub made_came : (old new : Option Contents) (made : Result V Status) → WhereTold old new (λ x y. y ≡ x)
+      → GivesBytes items steps Is (files_only (still_told old new)) name made → ShowsMade items made ended taken takes had_shown has_shown
+      → CameShowing c ended.status ended.due old new taken takes
+  made_came old new (Ok v) same gives h = shown c name steps Is status.Ok shows items old new taken takes v ended same gives h.0
+  made_came old new (Err s) same gives h =
+      subst (λ t. CameShowing c t ended.due old new taken takes) (sym h.0)
+      (subst (λ due. CameShowing c s due old new taken takes) (sym h.1)
+      (subst (CameShowing c s false old new taken) (sym h.2) (stopped c name steps Is status.Ok shows items old new taken s same gives)))
+
+  pub made_cause : (o : Outside) (had has : ℕ) (made : Result V Status) → GivesBytes items steps Is o name made
+      → IfErr made (λ s. s ≡ status.FileFault → CountRose had has) → ShowsMade items made ended taken takes had_shown has_shown
+      → HasCauseShown ended.status had has had_shown has_shown
+  made_cause o had has (Ok v) gives rose h = ends_cause status.Ok ended.status had has had_shown has_shown (λ before after. tt) h.1
+  made_cause o had has (Err s) gives rose h =
+      subst (λ t. HasCauseShown t had has had_shown has_shown) (sym h.0)
+      (subst (HasCauseShown s had has had_shown) (sym h.3)
+      (stopped_cause c name steps Is status.Ok shows items o s had has had_shown gives rose))

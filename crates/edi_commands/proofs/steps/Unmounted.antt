@@ -1,12 +1,12 @@
 -- The status of a command whose drive was not mounted.
-use Rattle.std.proofs.Common.{◌≡◌, ℕ, false, refl}
+use Rattle.std.proofs.Common.{◌≡◌, ◌≤◌, ℕ, false, refl, arith}
 use Rattle.std.specs.Prelude.{⊤}
 use Rattle.edi_catalog.specs.Counted.{IsOfCount}
 use Rattle.edi_image.specs.declared.faults.MountFault.{MountFault}
 use Rattle.edi_image.specs.declared.faults.MountFault.TheVariants as mount
 use Rattle.edi_statuses.specs.declared.status.Status.{Status}
 use Rattle.edi_statuses.specs.declared.status.Status.TheVariants as status
-use Rattle.edi_statuses.specs.EachObject.{FitsCount, FitsGet, is_before_drive}
+use Rattle.edi_statuses.specs.EachObject.{FitsCount, FitsGet, MayBeImage, is_before_drive}
 use Rattle.edi_statuses.specs.Steps.{IsBrokenRule}
 use Rattle.edi_commands.specs.steps.NotMounted.{mount_status}
 
@@ -21,12 +21,16 @@ unmounted P Q fails wants breaks (mount.Entry slot) h = breaks (mount.Entry slot
 unmounted P Q fails wants breaks (mount.Page slot block) h = breaks (mount.Page slot block) tt h
 unmounted P Q fails wants breaks (mount.Shared block) h = breaks (mount.Shared block) tt h
 
+-- a drive that is read has the number of blocks of an image
+may_be_image : (count : ℕ) → (64 ≤ count) × (count ≤ 4096) → MayBeImage count
+may_be_image count h = record { least = λ some few. (let least = h.0 in omega (arith, few, least)); most = h.1 }
+
 -- it fits the number of blocks
 pub unmounted_fits : (why : MountFault) (count : ℕ) → IsOfCount count why → FitsCount (mount_status why) count
-unmounted_fits why count h = unmounted (λ s. FitsCount s count) (IsOfCount count) (λ x. tt) (λ x. tt) (λ broken rule x. x) why h
+unmounted_fits why count h = unmounted (λ s. FitsCount s count) (IsOfCount count) (may_be_image count) (λ x. tt) (λ broken rule x. x) why h
 
 pub unread_fits : (why : MountFault) (count : ℕ) → IsOfCount count why → FitsGet (mount_status why) count
-unread_fits why count h = unmounted (λ s. FitsGet s count) (IsOfCount count) (λ x. tt) (λ x. tt) (λ broken rule x. x) why h
+unread_fits why count h = unmounted (λ s. FitsGet s count) (IsOfCount count) (may_be_image count) (λ x. tt) (λ broken rule x. x) why h
 
 -- and is none of a step before the mount
 pub unmounted_behind : (why : MountFault) → is_before_drive (mount_status why) ≡ false

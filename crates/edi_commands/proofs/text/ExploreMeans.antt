@@ -25,7 +25,7 @@ use Rattle.edi_statuses.specs.declared.status.Status.{Status}
 use Rattle.edi_statuses.specs.declared.status.Status.TheVariants as status
 use Rattle.edi_statuses.specs.Broken.{HasNotBegun}
 use Rattle.edi_statuses.specs.Commands.{IsNothing, TextSteps}
-use Rattle.edi_statuses.specs.Explored.{Explored, ExploredThen, Explores, IsTooLong, KeepsFirst, LosesNext, LosesSome, OnlyTakes, TakesAll, names_of_records, status_of_summary}
+use Rattle.edi_statuses.specs.Explored.{Explored, ExploredThen, Explores, FailsIn, IsTooLong, KeepsFirst, LosesNext, LosesSome, OnlyTakes, TakesAll, names_of_records, status_of_summary}
 use Rattle.edi_statuses.specs.Fronts.{IsFront}
 use Rattle.edi_statuses.specs.Means.{Means}
 use Rattle.edi_statuses.specs.Outside.{IsAsBefore, Kept, Lent, Outside, SameBlocks, SamePrinted, outside_with, seen, still_told, with_kept, without_names}
@@ -109,7 +109,7 @@ module _ (file : List ℕ) (o : ExploreOptions) (old new : Option Contents) (lef
       unfed_means status.InputLimit h = inr ((text, unit), begun, inr (refl, (sym asks_is ∙ h.0, only_takes IsTooLong h.1)))
       unfed_means status.InputFault h = record {
         uses = tt;
-        far = (still (λ a b. b ≡ a) old new same, ((text, unit), begun, (sym asks_is ∙ h.0, only_takes LosesSome h.1)));
+        far = (still (λ a b. b ≡ a) old new same, ((text, unit), begun, (sym asks_is ∙ h.0, only_takes FailsIn h.1)));
       }
       unfed_means status.NoMemory h = inr ((text, unit), begun, inl (sym asks_is ∙ h.0, only_takes LosesSome h.1))
       unfed_means s h = absurd h
@@ -213,7 +213,7 @@ fed_shrinks true bytes left rest h = told_so _ _ left rest (λ a b e. (length a,
 pub input_shrinks : (asks : Bool) (r : Result (Vec ℕ) Status) (left rest : Option (List ℕ)) → TakesInput asks r left rest → WhereTold left rest Shrinks
 input_shrinks asks (Ok bytes) left rest h = fed_shrinks asks bytes.items left rest h
 input_shrinks asks (Err status.InputLimit) left rest h = told_so _ _ left rest (λ a b e. (65537, e.1)) h.1
-input_shrinks asks (Err status.InputFault) left rest h = told_so _ _ left rest (λ a b e. (e.0, e.2)) h.1
+input_shrinks asks (Err status.InputFault) left rest h = told_so _ _ left rest (λ a b e. (e.0, e.3)) h.1
 input_shrinks asks (Err status.NoMemory) left rest h = told_so _ _ left rest (λ a b e. (e.0, e.2)) h.1
 input_shrinks asks (Err s) left rest h = absurd h
 

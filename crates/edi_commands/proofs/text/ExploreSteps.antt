@@ -1,6 +1,7 @@
 -- The steps of `explore`: from the first bytes of a file to its program, and from the bytes of the input to what was taken.
-use Rattle.std.proofs.Common.{◌≡◌, ◌≤◌, ◌∙◌, inl, inr, ℕ, Bool, true, List, length, take, drop, Option, Result, Ok, Err}
-use Rattle.std.proofs.Common.{refl, sym, ap, subst}
+use Rattle.std.proofs.Common.{◌≡◌, ◌<◌, ◌≤◌, ◌∙◌, inl, inr, ℕ, Bool, true, List, length, take, drop, Option, Result, Ok, Err}
+use Rattle.std.proofs.Common.{refl, sym, ap, subst, arith}
+use Rattle.std.proofs.lemmas.List.{length-append}
 use Rattle.std.proofs.Math.Seq.{drop-append_seam}
 use Rattle.std.specs.Global.{Vec}
 use Rattle.edi_told.specs.Told.{WhereTold}
@@ -14,10 +15,10 @@ use Rattle.edi_texts.proofs.Same.{fetched_bytes_decide}
 use Rattle.edi_runs.specs.declared.explore.input.InputFault.{InputFault}
 use Rattle.edi_runs.specs.declared.explore.input.InputFault.TheVariants as fault
 use Rattle.edi_runs.specs.explore.Input.{most_input}
-use Rattle.edi_runs.specs.explore.Told.{HasTakenSome, Reads}
+use Rattle.edi_runs.specs.explore.Told.{HasFailedBehind, HasTakenSome, Reads}
 use Rattle.edi_statuses.specs.declared.status.Status.{Status}
 use Rattle.edi_statuses.specs.declared.status.Status.TheVariants as status
-use Rattle.edi_statuses.specs.Explored.{LosesSome}
+use Rattle.edi_statuses.specs.Explored.{FailsIn, LosesSome}
 use Rattle.edi_statuses.specs.Outside.{Outside}
 use Rattle.edi_statuses.specs.Steps.{Fetches, goes}
 use Rattle.edi_statuses.proofs.Told.{told_so}
@@ -53,11 +54,19 @@ file_program o name bytes text (Err s) fetched first (inr refused) =
 loses_so : (old new : List ℕ) → HasTakenSome old new → LosesSome old new
 loses_so old new h = (length h.0, h.2, sym (drop-append_seam h.0 new) ∙ ap (drop (length h.0)) (sym h.1))
 
+fails_so : (old new : List ℕ) → HasFailedBehind old new → FailsIn old new
+fails_so old new h = (
+  length h.0,
+  h.2,
+  omega (arith, h.3, ap length h.1, length-append h.0 new),
+  sym (drop-append_seam h.0 new) ∙ ap (drop (length h.0)) (sym h.1),
+)
+
 -- it was not read
 pub input_stopped : (asks : Bool) (f : InputFault) (old new : Option (List ℕ)) → asks ≡ true → WhereTold old new (Reads (Err f))
     → TakesInput asks (Err (input_status f)) old new
 input_stopped asks fault.TooLong old new is h = (is, told_so _ _ old new (λ a b r. r) h)
-input_stopped asks fault.Failed old new is h = (is, told_so _ _ old new loses_so h)
+input_stopped asks fault.Failed old new is h = (is, told_so _ _ old new fails_so h)
 input_stopped asks fault.NoMemory old new is h = (is, told_so _ _ old new loses_so h)
 
 -- it was read, where the program asks for it

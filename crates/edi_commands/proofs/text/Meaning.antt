@@ -6,6 +6,7 @@ use Rattle.edi_told.specs.Told.{WhereTold}
 use Rattle.edi_host.specs.Files.{KeepLeaves}
 use Rattle.edi_host.specs.Contents.{Contents}
 use Rattle.edi_host.specs.declared.files.KeepEnd.TheVariants as keep
+use Rattle.edi_scheme.specs.Laws.{parts_of}
 use Rattle.edi_target.specs.File.{code_bytes}
 use Rattle.edi_unit.specs.Tree.{ProgramUnit}
 use Rattle.edi_words.specs.Words.{compile}
@@ -133,19 +134,18 @@ module _ {V : Type 0} (items : V → List ℕ) (file out : List ℕ) (old mid ne
   kept_means kept = λ before after kernel e d rest.
       let text = codes.0 in
       let made = codes.2 in
-      let leaves = since (λ old new. new ≡ map.insert old out (code_bytes made.2)) old mid new same
-      (subst (λ b. WhereTold mid new (λ old new. new ≡ map.insert old out b)) (are ∙ made.4) kept) in
+      let leaves = since (λ old new. new ≡ map.insert old out (code_bytes (parts_of made.0))) old mid new same
+      (subst (λ b. WhereTold mid new (λ old new. new ≡ map.insert old out b)) (are ∙ made.3) kept) in
       inr (
         (text, made.0),
         steps before after kernel e d rest (KeepLeaves keep.Ok out bytes) kept,
         (
           refl,
           record {
-            parts = made.2;
-            code_is = made.3;
+            code_is = made.2;
             keeps = record {
               shown_ = refl;
-              keeps = on_files file out old new before after kernel e d rest (λ old new. new ≡ map.insert old out (code_bytes made.2)) leaves;
+              keeps = on_files file out old new before after kernel e d rest (λ old new. new ≡ map.insert old out (code_bytes (parts_of made.0))) leaves;
               blocks = blocks_same file out old new before after kernel e d rest;
               input = input_same file out old new before after kernel e d rest;
               printed = printed_same file out old new before after kernel e d rest;

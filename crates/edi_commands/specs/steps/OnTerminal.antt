@@ -1,5 +1,6 @@
 -- Words of contracts. What a command answers that touches the files and the terminal alone: it makes bytes of a file and shows them.
 use Rattle.std.specs.Prelude.{◌≡◌, ◌⊎◌, ℕ, Bool, false, List, ◌++◌, Option, Some, Result, Ok, Err}
+use Rattle.edi_told.specs.Faults.{CountRose}
 use Rattle.edi_told.specs.Told.{WhereTold}
 use Rattle.edi_host.specs.Contents.{Contents}
 use Rattle.edi_words.specs.Words.{Command}
@@ -38,6 +39,12 @@ abbrev pub EndsShowing : (ends : Status) → (all : List ℕ) → Ended → (tak
 EndsShowing ends all ended taken takes =
     (front : List ℕ) × ShowsTo ends ended.status front all × WhereTold taken takes (λ old new. new ≡ old ++ front)
     × (ended.due ≡ due_behind false front)
+
+-- The bytes that were made were shown so; or the command stopped before that.
+abbrev pub ShowsMade : {V : Type 0} → (V → List ℕ) → Result V Status → Ended → (taken takes : Option (List ℕ)) → (had has : ℕ) → Type 0
+ShowsMade items (Ok v) ended taken takes had has =
+    EndsShowing status.Ok (items v) ended taken takes × ((ended.status ≡ status.Ok) ⊎ ((ended.status ≡ status.OutputFault) × CountRose had has))
+ShowsMade items (Err s) ended taken takes had has = (ended.status ≡ s) × (ended.due ≡ false) × (takes ≡ taken) × (has ≡ had)
 
 -- The steps on the file of this name lead to something of which the bytes are made, with a status or without one; or they stop the command.
 -- Memory may run out at any file, and one that is there may fail.

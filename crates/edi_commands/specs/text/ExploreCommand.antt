@@ -21,7 +21,7 @@ use Rattle.edi_runs.specs.explore.Told.{findings_of}
 use Rattle.edi_statuses.specs.declared.ended.Ended.{Ended}
 use Rattle.edi_statuses.specs.declared.status.Status.{Status}
 use Rattle.edi_statuses.specs.declared.status.Status.TheVariants as status
-use Rattle.edi_statuses.specs.Explored.{IsTooLong, LosesSome, TakesAll, status_of_summary}
+use Rattle.edi_statuses.specs.Explored.{FailsIn, IsTooLong, LosesSome, TakesAll, status_of_summary}
 use Rattle.edi_statuses.specs.Fronts.{IsFront}
 use Rattle.edi_statuses.specs.Outside.{IsSomeFile, Outside, outside_with}
 use Rattle.edi_statuses.specs.Showing.{due_behind}
@@ -65,7 +65,7 @@ input_only input = outside_with None None input None None
 abbrev pub TakesInput : (asks : Bool) → Result (Vec ℕ) Status → (old new : Option (List ℕ)) → Type 0
 TakesInput asks (Ok bytes) old new = TakesAll asks bytes.items (input_only old) (input_only new)
 TakesInput asks (Err status.InputLimit) old new = (asks ≡ true) × WhereTold old new IsTooLong
-TakesInput asks (Err status.InputFault) old new = (asks ≡ true) × WhereTold old new LosesSome
+TakesInput asks (Err status.InputFault) old new = (asks ≡ true) × WhereTold old new FailsIn
 TakesInput asks (Err status.NoMemory) old new = (asks ≡ true) × WhereTold old new LosesSome
 TakesInput asks (Err s) old new = ⊥
 

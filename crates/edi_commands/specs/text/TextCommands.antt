@@ -1,6 +1,6 @@
 -- Words of contracts. What the commands on texts that are not run answer, by the steps of commands.
 use Rattle.std.specs.Prelude.{◌≡◌, ◌⊎◌, ℕ, List, Result, Ok, Err}
-use Rattle.edi_target.specs.Check.{CodeParts}
+use Rattle.edi_scheme.specs.Laws.{parts_of}
 use Rattle.edi_target.specs.File.{code_bytes}
 use Rattle.edi_unit.specs.Tree.{ProgramUnit}
 use Rattle.edi_disjoint.specs.Report.{IsReport}
@@ -19,7 +19,7 @@ use Rattle.edi_commands.specs.steps.OnTerminal.{GivesBytes}
 -- the bytes of the text's code, or the text is refused; memory may run out at any text
 abbrev pub CodesText : {V : Type 0} → (V → List ℕ) → (text : List ℕ) → Result V Status → Type 0
 CodesText items text (Ok v) =
-    (unit : ProgramUnit) × IsUnit text unit × (parts : CodeParts) × IsCodeFor text parts × (items v ≡ code_bytes parts)
+    (unit : ProgramUnit) × IsUnit text unit × IsCodeFor text (parts_of unit) × (items v ≡ code_bytes (parts_of unit))
 CodesText items text (Err s) =
     (s ≡ status.NoMemory) ⊎ ((kind : RefusalKind) × (line : ℕ) × (s ≡ status.Refused kind line) × IsRefused text kind line)
 

@@ -5,8 +5,9 @@ ghost use Rattle.edi_words.specs.Words.{list as list_words};
 ghost use Rattle.edi_commands.specs.steps.OnTerminal.{CameShowing, HasCauseShown};
 
 use crate::code::loading::listing_of_file;
+use crate::steps::show_made;
 use edi_host::{Files, Sink};
-use edi_statuses::{Ended, show_bytes};
+use edi_statuses::Ended;
 use std::alloc::Global;
 
 /// Fetches the code file, loads it, and shows the listing of its code. It touches the files and the terminal alone: whatever the
@@ -18,8 +19,6 @@ pub fn list<F: Files, T: Sink>(alloc: Global, files: &mut F, terminal: &mut T, f
     ensures later_files { F.faults files.old ≤ F.faults files.new }
     ensures later_terminal { T.faults terminal.old ≤ T.faults terminal.new }
 {
-    match listing_of_file(alloc, files, file) {
-        Ok(text) => show_bytes(terminal, &text, false),
-        Err(status) => Ended { status, due: false },
-    }
+    let made = listing_of_file(alloc, files, file);
+    show_made(terminal, made)
 }

@@ -7,12 +7,12 @@ ghost use Rattle.edi_commands.specs.steps.OnFiles.{OnlyReadsFiles, files_only};
 ghost use Rattle.edi_commands.specs.steps.OnTerminal.{CameShowing, HasCauseShown};
 ghost use Rattle.edi_commands.specs.text.TextCommands.{ReportsFile, ReportsText};
 
-use crate::steps::fetch;
+use crate::steps::{fetch, show_made};
 use crate::text::coding::LIMIT;
 use edi_compile::{Refusal, front};
 use edi_disjoint::report;
 use edi_host::{Files, Sink};
-use edi_statuses::{Ended, Status, show_bytes};
+use edi_statuses::{Ended, Status};
 use std::alloc::Global;
 
 /// The report on the branches of a text, or why the command stops there.
@@ -48,8 +48,6 @@ pub fn check<F: Files, T: Sink>(alloc: Global, files: &mut F, terminal: &mut T, 
     ensures later_files { F.faults files.old ≤ F.faults files.new }
     ensures later_terminal { T.faults terminal.old ≤ T.faults terminal.new }
 {
-    match report_of_file(alloc, files, file) {
-        Ok(text) => show_bytes(terminal, &text, false),
-        Err(status) => Ended { status, due: false },
-    }
+    let made = report_of_file(alloc, files, file);
+    show_made(terminal, made)
 }

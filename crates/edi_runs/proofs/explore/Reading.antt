@@ -1,5 +1,5 @@
 -- An input that is read byte by byte.
-use Rattle.std.proofs.Common.{◌≡◌, ℕ, suc, ◌<◌, ◌≤◌, List, [], ◌∷◌, ◌++◌, length, drop, Option, Ok, Err, refl, sym, ap, ◌∙◌, arith, append_assoc}
+use Rattle.std.proofs.Common.{◌≡◌, ℕ, suc, ◌<◌, ◌≤◌, List, [], ◌∷◌, ◌++◌, length, drop, Option, Ok, Err, refl, sym, ap, subst, ◌∙◌, arith, append_assoc}
 use Rattle.std.specs.Global.{Vec}
 use Rattle.std.proofs.lemmas.List.{append-nil, length-append}
 use Rattle.std.proofs.Math.Seq.{drop-append_seam}
@@ -10,7 +10,7 @@ use Rattle.edi_host.specs.declared.source.Next.TheVariants as next
 use Rattle.edi_host.specs.Streams.{Takes}
 use Rattle.edi_runs.specs.declared.explore.input.InputFault.TheVariants as fault
 use Rattle.edi_runs.specs.explore.Input.{most_input}
-use Rattle.edi_runs.specs.explore.Told.{HasTaken, HasTakenSome, Reads}
+use Rattle.edi_runs.specs.explore.Told.{HasFailedBehind, HasTaken, HasTakenSome, Reads}
 
 taken_one : (bytes more : List ℕ) (b : ℕ) (x y z : List ℕ) → more ≡ bytes ++ b ∷ [] → x ≡ bytes ++ y → y ≡ b ∷ z → x ≡ more ++ z
 taken_one bytes more b x y z g p q = p ∙ ap (λ t. bytes ++ t) q ∙ sym (append_assoc bytes (b ∷ []) z) ∙ ap (λ t. t ++ z) (sym g)
@@ -25,9 +25,10 @@ module _ (start now after : Option (List ℕ)) (bytes : List ℕ) (few : length 
       WhereTold-then (HasTaken bytes) (Takes (next.Byte b)) HasTakenSome start now after
       (λ x y z p q. (bytes ++ b ∷ [], taken_one bytes (bytes ++ b ∷ []) b x y z refl p q, omega (arith, few, length-append bytes (b ∷ [])))) told s
 
-  pub none_more : WhereTold now after (Takes next.Failed) → WhereTold start after HasTakenSome
+  pub none_more : WhereTold now after (Takes next.Failed) → WhereTold start after HasFailedBehind
   none_more s =
-      WhereTold-then (HasTaken bytes) (Takes next.Failed) HasTakenSome start now after (λ x y z p q. (bytes, p ∙ ap (λ t. bytes ++ t) (sym q.1), omega (arith, few))) told s
+      WhereTold-then (HasTaken bytes) (Takes next.Failed) HasFailedBehind start now after
+      (λ x y z p q. (bytes, p ∙ ap (λ t. bytes ++ t) (sym q.1), few, subst (λ t. 0 < length t) (sym q.1) q.0)) told s
 
 pub read_whole : (start now after : Option (List ℕ)) (bytes : Vec ℕ) → length bytes.items ≤ most_input → WhereTold start now (HasTaken bytes.items)
     → WhereTold now after (Takes next.End) → WhereTold start after (Reads (Ok bytes))

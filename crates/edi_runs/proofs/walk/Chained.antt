@@ -201,7 +201,7 @@ pub failed_among : (unit : ProgramUnit) (system : State) (bound : ℕ) (old : Dr
 failed_among unit system bound old now_ new f = elim (torn_is_before_or_behind_all c.number c.words c.answer before f.next now_ c.is f.torn) [
   | inl same ↦ at before (older_among system f.later (f.next ∷ f.earlier) before
       (Contains-append_right (f.next ∷ []) (moments_of system f.earlier) before (newest_among system f.earlier))) same
-  | inr same ↦ at f.next (older_among system f.later (f.next ∷ f.earlier) f.next (newest_among system (f.next ∷ f.earlier))) same
+  | inr same ↦ at f.next (older_among system f.later (f.next ∷ f.earlier) f.next (newest_among system (f.next ∷ f.earlier))) same.1
 ]
   where
     before : State

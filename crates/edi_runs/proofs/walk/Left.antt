@@ -1,14 +1,15 @@
 -- What a walk leaves of the objects, from what it leaves of the system over them; and where it was broken off, a state through which it comes.
-use Rattle.std.proofs.Common.{◌≡◌, ◌∙◌, ◌⊎◌, ℕ, List, Option, Some, None, refl, sym, subst, inl, inr}
-use Rattle.std.specs.Prelude.{Contains, IsSome}
+use Rattle.std.proofs.Common.{◌≡◌, ◌∙◌, ◌⊎◌, ℕ, true, List, Option, Some, None, refl, sym, subst, inl, inr}
+use Rattle.std.specs.Prelude.{Contains, IfSome, IsSome}
 use Rattle.edi_told.specs.Told.{WhereTold}
 use Rattle.edi_calls.specs.declared.ends.Outside.{Outside}
+use Rattle.edi_calls.specs.Asked.{may_have_done}
 use Rattle.edi_calls.specs.Laws.{IsSameOutside}
 use Rattle.edi_calls.specs.Names.{Name}
 use Rattle.edi_calls.specs.Outcome.{Ending}
 use Rattle.edi_calls.specs.State.{State, Traced, fresh, moments_of, newest}
-use Rattle.edi_calls.proofs.Parts.{torn_is_before_or_behind_all}
-use Rattle.edi_system.specs.AsCalls.{KeepsDue}
+use Rattle.edi_calls.proofs.Parts.{done_by, torn_is_before_or_behind_all}
+use Rattle.edi_system.specs.AsCalls.{FailsBeforeEnd, KeepsDue, LeavesByte}
 use Rattle.edi_system.specs.Parts.{KeepsTold, SystemBegins}
 use Rattle.edi_system.specs.State.{due_in, failed_in, state_of, state_with}
 use Rattle.edi_system.specs.declared.system.System.{System}
@@ -19,6 +20,9 @@ use Rattle.edi_walk.specs.Walk.{WalkEnds}
 use Rattle.edi_walk.specs.declared.walking.WalkEnd.{WalkEnd}
 use Rattle.edi_walk.specs.declared.walking.WalkEnd.TheVariants as end
 use Rattle.edi_execute.specs.Objects.{Contents, Objects, Show, contents_with, system_on}
+use Rattle.edi_system.proofs.Told.{told_with}
+use Rattle.edi_system.proofs.Used.{bytes_left}
+use Rattle.edi_execute.proofs.Executing.{byte_before}
 use Rattle.edi_execute.proofs.Runs.{AreOf, AreUnder, due_run, on_objects, told_run}
 use Rattle.edi_runs.specs.walk.Leaves.{BrokeAtCall, BrokeAtCallOf, HasWalked, WalkLeaves}
 use Rattle.edi_runs.specs.declared.walk.run.Walked.{Walked}
@@ -40,31 +44,42 @@ some_same a b e = cc
 
 -- an object failed in a call that uses it
 broke_at : (unit : ProgramUnit) (bound : ℕ) (old new : Drawn) (x y : Contents) (s : State) (failed : Option Outside → Type 0)
-    (f : WalkFailsBy failed unit (system_on x) bound old s new) → Show s y → BrokeAtCall f.outside unit bound old x y
-broke_at unit bound old new x y s failed f shows = record {
-  ending = f.fails.ending;
-  last = f.fails.last;
-  turns = f.fails.turns;
-  drawn = f.fails.drawn;
-  order = f.fails.order;
-  is = f.fails.is;
-  one = newest (system_on x) f.fails.earlier;
-  next = f.fails.next;
-  followed = record { later = f.fails.later; earlier = f.fails.earlier; is = f.fails.past; last = refl };
-  asks = f.asks;
-  shows = elim (torn_is_before_or_behind_all f.asks.number f.asks.arguments f.asks.answer (newest (system_on x) f.fails.earlier) f.fails.next s f.asks.is f.fails.torn) [
-    | inl same ↦ inl (shows_same (newest (system_on x) f.fails.earlier) s y same shows)
-    | inr same ↦ inr (shows_same f.fails.next s y same shows)
-  ];
-}
+    (f : WalkFailsBy failed unit (system_on x) bound old s new) → Show s y → LeavesByte f.outside s.input → BrokeAtCall f.outside unit bound old x y
+broke_at unit bound old new x y s failed f shows left =
+    let one : State = newest (system_on x) f.fails.earlier in
+    let at : IsSameOutside one s ⊎ ((may_have_done f.outside ≡ true) × IsSameOutside f.fails.next s) =
+    elim (torn_is_before_or_behind_all f.asks.number f.asks.arguments f.asks.answer one f.fails.next s f.asks.is f.fails.torn) [
+      | inl same ↦ inl same
+      | inr same ↦ inr (done_by f.asks.number f.outside same.0 f.asks.uses_it, same.1)
+    ] in
+    record {
+      ending = f.fails.ending;
+      last = f.fails.last;
+      turns = f.fails.turns;
+      drawn = f.fails.drawn;
+      order = f.fails.order;
+      is = f.fails.is;
+      one = one;
+      next = f.fails.next;
+      followed = record { later = f.fails.later; earlier = f.fails.earlier; is = f.fails.past; last = refl };
+      asks = f.asks;
+      left = byte_before f.outside one f.fails.next s at left;
+      shows = elim at [
+        | inl same ↦ inl (shows_same one s y same shows)
+        | inr same ↦ inr (same.0, shows_same f.fails.next s y same.1 shows)
+      ];
+    }
 
 broke_of : (unit : ProgramUnit) (bound : ℕ) (old new : Drawn) (x y : Contents) (s : State) (e : WalkEnd) (named failed : Option Outside) → named ≡ failed
-    → (IsSome failed → e ≡ end.Fault) → WalkFaultsBy (λ o. failed ≡ o) unit (system_on x) bound old e s new → Show s y → BrokeAtCallOf named unit bound old x y
-broke_of unit bound old new x y s e None failed is so h shows = tt
-broke_of unit bound old new x y s e (Some o) failed is so h shows =
+    → (IsSome failed → e ≡ end.Fault) → WalkFaultsBy (λ o. failed ≡ o) unit (system_on x) bound old e s new → IfSome failed (λ o. LeavesByte o s.input) → Show s y
+    → BrokeAtCallOf named unit bound old x y
+broke_of unit bound old new x y s e None failed is so h left shows = tt
+broke_of unit bound old new x y s e (Some o) failed is so h left shows =
     let f : WalkFailsBy (λ o. failed ≡ o) unit (system_on x) bound old s new =
     subst (λ k. WalkFaultsBy (λ o. failed ≡ o) unit (system_on x) bound old k s new) (so (subst IsSome is refl)) h in
-    subst (λ p. BrokeAtCall p unit bound old x y) (some_same f.outside o (sym (is ∙ f.failed_is))) (broke_at unit bound old new x y s (λ o. failed ≡ o) f shows)
+    let byte : LeavesByte f.outside s.input = subst (λ p. IfSome p (λ o. LeavesByte o s.input)) f.failed_is left in
+    subst (λ p. BrokeAtCall p unit bound old x y) (some_same f.outside o (sym (is ∙ f.failed_is)))
+    (broke_at unit bound old new x y s (λ o. failed ≡ o) f shows byte)
 
 module _ {D S T P : Type 0} (contents : D → Option (List (List ℕ))) (left : S → Option (List ℕ)) (shown : T → Option (List ℕ)) (printed : P → Option (List ℕ))
     (before after : System D S T P) (o o' : Objects D S T P) (are : AreUnder contents before o) (are' : AreOf after o') where
@@ -73,10 +88,10 @@ module _ {D S T P : Type 0} (contents : D → Option (List (List ℕ))) (left : 
       (λ s t. WalksTo unit (fresh s) bound old walked.end t new)
       → WhereTold (state_of contents left shown printed before) (state_of contents left shown printed after)
       (λ s t. WalkFaultsBy (λ o. failed_in after ≡ o) unit (fresh s) bound old walked.end t new)
-      → (IsSome (failed_in after) → walked.end ≡ end.Fault) → walked.failed ≡ failed_in after
+      → FailsBeforeEnd left after → (IsSome (failed_in after) → walked.end ≡ end.Fault) → walked.failed ≡ failed_in after
       → walked.due ≡ due_in after → KeepsTold contents left shown printed before after → KeepsDue shown before after
       → WalkLeaves contents left shown printed unit bound old walked new o o'
-  walk_leaves unit bound old walked new begins exact asked fault named due told keeps = record {
+  walk_leaves unit bound old walked new begins exact asked before_end fault named due told keeps = record {
     walks = on_objects contents left shown printed before after o o' are are' (λ s t. WalksTo unit (fresh s) bound old walked.end t new)
         (HasWalked unit bound old walked.end new)
         (λ x x' y y' z z' w w' is. record {
@@ -85,9 +100,12 @@ module _ {D S T P : Type 0} (contents : D → Option (List (List ℕ))) (left : 
           shows = record { input = refl; shown = refl; printed = refl; slots = refl; blocks = refl };
         }) exact;
     broke = on_objects contents left shown printed before after o o' are are'
-        (λ s t. WalkFaultsBy (λ o. failed_in after ≡ o) unit (fresh s) bound old walked.end t new) (BrokeAtCallOf walked.failed unit bound old)
+        (λ s t. WalkFaultsBy (λ o. failed_in after ≡ o) unit (fresh s) bound old walked.end t new × IfSome (failed_in after) (λ o. LeavesByte o t.input))
+        (BrokeAtCallOf walked.failed unit bound old)
         (λ x x' y y' z z' w w' is. broke_of unit bound old new (contents_with x y z w) (contents_with x' y' z' w') (state_with after x' y' z' w') walked.end
-        walked.failed (failed_in after) named fault is (record { input = refl; shown = refl; printed = refl; slots = refl; blocks = refl })) asked;
+        walked.failed (failed_in after) named fault is.0 is.1 (record { input = refl; shown = refl; printed = refl; slots = refl; blocks = refl }))
+        (told_with (λ s t. WalkFaultsBy (λ o. failed_in after ≡ o) unit (fresh s) bound old walked.end t new)
+        (λ (t : State). IfSome (failed_in after) (λ o. LeavesByte o t.input)) _ _ (bytes_left contents left shown printed after before_end) asked);
     told = told_run contents left shown printed before after o o' are are' told;
     due = due_run contents left shown printed before after o o' are are' walked.due begins due told keeps;
   }

@@ -1,9 +1,7 @@
 -- Words of contracts. What a report of the search finds, as plain data; and what reading an input takes of it.
-use Rattle.std.specs.Prelude.{◌≡◌, ℕ, ◌<◌, ◌≤◌, suc, Bool, true, false, List, [], ◌∷◌, ◌++◌, length, drop, map, Result, Ok, Err, codes}
+use Rattle.std.specs.Prelude.{◌≡◌, ℕ, ◌<◌, ◌≤◌, suc, List, [], ◌∷◌, ◌++◌, length, drop, map, Result, Ok, Err}
 use Rattle.std.specs.Global.{Vec}
 use Rattle.edi_timeline.specs.Told.{meant}
-use Rattle.edi_timeline.specs.Text.{branch_text}
-use Rattle.edi_waits.specs.declared.names.Branch.{Branch}
 use Rattle.edi_waits.specs.Told.{all_of}
 use Rattle.edi_explore.specs.declared.ends.Found as code_found
 use Rattle.edi_explore.specs.declared.ends.Report as code_report
@@ -18,15 +16,6 @@ reached_of f = record { ending = meant f.ending; choices = f.choices.items; turn
 abbrev pub findings_of : code_report.Report → Findings
 findings_of r = record { endings = map reached_of r.found.items; verdict = r.verdict; states = r.states; cut = r.cut.items }
 
--- `1.2` for the first branch, `/1.2` for each other one
-abbrev pub step_text : (first : Bool) → Branch → List ℕ
-step_text true branch = branch_text branch.fork branch.number
-step_text false branch = codes "/" ++ branch_text branch.fork branch.number
-
-abbrev pub steps_text : (first : Bool) → List Branch → List ℕ
-steps_text first [] = []
-steps_text first (branch ∷ branches) = step_text first branch ++ steps_text false branches
-
 -- these first bytes of an input were taken
 abbrev pub HasTaken : (taken old new : List ℕ) → Type 0
 HasTaken taken old new = old ≡ taken ++ new
@@ -35,9 +24,13 @@ HasTaken taken old new = old ≡ taken ++ new
 abbrev pub HasTakenSome : (old new : List ℕ) → Type 0
 HasTakenSome old new = (taken : List ℕ) × HasTaken taken old new × (length taken ≤ suc most_input)
 
+-- some were, at most as many as an input may have, and the next byte is still left
+abbrev pub HasFailedBehind : (old new : List ℕ) → Type 0
+HasFailedBehind old new = (taken : List ℕ) × HasTaken taken old new × (length taken ≤ most_input) × (0 < length new)
+
 -- from the bytes that were left of an input before it was read to those left after
 abbrev pub Reads : Result (Vec ℕ) InputFault → List ℕ → List ℕ → Type 0
 Reads (Ok bytes) old new = (old ≡ bytes.items) × (new ≡ []) × (length old ≤ most_input)
 Reads (Err fault.TooLong) old new = (most_input < length old) × (new ≡ drop (suc most_input) old)
-Reads (Err fault.Failed) old new = HasTakenSome old new
+Reads (Err fault.Failed) old new = HasFailedBehind old new
 Reads (Err fault.NoMemory) old new = HasTakenSome old new

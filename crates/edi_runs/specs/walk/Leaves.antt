@@ -2,10 +2,11 @@
 use Rattle.std.specs.Prelude.{◌≡◌, ◌⊎◌, ℕ, Bool, true, false, List, drop, length, Option, Some, None, ⊤}
 use Rattle.edi_told.specs.Told.{WhereTold}
 use Rattle.edi_calls.specs.declared.ends.Outside.{Outside}
-use Rattle.edi_calls.specs.Asked.{Asks, IsFollowed}
+use Rattle.edi_calls.specs.Asked.{may_have_done, Asks, IsFollowed}
 use Rattle.edi_calls.specs.Names.{Name}
 use Rattle.edi_calls.specs.Outcome.{Ending}
 use Rattle.edi_calls.specs.State.{State, Traced}
+use Rattle.edi_system.specs.AsCalls.{LeavesByte}
 use Rattle.edi_system.specs.Parts.{due_after, ToldStays}
 use Rattle.edi_trace.specs.Drawn.{Drawn}
 use Rattle.edi_unit.specs.Tree.{ProgramUnit}
@@ -27,8 +28,8 @@ pub record HasWalked (unit : ProgramUnit) (bound : ℕ) (old : Drawn) (e : WalkE
   pub walks : WalksTo unit (system_on before) bound old e state new
   pub shows : Show state after
 
--- The walk was broken off in a call that uses this object: the objects have what the state before that call has, or the one that
--- it was to leave.
+-- The walk was broken off in a call that uses this object: the objects have what the state before that call has, or, unless it is the
+-- input, the one that it was to leave. The input has failed before its end.
 pub record BrokeAtCall (outside : Outside) (unit : ProgramUnit) (bound : ℕ) (old : Drawn) (before after : Contents) : Type 0 where
   pub ending : Ending
   pub last : Traced
@@ -40,7 +41,8 @@ pub record BrokeAtCall (outside : Outside) (unit : ProgramUnit) (bound : ℕ) (o
   pub next : State
   pub followed : IsFollowed (system_on before) last.past one next
   pub asks : Asks outside one next
-  pub shows : Show one after ⊎ Show next after
+  pub left : LeavesByte outside one.input
+  pub shows : Show one after ⊎ ((may_have_done outside ≡ true) × Show next after)
 
 -- so it was where an object has failed
 abbrev pub BrokeAtCallOf : Option Outside → ProgramUnit → (bound : ℕ) → (old : Drawn) → (before after : Contents) → Type 0

@@ -4,7 +4,7 @@ ghost use Rattle.std.specs.Prelude.{◌≡◌, ◌↔◌, IsSome};
 ghost use Rattle.edi_told.specs.Told.{WhereTold};
 ghost use Rattle.edi_calls.specs.State.{fresh};
 ghost use Rattle.edi_unit.specs.View.{unit_of};
-ghost use Rattle.edi_system.specs.AsCalls.{KeepsDue};
+ghost use Rattle.edi_system.specs.AsCalls.{FailsBeforeEnd, KeepsDue};
 ghost use Rattle.edi_system.specs.Ends.{Keeps};
 ghost use Rattle.edi_system.specs.Parts.{KeepsTold};
 ghost use Rattle.edi_system.specs.State.{drive_in, failed_in, state_of, IsReady};
@@ -36,6 +36,8 @@ pub(crate) fn walk_execution<D: Drive, S: Source, T: Sink, P: Sink>(
         (state_of D.contents S.left T.taken P.taken system.new)
         (λ before after. WalkFaultsBy (λ outside. failed_in system.new ≡ outside) (unit_of unit.now) (fresh before) bound choices.old result after
         choices.new) }
+    // The input has failed before its end.
+    ensures before_end { FailsBeforeEnd S.left system.new }
     // An object has failed exactly where the answer says so, and its count rose.
     ensures failed { IsSome (failed_in system.new) ↔ (result ≡ WalkEnd.Fault) }
     ensures due { KeepsDue T.taken system.old system.new }

@@ -1,22 +1,20 @@
 -- What may differ between two ways on from one shell.
-use Rattle.std.proofs.Common.{◌≡◌, ◌∙◌, ◌⊎◌, inl, inr, ℕ, ◌+◌, ◌-◌, true, false, List, [], ◌∷◌, length, Option, Some, None, refl, sym}
+use Rattle.std.proofs.Common.{◌≡◌, ◌∙◌, ◌⊎◌, inl, inr, ℕ, ◌+◌, ◌-◌, true, false, List, [], ◌∷◌, length, Option, Some, None, refl, sym, ap}
 use Rattle.std.specs.Prelude.{codes, insert, remove, slice_set}
 use Rattle.edi_calls.specs.declared.kinds.FileKind.{FileKind}
 use Rattle.edi_calls.specs.declared.kinds.FileKind.TheVariants as file_kind
-use Rattle.edi_calls.specs.Choice.{Choices, listed}
-use Rattle.edi_calls.specs.Outcome.{outcome_of}
+use Rattle.edi_calls.specs.Choice.{Choices}
 use Rattle.edi_calls.specs.State.{File, State, fresh}
 use Rattle.edi_edit.specs.declared.EditEnd.{EditEnd}
 use Rattle.edi_edit.specs.Editing.{Editing, changed, is_index, missing, refusal}
 use Rattle.edi_edit.specs.Lines as lines
+use Rattle.edi_scheme.specs.Laws.{parts_of}
 use Rattle.edi_target.specs.Check.{CodeParts}
 use Rattle.edi_target.specs.Fetch.{fetch}
-use Rattle.edi_target.specs.File.{code_fault_of, code_of}
+use Rattle.edi_target.specs.File.{code_bytes, code_fault_of, code_of}
 use Rattle.edi_target.specs.declared.code_fault.CodeFault.{CodeFault}
-use Rattle.edi_target.proofs.Histories.{end_is_determined, every_run_ends_through}
+use Rattle.edi_target.proofs.Histories.{end_is_determined}
 use Rattle.edi_texts.specs.Kinds.{kind_text}
-use Rattle.edi_texts.specs.Run.{IsCodeFor}
-use Rattle.edi_texts.specs.Texts.{IsUnit}
 use Rattle.edi_texts.proofs.Thing.{one_thing}
 use Rattle.edi_unit.specs.Tree.{ProgramUnit}
 use Rattle.edi_session.specs.declared.line.Line.{Line}
@@ -27,12 +25,12 @@ use Rattle.edi_session.specs.Course.{Course, becomes, shows}
 use Rattle.edi_session.specs.Files.{file_in}
 use Rattle.edi_session.specs.Session.{ActsBy, ActsOn, BeginsEditing, ChangesLine, CompilesFile, CompilesText, EditsBy, EditsFile, EditsLine, ExecutesBytes}
 use Rattle.edi_session.specs.Session.{ExecutesCode, ExecutesFile, Goes, GoesIn, Inserts, AfterLine, Replaces, StoresText, BehindTaken, TakesBack, behind, ends_with, goes}
-use Rattle.edi_session.specs.Session.{prompted, says_no_memory}
+use Rattle.edi_session.specs.Session.{prompted, says_no_memory, stores_code}
 use Rattle.edi_session.specs.Shell.{Mode, Shell, Taken, commanding, editing, ended, limited, next_line, next_text, on_fresh_line, says, shell_of, shown_in}
 use Rattle.edi_session.specs.Shell.{state_in, took}
 use Rattle.edi_session.specs.Texts.{ending_line, line_end, on_line}
 use Rattle.edi_session.specs.Words.{command_line, edit_line, kept_line}
-use Rattle.edi_session.specs.ends.Laws.{HaveTwoCodes, WantsMemory, may_want}
+use Rattle.edi_session.specs.ends.Laws.{WantsMemory, may_want}
 use Rattle.edi_session.proofs.ends.Throughout.{TakingKeeps, line_keeps}
 
 -- ---- one effect
@@ -62,15 +60,6 @@ one_effect bound choices (line.Edit f) s next other e p q = absurd (cc)
 one_effect bound choices line.Halt s next other e p q = p ∙ sym q
 one_effect bound choices (line.Execute f) s next other e p q = absurd (cc)
 
--- ---- a text with a code has a unit
-
-unit_of : (text : List ℕ) (code : CodeParts) (state : State) → IsCodeFor text code → (unit : ProgramUnit) × IsUnit text unit
-unit_of text code state for =
-    let run = every_run_ends_through code.words code.entry code.calls (fresh state) 0 (listed []) 0 in
-    let of_text = (for.same state 0 (listed []) (outcome_of run.1.system run.0 (0 - run.1.turns) run.2)).0
-    (run.0, run.1, run.2, (run.4.0, run.4.1), refl) in
-    (of_text.unit, of_text.unit_is)
-
 -- ---- files that stay
 
 shows_files : (bytes : List ℕ) (c : Course) → (shows bytes c).now.slots ≡ c.now.slots
@@ -88,13 +77,13 @@ files_kept s = record { shows_ = λ bytes t h. shows_files bytes t.system ∙ h;
 
 module _ (bound : ℕ) (choices : Choices) (s : Shell) (next other : AfterLine) where
   abbrev Differ : Type 0
-  Differ = (next ≡ other) ⊎ ((WantsMemory s next ⊎ WantsMemory s other) ⊎ HaveTwoCodes next other)
+  Differ = (next ≡ other) ⊎ (WantsMemory s next ⊎ WantsMemory s other)
 
   first : (t : Shell) → HasFiles s t → next ≡ goes (says_no_memory t) → Differ
-  first t files w = inr (inl (inl (record { at = t; shows = w; files = files })))
+  first t files w = inr (inl (record { at = t; shows = w; files = files }))
 
   second : (t : Shell) → HasFiles s t → other ≡ goes (says_no_memory t) → Differ
-  second t files w = inr (inl (inr (record { at = t; shows = w; files = files })))
+  second t files w = inr (inr (record { at = t; shows = w; files = files }))
 
   taking_differ : (taken : Taken) (P : List ℕ → Shell → AfterLine → Type 0)
       → ((bytes : List ℕ) (t : Shell) → HasFiles s t → P bytes t next → P bytes t other → Differ) → HasFiles s (shell_of taken) → BehindTaken taken P next
@@ -119,18 +108,10 @@ module _ (bound : ℕ) (choices : Choices) (s : Shell) (next other : AfterLine) 
   compiles text g t files (inl p) (inl q) =
       let same = one_thing.one_fault text p.2.0 q.2.0 p.0 q.0 p.1 q.1 p.2.1 q.2.1 in
       inl (p.3 ∙ (λ i. goes (says (on_line (same.2 i) (kind_text (same.1 i))) t)) ∙ sym q.3)
-  compiles text g t files (inl p) (inr (inl q)) =
-      let unit = unit_of text q.0 (state_in t) q.1 in absurd (one_thing.not_both text p.2.0 p.0 p.1 unit.0 p.2.1 unit.1)
-  compiles text g t files (inr (inl p)) (inl q) =
-      let unit = unit_of text p.0 (state_in t) p.1 in absurd (one_thing.not_both text q.2.0 q.0 q.1 unit.0 q.2.1 unit.1)
+  compiles text g t files (inl p) (inr (inl q)) = absurd (one_thing.not_both text p.2.0 p.0 p.1 q.0 p.2.1 q.1)
+  compiles text g t files (inr (inl p)) (inl q) = absurd (one_thing.not_both text q.2.0 q.0 q.1 p.0 q.2.1 p.1)
   compiles text g t files (inr (inl p)) (inr (inl q)) =
-      inr (inr (record {
-        text = text;
-        title = g;
-        at = t;
-        one = record { code = p.0; code_for = p.1; next_is = p.2 };
-        another = record { code = q.0; code_for = q.1; next_is = q.2 };
-      }))
+      inl (p.3 ∙ ap (λ (u : ProgramUnit). goes (stores_code g (code_bytes (parts_of u)) t)) (one_thing.one_unit text p.0 q.0 p.1 q.1) ∙ sym q.3)
 
   compiles_file : (f g : List ℕ) (file : Option File) (t : Shell) → HasFiles s t → CompilesFile f g file t next → CompilesFile f g file t other → Differ
   compiles_file f g None t files p q = inl (p ∙ sym q)

@@ -16,6 +16,7 @@ use Rattle.edi_edit.specs.declared.EditEnd.{EditEnd}
 use Rattle.edi_edit.specs.declared.EditEnd.TheVariants as edit_end
 use Rattle.edi_edit.specs.Editing.{Editing, changed, is_index, refusal, missing, undone}
 use Rattle.edi_edit.specs.Lines as lines
+use Rattle.edi_scheme.specs.Laws.{parts_of}
 use Rattle.edi_target.specs.Check.{CodeParts}
 use Rattle.edi_target.specs.Fetch.{fetch}
 use Rattle.edi_target.specs.File.{code_bytes, code_fault_of, code_of}
@@ -134,10 +135,11 @@ module _ (bound : ℕ) (choices : Choices) (H : Shell → Type 0) (keeps : EachP
   compiles_keeps : (text g : List ℕ) (s : Shell) (next : AfterLine) → H s → CompilesText text g s next → KeptIn next
   compiles_keeps text g s next h (inl row) = same next _ row.3 (says_keeps (on_line row.1 (kind_text row.0)) s h)
   compiles_keeps text g s next h (inr (inl row)) =
-      same next _ row.2
-      (if_keeps (nat_lt most_bytes (length (code_bytes row.0))) (says (with_number (codes "code too large") (length (code_bytes row.0))) s)
-      (stores g file_kind.Code (code_bytes row.0) s) (says_keeps (with_number (codes "code too large") (length (code_bytes row.0))) s h)
-      (stores_keeps g file_kind.Code (code_bytes row.0) s h))
+      let bytes : List ℕ = code_bytes (parts_of row.0) in
+      same next _ row.3
+      (if_keeps (nat_lt most_bytes (length bytes)) (says (with_number (codes "code too large") (length bytes)) s)
+      (stores g file_kind.Code bytes s) (says_keeps (with_number (codes "code too large") (length bytes)) s h)
+      (stores_keeps g file_kind.Code bytes s h))
   compiles_keeps text g s next h (inr (inr row)) = same next (goes (says_no_memory s)) row (no_memory_keeps s h)
 
   compiles_file_keeps : (f g : List ℕ) (file : Option File) (s : Shell) (next : AfterLine) → H s → CompilesFile f g file s next → KeptIn next

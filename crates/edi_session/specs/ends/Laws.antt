@@ -1,13 +1,10 @@
 -- Words of contracts. Laws of sessions.
-use Rattle.std.specs.Prelude.{◌≡◌, ◌≤◌, ◌⊎◌, ℕ, Bool, true, false, List}
+use Rattle.std.specs.Prelude.{◌≡◌, ◌≤◌, ◌⊎◌, ℕ, Bool, true, false}
 use Rattle.edi_calls.specs.Choice.{Choices}
-use Rattle.edi_target.specs.Check.{CodeParts}
-use Rattle.edi_target.specs.File.{code_bytes}
-use Rattle.edi_texts.specs.Run.{IsCodeFor}
 use Rattle.edi_session.specs.declared.end.SessionEnd.{SessionEnd}
 use Rattle.edi_session.specs.declared.line.Line.{Line}
 use Rattle.edi_session.specs.declared.line.Line.TheVariants as line
-use Rattle.edi_session.specs.Session.{ActsBy, ComesTo, Goes, AfterLine, Session, goes, says_no_memory, stores_code}
+use Rattle.edi_session.specs.Session.{ActsBy, ComesTo, Goes, AfterLine, Session, goes, says_no_memory}
 use Rattle.edi_session.specs.Shell.{Shell, limit, state_in}
 
 -- ---- every session comes to an end
@@ -41,22 +38,8 @@ pub record WantsMemory (s : Shell) (next : AfterLine) : Type 0 where
   pub shows : next ≡ goes (says_no_memory at)
   pub files : (state_in at).slots ≡ (state_in s).slots
 
--- this is what `compile` leaves of a text, with a code that may be made of it
-pub record HasCode (text title : List ℕ) (at : Shell) (next : AfterLine) : Type 0 where
-  pub code : CodeParts
-  pub code_for : IsCodeFor text code
-  pub next_is : next ≡ goes (stores_code title (code_bytes code) at)
-
--- so both are of one text, with a code each
-pub record HaveTwoCodes (next other : AfterLine) : Type 0 where
-  pub text : List ℕ
-  pub title : List ℕ
-  pub at : Shell
-  pub one : HasCode text title at next
-  pub another : HasCode text title at other
-
 -- two ways on from one shell differ in nothing else
 abbrev pub SessionsDifferInThese : Type 0
 SessionsDifferInThese =
     (bound : ℕ) (choices : Choices) (s : Shell) (next other : AfterLine) → Goes bound choices s next → Goes bound choices s other
-    → (next ≡ other) ⊎ ((WantsMemory s next ⊎ WantsMemory s other) ⊎ HaveTwoCodes next other)
+    → (next ≡ other) ⊎ (WantsMemory s next ⊎ WantsMemory s other)

@@ -13,7 +13,7 @@ use Rattle.edi_session.specs.declared.end.SessionEnd.TheVariants as end
 use Rattle.edi_session.specs.Files.{stores}
 use Rattle.edi_session.specs.Session.{AfterLine, goes, closes, shell_in, StoresText, BehindTaken}
 use Rattle.edi_session.specs.Shell.{Shell, Taken, took, ended, limited, shell_of, limit, state_in, took_byte, ends_text, text_with, line_with, take_text, next_text}
-use Rattle.edi_session.proofs.Later.{Later, answered_on, take_text_on}
+use Rattle.edi_session.proofs.Later.{Later, answered_on, text_behind}
 use Rattle.edi_shell_io.specs.calls.Standing.{At, StandsIn, IsFault, IsLeft, Leads}
 use Rattle.edi_shell_io.proofs.calls.Faulted.{of_fault}
 use Rattle.edi_shell.specs.commands.Rows.{LineBreaks, LineCloses, LineDoesOrEnds, LineEnds, EntersFile}
@@ -75,7 +75,8 @@ module _ {C : Type 0} (at : C → State → ℕ → Type 0) (stands : C → Outs
       → GivesNone at stands e s c → Stops at stands e result c
   no_text text line s result e c is none =
       nothing_stops at stands s result e c (λ full. sym is ∙ limited_text (state_in s).input text line s full)
-      (subst (λ r. Later s (shell_of r)) is (take_text_on (state_in s).input text line s)) none
+      (λ byte left open_ some. subst (λ r. Later (took_byte left s) (shell_of r))
+      (sym (next_in_text (state_in s).input text line left byte s open_ some) ∙ is) (text_behind text line left byte s)) none
 
   -- the text is taken
   pub text_given : (n count : ℕ) (taken : Taken) (text room : List ℕ) (t : Shell) (c : C) → taken ≡ took text t → n ≡ length text

@@ -9,7 +9,7 @@ use Rattle.edi_session.specs.Shell.{Shell, Taken, took, limited, shell_of, limit
 use Rattle.std.proofs.lemmas.Bool.{eqb-true, ne_eqb}
 use Rattle.std.proofs.lemmas.List.{length-append, take_all}
 use Rattle.std.specs.Prelude.{Ok, IfNone, IfSome}
-use Rattle.edi_session.proofs.Later.{Later, take_line_on}
+use Rattle.edi_session.proofs.Later.{Later, line_behind, take_line_on}
 use Rattle.edi_shell_io.specs.calls.Standing.{At, StandsIn, IsFault}
 use Rattle.edi_shell.specs.commands.Taking.{GivesNone, GivesLine, Stops}
 use Rattle.edi_shell.proofs.commands.Standing.{stands_later, fault_stops, nothing_stops}
@@ -87,7 +87,8 @@ module _ {C : Type 0} (at : C → State → ℕ → Type 0) (stands : C → Outs
       → GivesNone at stands e s c → Stops at stands e result c
   none_stops echo line s result e c is none =
       nothing_stops at stands s result e c (λ full. sym is ∙ limited_line echo (state_in s).input line s full)
-      (subst (λ r. Later s (shell_of r)) is (take_line_on echo (state_in s).input line s)) none
+      (λ byte left open_ some. subst (λ r. Later (took_byte left s) (shell_of r))
+      (sym (next_in_line echo (state_in s).input line left byte s open_ some) ∙ is) (line_behind echo line left byte s)) none
 
   -- the input has ended, and no line was begun
   pub ends_empty : (echo : Bool) (line : List ℕ) (s : Shell) (result : Taken) (c : C) → take_line echo (state_in s).input line s ≡ result

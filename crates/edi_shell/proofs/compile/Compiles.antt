@@ -11,13 +11,13 @@ use Rattle.edi_calls.specs.declared.kinds.FileKind.TheVariants as file_kind
 use Rattle.edi_catalog.specs.Refusing.{no_room}
 use Rattle.edi_catalog.specs.SlotsStored.{slots_stored}
 use Rattle.edi_codefile.proofs.Files.{count_words, few_words, size_holds}
+use Rattle.edi_compile.specs.Compiled.{IsCodeOf}
 use Rattle.edi_compile.specs.Taken.{HasTaken}
 use Rattle.edi_compile.specs.declared.intake.Intake.{Intake}
 use Rattle.edi_target.specs.Check.{CodeParts, or_else}
 use Rattle.edi_target.specs.File.{code_bytes, code_fault_of, header_fault, size_fault}
 use Rattle.edi_target.specs.declared.code_fault.CodeFault.{CodeFault}
 use Rattle.edi_texts.specs.Kinds.{kind_text}
-use Rattle.edi_texts.specs.Run.{IsCodeFor}
 use Rattle.edi_texts.specs.Texts.{IsRefused}
 use Rattle.edi_texts.specs.declared.kind.RefusalKind.{RefusalKind}
 use Rattle.edi_session.specs.declared.end.SessionEnd.{SessionEnd}
@@ -144,11 +144,11 @@ module _ {C : Type 0} (at : C → State → ℕ → Type 0) (stands : C → Outs
       (like_says (on_line n (kind_text kind)) s) refl
       (subst (λ b. Leads at stands result (shown_by b s) c) is l)
 
-  pub compiled_stored : (s : Shell) (code : CodeParts) (bytes : List ℕ) (result : Result (Unit {0}) SessionEnd) (c : C) → IsCodeFor text code
+  pub compiled_stored : (s : Shell) (code : CodeParts) (bytes : List ℕ) (result : Result (Unit {0}) SessionEnd) (c : C) → IsCodeOf text code
       → bytes ≡ code_bytes code
       → Leads at stands result (stores_code g bytes s) c → LineDoes at stands (CompilesText text g) result s.drawn s c
   compiled_stored s code bytes result c own is l =
-      leads_does at stands (CompilesText text g) s (stores_code g bytes s) result c (inr (inl (code, own, ap (λ b. goes (stores_code g b s)) is)))
+      leads_does at stands (CompilesText text g) s (stores_code g bytes s) result c (inr (inl (own.unit, own.unit_is, own.code_for, ap (λ b. goes (stores_code g b s)) (is ∙ ap code_bytes own.code_is))))
       (like_code g bytes s) (drawn_code g bytes s) l
 
   -- the drive failed in the midst of it

@@ -5,7 +5,7 @@ use Rattle.edi_calls.specs.State.{State}
 use Rattle.edi_session.specs.declared.end.SessionEnd.{SessionEnd}
 use Rattle.edi_session.specs.declared.end.SessionEnd.TheVariants as end
 use Rattle.edi_session.specs.Shell.{Shell, Taken, took, ended, limited, shell_of, limit, state_in, took_byte, ends_text, take_line}
-use Rattle.edi_shell_io.specs.calls.Standing.{At, StandsIn, failed_by}
+use Rattle.edi_shell_io.specs.calls.Standing.{At, FailsAtByte, StandsIn, failed_by}
 
 -- So many bytes of a text have been taken, so many of them are its whole lines, and this tells whether the line behind them is the
 -- one that ends it.
@@ -40,15 +40,15 @@ module _ {C : Type 0} (ready : C → Type 0) (failed : C → Option Outside) whe
   IsLeftSo (Err e) c = Stays e c
 
 module _ {C : Type 0} (at : C → State → ℕ → Type 0) (stands : C → Outside → State → Type 0) where
-  -- no byte is taken: the limit was reached, or an object has failed
+  -- no byte is taken: the limit was reached, or the input has failed at the next byte
   abbrev pub GivesNone : SessionEnd → Shell → C → Type 0
   GivesNone end.Limit s c = (nat_le limit s.taken ≡ true) × At at c s
   GivesNone end.Halted s c = ⊥
   GivesNone end.InputEnd s c = ⊥
-  GivesNone end.DriveFault s c = StandsIn stands s c
-  GivesNone end.InputFault s c = StandsIn stands s c
-  GivesNone end.TerminalFault s c = StandsIn stands s c
-  GivesNone end.PrinterFault s c = StandsIn stands s c
+  GivesNone end.DriveFault s c = (nat_le limit s.taken ≡ false) × FailsAtByte stands s c
+  GivesNone end.InputFault s c = (nat_le limit s.taken ≡ false) × FailsAtByte stands s c
+  GivesNone end.TerminalFault s c = (nat_le limit s.taken ≡ false) × FailsAtByte stands s c
+  GivesNone end.PrinterFault s c = (nat_le limit s.taken ≡ false) × FailsAtByte stands s c
 
   -- a byte is taken, or the input has ended
   abbrev pub GivesByte : Result (Option ℕ) SessionEnd → Shell → C → Type 0

@@ -2,6 +2,7 @@
 
 ghost use Rattle.std.specs.Prelude.{◌≡◌, ◌≤◌, ◌<◌, ◌*◌, ◌^◌, length, ℕ, List, [], Some, Err};
 ghost use Rattle.edi_calls.specs.State.{File};
+ghost use Rattle.edi_compile.specs.Compiled.{IsCodeOf};
 ghost use Rattle.edi_compile.specs.Taken.{HasTaken};
 ghost use Rattle.edi_session.specs.Files.{file_in};
 ghost use Rattle.edi_session.specs.Session.{CompilesFile, CompilesText, stores_code};
@@ -10,7 +11,6 @@ ghost use Rattle.edi_shell_io.specs.calls.Standing.{At, IsLeft, Leads};
 ghost use Rattle.edi_shell.specs.commands.Rows.{LineDoes};
 ghost use Rattle.edi_shell.specs.compile.Feeding.{Feeds};
 ghost use Rattle.edi_texts.specs.Answers.{Gives};
-ghost use Rattle.edi_texts.specs.Run.{IsCodeFor};
 
 use crate::commands::{open, say, store_file};
 use edi_calls::FileKind;
@@ -71,7 +71,7 @@ fn store_code<C: ShellCalls>(calls: &mut C, g: &Title, bytes: &[u8]) -> OrEnd<()
 // Stores the code as the file `g`, or shows why not.
 fn pack_code<C: ShellCalls>(alloc: Global, calls: &mut C, g: &Title, code: &Code) -> OrEnd<()>
     requires ready { C.ready calls.old }
-    ensures exact { (s : Shell) (text : List ℕ) → IsCodeFor text code.now → At C.at calls.old s → C.tells calls.new →
+    ensures exact { (s : Shell) (text : List ℕ) → IsCodeOf text code.now → At C.at calls.old s → C.tells calls.new →
         LineDoes C.at C.stands (CompilesText text g.now) result s.drawn s calls.new }
     ensures left { IsLeft C.ready C.failed result calls.new }
     ensures lasts { C.lasts calls.old calls.new }
@@ -85,7 +85,7 @@ fn pack_code<C: ShellCalls>(alloc: Global, calls: &mut C, g: &Title, code: &Code
 // Shows why no code was made of a text.
 fn refuse_text<C: ShellCalls>(calls: &mut C, why: Refusal) -> OrEnd<()>
     requires ready { C.ready calls.old }
-    ensures exact { (s : Shell) (text g : List ℕ) → Gives (IsCodeFor text) text (Err why) → At C.at calls.old s → C.tells calls.new →
+    ensures exact { (s : Shell) (text g : List ℕ) → Gives (IsCodeOf text) text (Err why) → At C.at calls.old s → C.tells calls.new →
         LineDoes C.at C.stands (CompilesText text g) result s.drawn s calls.new }
     ensures left { IsLeft C.ready C.failed result calls.new }
     ensures lasts { C.lasts calls.old calls.new }

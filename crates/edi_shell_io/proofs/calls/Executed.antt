@@ -8,6 +8,7 @@ use Rattle.edi_calls.specs.State.{State, fresh, moments_of}
 use Rattle.edi_calls.specs.declared.ends.Outside.{Outside}
 use Rattle.edi_calls.specs.Asked.{IsFollowed}
 use Rattle.edi_execute.specs.Execution.{is_fault_ending, IsAtCall}
+use Rattle.edi_execute.proofs.Executing.{byte_before}
 use Rattle.edi_kernel.specs.Passed.{past_at, IsFailedCall}
 use Rattle.edi_kernel.specs.Runs as kernel
 use Rattle.edi_kernel.specs.Runs.{RunsAs}
@@ -100,12 +101,13 @@ module _ {D S T P : Type 0} (contents : D → Option (List (List ℕ))) (left : 
       let p = pair contents left shown printed old new s at_old tells keeps (λ x y. IsAtCall code (fresh x) bound before outside y) so in
       let whole = every_run_ends_through code.words code.entry code.calls (fresh (state_in s)) bound before.source s.drawn in
       let past : List State = whole.3 in
-      let failing = call_moved p.before p.after outside p.so.0 p.alike p.so.1 in
+      let failing = call_moved p.before p.after outside p.so.0.0 p.alike p.so.0.1 in
       let after_all : Shell = behind whole.1.system past whole.2 s in
       let follows = in_course past whole.1.system whole.2 failing.before failing.next
       (followed_in_whole (fetch code.words) code.entry code.calls (fresh (state_in s)) bound before.source s.drawn whole.0 whole.1 whole.2 past
-      failing.before failing.next p.so.0 whole.4 failing.follows) in
-      let both = at_call outside (states_of after_all.system) failing.before failing.next follows failing.asks in
+      failing.before failing.next p.so.0.0 whole.4 failing.follows) in
+      let byte_left = byte_before outside failing.before failing.next p.after failing.at p.so.1 in
+      let both = at_call outside (states_of after_all.system) failing.before failing.next follows failing.asks byte_left in
       record {
         ending_ = whole.0;
         drawn = whole.2;
@@ -115,6 +117,6 @@ module _ {D S T P : Type 0} (contents : D → Option (List (List ℕ))) (left : 
           | inl same ↦ stands_in contents left shown printed new after_all p.after failing.before outside p.is
               (same_outside failing.before p.after same) blamed both.0
           | inr same ↦ stands_in contents left shown printed new after_all p.after failing.next outside p.is
-              (same_outside failing.next p.after same) blamed both.1
+              (same_outside failing.next p.after same.1) blamed (both.1 same.0)
         ];
       }

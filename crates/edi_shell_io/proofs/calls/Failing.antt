@@ -1,21 +1,22 @@
 -- The call of a program that an object outside has failed, in the course of a session.
-use Rattle.std.proofs.Common.{◌≡◌, ℕ, List, [], ◌∷◌, ◌++◌, Option, refl, sym, ap, subst, ◌∙◌, inl, inr, arith, append_assoc}
+use Rattle.std.proofs.Common.{◌≡◌, ◌⊎◌, ◌<◌, ℕ, true, false, List, [], ◌∷◌, ◌++◌, length, Option, refl, sym, ap, subst, ◌∙◌, inl, inr, arith, append_assoc}
 use Rattle.std.proofs.lemmas.Bool.{cases_lt, eqb-true}
 use Rattle.edi_calls.specs.declared.ends.Outside.{Outside}
 use Rattle.edi_calls.specs.declared.ends.Outside.TheVariants as outside
-use Rattle.edi_calls.specs.Asked.{Asks, IsFollowed}
-use Rattle.edi_calls.specs.Calls.{CallResult, answered, no_file, file_limit, call}
+use Rattle.edi_calls.specs.Asked.{Asks, IsFollowed, may_have_done}
+use Rattle.edi_calls.specs.Calls.{CallResult, accept_from, answered, no_file, file_limit, call}
 use Rattle.edi_calls.specs.Choice.{Choices}
 use Rattle.edi_calls.specs.Outcome.{Ending}
 use Rattle.edi_calls.specs.State.{State, moments_of, newest}
+use Rattle.edi_system.specs.AsCalls.{LeavesByte}
 use Rattle.edi_target.specs.Mach.{Machine}
 use Rattle.edi_target.specs.Op.{Instruction}
 use Rattle.edi_target.specs.Moments.{history_from_start, EndsThrough}
 use Rattle.edi_target.proofs.Histories.{past_grows, same_past}
-use Rattle.edi_session.specs.Course.{IsFollowedBy, MayFail, PrintsByte, ShowsByte}
+use Rattle.edi_session.specs.Course.{IsFollowedBy, MayFail, PrintsByte, ShowsByte, TakesByte}
 use Rattle.edi_session.proofs.Faults.{both_there, drive_fails, input_fails, printer_fails, terminal_fails}
 
--- ---- a call that shows or prints does so with one byte
+-- ---- a call that shows, prints or takes does so with one byte
 
 abbrev left_by : State → CallResult → State
 left_by other (answered words state) = state
@@ -33,23 +34,40 @@ shows_byte before next a = (_, sym (left_so a.number 2 a.arguments a.answer befo
 prints_byte : (before next : State) → Asks outside.Printer before next → PrintsByte before next
 prints_byte before next a = (_, sym (left_so a.number 3 a.arguments a.answer before next (eqb-true a.number 3 a.uses_it) a.is))
 
--- the object that a call uses may fail before the call, or behind it
+-- one that takes finds a byte, or the input has ended
+taken_from : (before next : State) (input : List ℕ) → before.input ≡ input → left_by before (accept_from input before) ≡ next
+    → TakesByte before next ⊎ ((next ≡ before) × (before.input ≡ []))
+taken_from before next [] has is = inr (sym is, has)
+taken_from before next (byte ∷ left) has is =
+    let same : left ≡ next.input = ap (λ (x : State). x.input) is in
+    inl (byte, has ∙ ap (λ (i : List ℕ). byte ∷ i) same, sym is ∙ ap (λ (i : List ℕ). record before { input = i }) same)
+
+takes_byte : (before next : State) → Asks outside.Input before next → TakesByte before next ⊎ ((next ≡ before) × (before.input ≡ []))
+takes_byte before next a =
+    taken_from before next before.input refl (left_so a.number 1 a.arguments a.answer before next (eqb-true a.number 1 a.uses_it) a.is)
+
+-- the object that a call uses may fail before the call, or behind it, but the input only before it, where a byte is left
 pub at_call : (failed : Outside) (states : List State) (before next : State) → IsFollowedBy states before next → Asks failed before next
-    → MayFail failed states before × MayFail failed states next
-at_call outside.Terminal states before next follows asks =
+    → LeavesByte failed before.input → MayFail failed states before × (may_have_done failed ≡ true → MayFail failed states next)
+at_call outside.Terminal states before next follows asks left =
     let puts = shows_byte before next asks in (
       terminal_fails states before (record { before = before; next = next; follows = follows; puts = puts; at = inl refl }),
-      terminal_fails states next (record { before = before; next = next; follows = follows; puts = puts; at = inr refl }),
+      λ done. terminal_fails states next (record { before = before; next = next; follows = follows; puts = puts; at = inr refl }),
     )
-at_call outside.Printer states before next follows asks =
+at_call outside.Printer states before next follows asks left =
     let puts = prints_byte before next asks in (
       printer_fails states before (record { before = before; next = next; follows = follows; puts = puts; at = inl refl }),
-      printer_fails states next (record { before = before; next = next; follows = follows; puts = puts; at = inr refl }),
+      λ done. printer_fails states next (record { before = before; next = next; follows = follows; puts = puts; at = inr refl }),
     )
-at_call outside.Drive states before next follows asks =
-    let both = both_there states before next follows in (drive_fails states before both.0, drive_fails states next both.1)
-at_call outside.Input states before next follows asks =
-    let both = both_there states before next follows in (input_fails states before both.0, input_fails states next both.1)
+at_call outside.Drive states before next follows asks left =
+    let both = both_there states before next follows in (drive_fails states before both.0, λ done. drive_fails states next both.1)
+at_call outside.Input states before next follows asks left = (
+  elim (takes_byte before next asks) [
+    | inl takes ↦ input_fails states before next follows takes
+    | inr ended ↦ absurd (let none : 0 < 0 = subst (λ (i : List ℕ). 0 < length i) ended.1 left in omega (arith, none))
+  ],
+  λ done. absurd (let wrong : false ≡ true = done in cc),
+)
 
 -- ---- what follows one another in the past of a run
 

@@ -5,16 +5,19 @@ use Rattle.std.proofs.lemmas.List.Elements.{Contains-append_right}
 use Rattle.edi_calls.specs.declared.ends.Outside.{Outside}
 use Rattle.edi_calls.specs.declared.ends.Outside.TheVariants as outside
 use Rattle.edi_calls.specs.State.{State, fresh}
-use Rattle.edi_session.specs.Course.{Course, IsAtByte, MayFail, PrintsByte, ShowsByte, states_of, becomes, shows, prints}
+use Rattle.edi_session.specs.Course.{Course, IsAtByte, MayFail, PrintsByte, ShowsByte, states_of, becomes, leaves_input, shows, prints}
 use Rattle.edi_session.proofs.Faults.{byte_on, drive_fails, input_fails, printer_fails, terminal_fails}
 
 is_now : (c : Course) → Contains (states_of c) c.now
 is_now c = (0, omega arith, refl)
 
--- the input may fail where a course is now, and the drive there and before a change
-pub input_now : (c : Course) → MayFail outside.Input (states_of c) c.now
-input_now c = input_fails (states_of c) c.now (is_now c)
+-- the input may fail where its next byte is taken, before that
+pub input_past : (byte : ℕ) (left : List ℕ) (c : Course) → c.now.input ≡ byte ∷ left → MayFail outside.Input (states_of (leaves_input left c)) c.now
+input_past byte left c some =
+    input_fails (states_of (leaves_input left c)) c.now (record c.now { input = left }) (record { later = []; earlier = c.past; is = refl })
+    (byte, some, refl)
 
+-- the drive may fail where a course is now, and there before a change
 pub drive_now : (c : Course) → MayFail outside.Drive (states_of c) c.now
 drive_now c = drive_fails (states_of c) c.now (is_now c)
 

@@ -35,7 +35,7 @@ use Rattle.edi_session.specs.Texts as texts
 use Rattle.edi_shell_io.specs.calls.OnSystem.{FailsAt, HasState, StandsAt, taken_by, put_by, read_by, page_by, page_size}
 use Rattle.edi_shell_io.specs.calls.Standing.{Answers, At, Leads, ReadsFile, ReadsPage, StandsIn, Takes, with_slots}
 use Rattle.edi_shell_io.proofs.calls.Pages.{counted, page_part}
-use Rattle.edi_shell_io.proofs.calls.Steps.{Appends, drive_now, drive_past, input_now, more_printed, more_shown, prints_append, shows_append}
+use Rattle.edi_shell_io.proofs.calls.Steps.{Appends, drive_now, drive_past, input_past, more_printed, more_shown, prints_append, shows_append}
 
 -- ---- options
 
@@ -65,6 +65,13 @@ record One (told : Option State) (state : State) : Type 0 where
 one : (told : Option State) (state : State) → HasState told state → IsSome told → One told state
 one (Some x) state has tells = record { now = x; is = refl; alike = has }
 one None state has tells = absurd (let wrong : false ≡ true = tells in cc)
+
+-- ---- the next byte of an input
+
+-- one that is not empty has one
+next_of : (input : List ℕ) → 0 < length input → (byte : ℕ) × (left : List ℕ) × (input ≡ byte ∷ left)
+next_of [] some = absurd (omega (arith, some))
+next_of (byte ∷ left) some = (byte, left, refl)
 
 -- ---- whether a line is due
 
@@ -219,8 +226,15 @@ module _ {D S T P : Type 0} (contents : D → Option (List (List ℕ))) (left : 
           )
       takes next.Failed blamed so =
           let p = pair (TakesByte next.Failed) so in
-          stands_in new s p.after (state_in s) outside.Input p.is
-          (ap fresh p.so.1 ∙ ap (λ (i : List ℕ). record (fresh p.before) { input = i }) p.so.0.1 ∙ p.alike) blamed (input_now s.system)
+          let more : (byte : ℕ) × (left : List ℕ) × ((state_in s).input ≡ byte ∷ left) =
+          next_of (state_in s).input (subst (λ (x : State). 0 < length x.input) p.alike p.so.0.0) in (
+            more.0,
+            more.1,
+            more.2,
+            stands_in new (took_byte more.1 s) p.after (state_in s) outside.Input p.is
+                (ap fresh p.so.1 ∙ ap (λ (i : List ℕ). record (fresh p.before) { input = i }) p.so.0.1 ∙ p.alike) blamed
+                (input_past more.0 more.1 s.system more.2),
+          )
 
       -- ---- the terminal and the printer
 

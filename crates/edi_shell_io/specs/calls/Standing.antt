@@ -63,6 +63,10 @@ pub record StandsIn {C : Type 0} (stands : C → Outside → State → Type 0) (
   pub there : MayFail failed (states_of s.system) moment
   pub is : stands c failed moment
 
+-- The input has failed at its next byte: the object stands at a state through which the shell came that has taken that byte.
+abbrev pub FailsAtByte : {C : Type 0} → (stands : C → Outside → State → Type 0) → Shell → C → Type 0
+FailsAtByte stands s c = (byte : ℕ) × (left : List ℕ) × ((state_in s).input ≡ byte ∷ left) × StandsIn stands (took_byte left s) c
+
 -- so many bytes of these are those of the file, if there is one
 abbrev pub HasRead : Option ℕ → Option File → (part : List ℕ → List ℕ) → (into : List ℕ) → Type 0
 HasRead (Some n) (Some file) part into = take n into ≡ part file.bytes
@@ -86,11 +90,11 @@ module _ {C : Type 0} (at : C → State → ℕ → Type 0) (stands : C → Outs
   Leads (Ok x) s c = At at c s
   Leads (Err e) s c = StandsIn stands s c
 
-  -- the next byte of the input is taken, or there is none
+  -- the next byte of the input is taken, or there is none, or the input has failed at it
   abbrev pub Takes : Result (Option ℕ) SessionEnd → Shell → C → Type 0
   Takes (Ok (Some byte)) s c = (left : List ℕ) × ((state_in s).input ≡ byte ∷ left) × At at c (took_byte left s)
   Takes (Ok None) s c = ((state_in s).input ≡ []) × At at c s
-  Takes (Err e) s c = StandsIn stands s c
+  Takes (Err e) s c = FailsAtByte stands s c
 
   abbrev pub ReadsFile : Result (Option ℕ) SessionEnd → Option File → (into : List ℕ) → Shell → C → Type 0
   ReadsFile (Ok read) file into s c = HasRead read file (λ bytes. bytes) into × At at c s

@@ -21,9 +21,8 @@ use Rattle.edi_runs.specs.explore.Input.{most_input, names_accept}
 use Rattle.edi_runs.specs.explore.Lines.{report_text}
 use Rattle.edi_runs.specs.explore.Records.{records_of}
 use Rattle.edi_system.specs.Growing.{Grows, Shrinks}
-use Rattle.edi_target.specs.Check.{CodeParts}
+use Rattle.edi_scheme.specs.Laws.{parts_of}
 use Rattle.edi_target.specs.File.{code_bytes}
-use Rattle.edi_texts.specs.Run.{IsCodeFor}
 use Rattle.edi_texts.specs.Texts.{IsUnit}
 use Rattle.edi_unit.specs.Tree.{ProgramUnit}
 use Rattle.edi_utils.specs.Listing.{listing_of}
@@ -116,15 +115,10 @@ finds_nothing bytes input unit states turns shown is = record {
   none_there i a h = absurd (let no : None ≡ Some a = h in cc)
 
 module _ (files : Contents) (d : Devices) (kernel : KernelLeft) where
-  -- the code that the compiler makes of the text
-  code_some : (bytes : List ℕ) (unit : ProgramUnit) → IsUnit bytes unit → (parts : CodeParts) × IsCodeFor bytes parts
-  code_some bytes unit is = (_, texts_do_as_meant bytes unit is)
-
   compile_some : (file out bytes : List ℕ) (unit : ProgramUnit) → IsUnit bytes unit
-      → MayCome (words.compile file out) (IsDone (KeepsCode out bytes)) files d kernel
+      → MayCome (words.compile file out) (IsDone (KeepsCode out bytes unit)) files d kernel
   compile_some file out bytes unit is =
-      let code = code_some bytes unit is in
-      let kept : List Kept = (out, code_bytes code.0) ∷ [] in record {
+      let kept : List Kept = (out, code_bytes (parts_of unit)) ∷ [] in record {
         answer = status.Ok;
         decisive = tt;
         files_after = with_kept kept files;
@@ -135,8 +129,7 @@ module _ (files : Contents) (d : Devices) (kernel : KernelLeft) where
         comes = (
           refl,
           record {
-            parts = code.0;
-            code_is = code.1;
+            code_is = texts_do_as_meant bytes unit is;
             keeps = record { shown_ = refl; keeps = refl; blocks = refl; input = refl; printed = refl; kernel_same = refl };
           },
         );
@@ -147,7 +140,7 @@ module _ (files : Contents) (d : Devices) (kernel : KernelLeft) where
   pub compile_may : (file out : List ℕ) → MayEnd (words.compile file out) files d kernel
   compile_may file out =
       of_table (words.compile file out) files d kernel _
-      (does_some (words.compile file out) files d kernel (TextSteps (told_outside files d) file) (λ a. IsDone (KeepsCode out a.0)) (text_some files d file)
+      (does_some (words.compile file out) files d kernel (TextSteps (told_outside files d) file) (λ a. IsDone (KeepsCode out a.0 a.1)) (text_some files d file)
       (λ a went. compile_some file out a.0 a.1 (unit_of (told_outside files d) file a went))) (λ s after shown k h. h)
 
   pub new_disk_may : (blocks : ℕ) → 64 ≤ blocks → blocks ≤ 4096 → MayEnd (words.newdisk blocks None) files d kernel

@@ -85,8 +85,8 @@ fn make<D: Drive, S: Source, T: Sink, P: Sink>(
     calls: &mut System<'_, '_, '_, '_, '_, '_, D, S, T, P>,
     call: Call,
 ) -> Option<Answer>
-    requires working { HasFailed D.contents D.count calls.old None }
-    ensures working { IsSome result → HasFailed D.contents D.count calls.new None }
+    requires working { HasFailed D.contents D.count S.left calls.old None }
+    ensures working { IsSome result → HasFailed D.contents D.count S.left calls.new None }
 {
     match call {
         Call::Accept => ask(calls, 1, &[], &mut [999]),
@@ -108,7 +108,7 @@ pub(crate) fn answered<D: Drive, S: Source, T: Sink, P: Sink>(
     calls: &mut System<'_, '_, '_, '_, '_, '_, D, S, T, P>,
     table: &[(Call, Answer)],
 ) -> usize
-    requires working { HasFailed D.contents D.count calls.old None }
+    requires working { HasFailed D.contents D.count S.left calls.old None }
 {
     for (i, (call, answer)) in table.iter().enumerate() {
         if make(calls, *call) != Some(*answer) {

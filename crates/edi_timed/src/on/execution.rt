@@ -37,7 +37,8 @@ pub(crate) fn time_execution<D: Drive, S: Source, T: Sink, P: Sink>(
     ensures moment { result ≡ Ending.Fault → choices.old.drawn + bound < 2 ^ 64
         → WhereTold (state_of D.contents S.left T.taken P.taken system.old) (state_of D.contents S.left T.taken P.taken system.new)
         (λ before after. IsAtMoment code.now (fresh before) bound choices.old after) }
-    // It is the one before the call that failed, or the one that this call was to leave; and the call uses the object that has failed.
+    // It is the one before the call that failed, or the one that this call was to leave; and the call uses the object that has failed,
+    // which is no input at its end.
     ensures call { (outside : Outside) → failed_in system.new ≡ Some outside → choices.old.drawn + bound < 2 ^ 64
         → WhereTold (state_of D.contents S.left T.taken P.taken system.old) (state_of D.contents S.left T.taken P.taken system.new)
         (λ before after. IsAtCall code.now (fresh before) bound choices.old outside after) }

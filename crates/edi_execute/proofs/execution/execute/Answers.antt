@@ -1,11 +1,14 @@
 use Rattle.std.proofs.Common.{refl, subst, sym, ◌∙◌}
 use Rattle.std.specs.Prelude.{IsSome}
 use Rattle.edi_kernel.specs.Runs.{FaultsBy, RunsTo}
-use Rattle.edi_system.specs.AsCalls.{HasFailed}
+use Rattle.edi_calls.specs.State.{State, fresh}
+use Rattle.edi_system.specs.AsCalls.{HasFailed, LeavesByte}
+use Rattle.edi_execute.specs.Execution.{IsAtFailedCall}
 use Rattle.edi_system.proofs.Chained.{behind_none, keeps_on, keeps_told_on, told_behind, told_then}
 use Rattle.edi_system.proofs.Lasting.{valid_ready}
-use Rattle.edi_system.proofs.Told.{told_map}
-use Rattle.edi_execute.proofs.Executing.{at_call, at_moment, blamed, named, run_keeps, still_ready}
+use Rattle.edi_system.proofs.Told.{told_map, told_with}
+use Rattle.edi_system.proofs.Used.{byte_left}
+use Rattle.edi_execute.proofs.Executing.{at_call, at_moment, blamed, failed_is, named, run_keeps, still_ready}
 use Rattle.edi_execute.proofs.execution.execute.Goals as goal
 
 pub returns-clause-exact : goal.returns-clause-exact
@@ -20,20 +23,24 @@ returns-clause-moment g c = λ fault few.
     told_map _ _ _ _ (λ x z runs. at_moment c.args.code.now _ c.args.bound c.args.choices.now c.run.result _ _ z _ fault runs) (returns-clause-exact g c few)
 
 pub returns-clause-failed : goal.returns-clause-failed
-returns-clause-failed g c = named g.D.Drive.contents g.D.Drive.count c.run.new.calls _ _ c.run.result c.run.ensures.blame
+returns-clause-failed g c = named g.D.Drive.contents g.D.Drive.count g.S.Source.left c.run.new.calls _ _ c.run.result c.run.ensures.blame
 
 pub returns-clause-call : goal.returns-clause-call
 returns-clause-call g c = λ outside is few.
     let fault = (returns-clause-failed g c).0 (subst IsSome (sym is) refl) in
-    told_then _ _ _ _ _ _
-    (λ x y z same faults. at_call g.D.Drive.contents g.D.Drive.count c.run.new.calls c.args.code.now _ c.args.bound c.args.choices.now c.run.result
-    c.run.new.self.used z c.run.new.choices outside fault is
-    (subst (λ s. FaultsBy (λ o. HasFailed g.D.Drive.contents g.D.Drive.count c.run.new.calls o) c.args.code.now s c.args.bound c.args.choices.now c.run.result
-    c.run.new.self.used z c.run.new.choices) same faults))
-    c.begin_program.ensures.exact (c.run.ensures.asked few)
+    let failed = failed_is g.D.Drive.contents g.D.Drive.count g.S.Source.left c.run.new.calls _ _ c.run.result fault c.run.ensures.blame outside is in
+    let At : State → State → Type 0 = λ s t. IsAtFailedCall c.args.code.now (fresh s) c.args.bound c.args.choices.now outside t in
+    told_with At (λ (t : State). LeavesByte outside t.input) _ _
+    (byte_left g.D.Drive.contents g.S.Source.left g.T.Sink.taken g.P.Sink.taken c.run.new.calls outside failed.before_end)
+    (told_then _ _ At _ _ _
+    (λ x y z same faults. at_call g.D.Drive.contents g.D.Drive.count g.S.Source.left c.run.new.calls c.args.code.now (fresh x) c.args.bound
+    c.args.choices.now c.run.result c.run.new.self.used z c.run.new.choices outside fault failed
+    (subst (λ s. FaultsBy (λ o. HasFailed g.D.Drive.contents g.D.Drive.count g.S.Source.left c.run.new.calls o) c.args.code.now s c.args.bound
+    c.args.choices.now c.run.result c.run.new.self.used z c.run.new.choices) same faults))
+    c.begin_program.ensures.exact (c.run.ensures.asked few))
 
 pub returns-clause-ready : goal.returns-clause-ready
-returns-clause-ready g c = still_ready g.D.Drive.contents g.D.Drive.count c.run.new.calls _ _ c.run.result c.run.ensures.blame
+returns-clause-ready g c = still_ready g.D.Drive.contents g.D.Drive.count g.S.Source.left c.run.new.calls _ _ c.run.result c.run.ensures.blame
 
 pub returns-clause-told : goal.returns-clause-told
 returns-clause-told g c =
@@ -61,4 +68,4 @@ returns-clause-keeps g c =
     keeps_on g.D.Drive.faults g.S.Source.faults g.T.Sink.faults g.P.Sink.faults _ c.args.system.now c.begin_program.new.self c.run.new.calls
     c.begin_program.ensures.keeps
     (run_keeps g.D.Drive.faults g.S.Source.faults g.T.Sink.faults g.P.Sink.faults _ c.begin_program.new.self c.run.new.calls c.run.ensures.references
-    c.run.ensures.later (blamed g.D.Drive.contents g.D.Drive.count c.run.new.calls _ _ c.run.result c.run.ensures.blame))
+    c.run.ensures.later (blamed g.D.Drive.contents g.D.Drive.count g.S.Source.left c.run.new.calls _ _ c.run.result c.run.ensures.blame))

@@ -1,8 +1,7 @@
 -- A run whose stints are counted, until it ends.
-use Rattle.std.proofs.Common.{◌≡◌, ◌+◌, suc, Some, refl, ap, arith, sym, subst, ◌∙◌, ◌≤◌}
+use Rattle.std.proofs.Common.{◌≡◌, ◌+◌, suc, Some, refl, arith, ◌∙◌}
 use Rattle.edi_kernel.proofs.Stretches.{lasts_on}
 use Rattle.edi_timeline.specs.Adding.{skipped}
-use Rattle.edi_timeline.specs.Timelines.{Told}
 use Rattle.edi_timeline.specs.Told.{meant}
 use Rattle.edi_timed.proofs.Counted.{asks_at_end, full_still, goes_first, goes_more, goes_to_end, rounds_told}
 use Rattle.edi_timed.proofs.counting.count_rounds.Goals as goal

@@ -1,5 +1,5 @@
 -- A round of a run whose stints are counted.
-use Rattle.std.proofs.Common.{◌≡◌, ◌-◌, Some, None, false, length, option_map, arith, sym, ap, ◌∙◌}
+use Rattle.std.proofs.Common.{◌≡◌, ◌-◌, None, false, length, option_map, arith, sym, ap, ◌∙◌}
 use Rattle.edi_kernel.specs.Kernel.{ended_by, is_over}
 use Rattle.edi_kernel.specs.Table.{ready_slots}
 use Rattle.edi_timeline.specs.Adding.{counted}
@@ -7,7 +7,7 @@ use Rattle.edi_timeline.specs.Told.{meant}
 use Rattle.edi_timed.specs.Leaving.{ended_as}
 use Rattle.edi_timed.proofs.Hearing.{unheard_lasts, same_first}
 use Rattle.edi_timed.proofs.Asked.{asks_on, asks_over}
-use Rattle.edi_timed.proofs.Counted.{counted_on, counted_over, others_ready}
+use Rattle.edi_timed.proofs.Counted.{counted_on, counted_over}
 use Rattle.edi_timed.proofs.Rounds.{chosen_lives}
 use Rattle.edi_timed.proofs.Whole.{not_over_before}
 use Rattle.edi_timed.proofs.counting.counted_round.Goals as goal

@@ -6,7 +6,7 @@ use Rattle.edi_execute.proofs.Executing.{run_keeps}
 use Rattle.edi_system.specs.AsCalls.{HasFailed}
 use Rattle.edi_system.specs.State.{failed_in}
 use Rattle.edi_walk.specs.Ends.{WalkFaultsBy, WalksTo}
-use Rattle.edi_runs.proofs.walk.Walking.{blamed, failed_so, named}
+use Rattle.edi_runs.proofs.walk.Walking.{before_end, blamed, failed_so, named}
 use Rattle.edi_runs.proofs.walk.execution.walk_execution.Goals as goal
 
 pub returns-clause-exact : goal.returns-clause-exact
@@ -20,12 +20,15 @@ returns-clause-asked g c =
     told_then _ _ _ _ _ _
     (λ x y z same faults. subst
     (λ s. WalkFaultsBy (λ o. failed_in c.walk.new.calls ≡ o) (unit_of c.args.unit.now) s c.args.bound c.args.choices.now c.walk.result z c.walk.new.choices) same
-    (failed_so (HasFailed g.D.Drive.contents g.D.Drive.count c.walk.new.calls) (λ o. failed_in c.walk.new.calls ≡ o) (unit_of c.args.unit.now) y c.args.bound
+    (failed_so (HasFailed g.D.Drive.contents g.D.Drive.count g.S.Source.left c.walk.new.calls) (λ o. failed_in c.walk.new.calls ≡ o) (unit_of c.args.unit.now) y c.args.bound
     c.args.choices.now c.walk.result z c.walk.new.choices (λ o h. h.is) faults))
     c.begin_program.ensures.exact c.walk.ensures.asked
 
+pub returns-clause-before_end : goal.returns-clause-before_end
+returns-clause-before_end g c = before_end g.D.Drive.contents g.D.Drive.count g.S.Source.left c.walk.new.calls _ _ c.walk.result c.walk.ensures.blame
+
 pub returns-clause-failed : goal.returns-clause-failed
-returns-clause-failed g c = named g.D.Drive.contents g.D.Drive.count c.walk.new.calls _ _ c.walk.result c.walk.ensures.blame
+returns-clause-failed g c = named g.D.Drive.contents g.D.Drive.count g.S.Source.left c.walk.new.calls _ _ c.walk.result c.walk.ensures.blame
 
 pub returns-clause-told : goal.returns-clause-told
 returns-clause-told g c =
@@ -53,4 +56,4 @@ returns-clause-keeps g c =
     keeps_on g.D.Drive.faults g.S.Source.faults g.T.Sink.faults g.P.Sink.faults _ c.args.system.now c.begin_program.new.self c.walk.new.calls
     c.begin_program.ensures.keeps
     (run_keeps g.D.Drive.faults g.S.Source.faults g.T.Sink.faults g.P.Sink.faults _ c.begin_program.new.self c.walk.new.calls c.walk.ensures.lasts.1
-    c.walk.ensures.lasts.0 (blamed g.D.Drive.contents g.D.Drive.count c.walk.new.calls _ _ c.walk.result c.walk.ensures.blame))
+    c.walk.ensures.lasts.0 (blamed g.D.Drive.contents g.D.Drive.count g.S.Source.left c.walk.new.calls _ _ c.walk.result c.walk.ensures.blame))

@@ -18,7 +18,8 @@ returns-clause-leaves g c =
     (record { drive = search rules; input = search rules; terminal = search rules; printer = search rules })
     (unit_of c.args.unit.now) c.args.bound c.args.choices.now
     (record { end = c.walk_execution-end.result; failed = c.failed.result; due = c.due.result }) _
-    c.new-system.ensures.begins c.walk_execution-end.ensures.exact c.walk_execution-end.ensures.asked c.walk_execution-end.ensures.failed.0
+    c.new-system.ensures.begins c.walk_execution-end.ensures.exact c.walk_execution-end.ensures.asked c.walk_execution-end.ensures.before_end
+    c.walk_execution-end.ensures.failed.0
     c.failed.ensures.exact c.due.ensures.exact c.walk_execution-end.ensures.told
     c.walk_execution-end.ensures.due
 

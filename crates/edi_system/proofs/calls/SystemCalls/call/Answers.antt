@@ -3,6 +3,7 @@ use Rattle.std.specs.Prelude.{replicate, Err, Ok}
 use Rattle.edi_system.proofs.Told.{told_map}
 use Rattle.edi_system.proofs.Calling.{answers, does, has_no_file, is_full}
 use Rattle.edi_system.proofs.Limits.{answers_may, does_may, has_no_file_may, is_full_may, may}
+use Rattle.edi_system.proofs.Used.{blamed_by}
 use Rattle.edi_system.proofs.calls.SystemCalls.call.Goals as goal
 
 pub returns-in-Ok-Some-clause-exact : goal.returns-in-Ok-Some-clause-exact
@@ -52,3 +53,8 @@ returns-in-Err-FileLimit-clause-may g c =
     is_full_may c.args.number c.args.answer.now c.in-Err-FileLimit.field-0 c.in-Err-FileLimit.field-0-is
     (may g.D.Drive.contents g.D.Drive.count c.args.self.now c.program_call.new.self g.S.Source.left g.T.Sink.taken g.P.Sink.taken c.args.args.now
     (Err c.in-Err-FileLimit.field-0) c.args.number c.requires.from c.requires.to c.in-Err-FileLimit.ensures.does)
+
+pub returns-in-Err-Fault-clause-blame : goal.returns-in-Err-Fault-clause-blame
+returns-in-Err-Fault-clause-blame g c =
+    blamed_by g.D.Drive.contents g.D.Drive.count g.S.Source.left c.program_call.new.self c.args.number c.in-Err-Fault.field-0 _ _ c.in-Err-Fault.field-0-is
+    c.in-Err-Fault.ensures.stays.keeps.blame c.in-Err-Fault.ensures.used

@@ -2,12 +2,13 @@ use Rattle.std.proofs.Common.{refl, subst, sym, ◌∙◌}
 use Rattle.std.specs.Prelude.{IsSome}
 use Rattle.edi_calls.specs.State.{State, fresh}
 use Rattle.edi_kernel.specs.Runs.{FaultsBy}
-use Rattle.edi_system.specs.AsCalls.{HasFailed}
+use Rattle.edi_system.specs.AsCalls.{HasFailed, LeavesByte}
 use Rattle.edi_system.proofs.Chained.{behind_none, keeps_on, keeps_told_on, told_behind, told_then}
 use Rattle.edi_system.proofs.Lasting.{valid_ready}
-use Rattle.edi_system.proofs.Told.{told_map}
-use Rattle.edi_execute.specs.Execution.{IsAtMoment}
-use Rattle.edi_execute.proofs.Executing.{at_call, at_moment, blamed, named, run_keeps}
+use Rattle.edi_system.proofs.Told.{told_map, told_with}
+use Rattle.edi_system.proofs.Used.{byte_left}
+use Rattle.edi_execute.specs.Execution.{IsAtFailedCall, IsAtMoment}
+use Rattle.edi_execute.proofs.Executing.{at_call, at_moment, blamed, failed_is, named, run_keeps}
 use Rattle.edi_timed.specs.Timed.{Timed}
 use Rattle.edi_timed.proofs.on.execution.time_execution.Goals as goal
 
@@ -38,7 +39,7 @@ returns-clause-told g c =
     (valid_ready g.D.Drive.contents g.D.Drive.count begun c.begin_program.ensures.ready) led)
 
 pub returns-clause-failed : goal.returns-clause-failed
-returns-clause-failed g c = named g.D.Drive.contents g.D.Drive.count c.timed_lent.new.calls _ _ c.timed_lent.result c.timed_lent.ensures.blame
+returns-clause-failed g c = named g.D.Drive.contents g.D.Drive.count g.S.Source.left c.timed_lent.new.calls _ _ c.timed_lent.result c.timed_lent.ensures.blame
 
 pub returns-clause-due : goal.returns-clause-due
 returns-clause-due g c = λ start since.
@@ -57,14 +58,20 @@ returns-clause-keeps g c =
     keeps_on g.D.Drive.faults g.S.Source.faults g.T.Sink.faults g.P.Sink.faults _ c.args.system.now c.begin_program.new.self
     c.timed_lent.new.calls c.begin_program.ensures.keeps
     (run_keeps g.D.Drive.faults g.S.Source.faults g.T.Sink.faults g.P.Sink.faults _ c.begin_program.new.self c.timed_lent.new.calls
-    c.timed_lent.ensures.references c.timed_lent.ensures.later (blamed g.D.Drive.contents g.D.Drive.count c.timed_lent.new.calls _ _ c.timed_lent.result c.timed_lent.ensures.blame))
+    c.timed_lent.ensures.references c.timed_lent.ensures.later (blamed g.D.Drive.contents g.D.Drive.count g.S.Source.left c.timed_lent.new.calls _ _
+    c.timed_lent.result c.timed_lent.ensures.blame))
 
 pub returns-clause-call : goal.returns-clause-call
 returns-clause-call g c = λ outside is few.
     let fault = (returns-clause-failed g c).0 (subst IsSome (sym is) refl) in
-    told_then _ _ _ _ _ _
-    (λ x y z same faults. at_call g.D.Drive.contents g.D.Drive.count c.timed_lent.new.calls c.args.code.now _ c.args.bound c.args.choices.now
-    c.timed_lent.result c.timed_lent.new.kernel.used z c.timed_lent.new.choices outside fault is
-    (subst (λ s. FaultsBy (λ o. HasFailed g.D.Drive.contents g.D.Drive.count c.timed_lent.new.calls o) c.args.code.now s c.args.bound c.args.choices.now
-    c.timed_lent.result c.timed_lent.new.kernel.used z c.timed_lent.new.choices) same faults))
-    c.begin_program.ensures.exact (c.timed_lent.ensures.asked few)
+    let failed = failed_is g.D.Drive.contents g.D.Drive.count g.S.Source.left c.timed_lent.new.calls _ _ c.timed_lent.result fault
+    c.timed_lent.ensures.blame outside is in
+    let At : State → State → Type 0 = λ s t. IsAtFailedCall c.args.code.now (fresh s) c.args.bound c.args.choices.now outside t in
+    told_with At (λ (t : State). LeavesByte outside t.input) _ _
+    (byte_left g.D.Drive.contents g.S.Source.left g.T.Sink.taken g.P.Sink.taken c.timed_lent.new.calls outside failed.before_end)
+    (told_then _ _ At _ _ _
+    (λ x y z same faults. at_call g.D.Drive.contents g.D.Drive.count g.S.Source.left c.timed_lent.new.calls c.args.code.now (fresh x) c.args.bound
+    c.args.choices.now c.timed_lent.result c.timed_lent.new.kernel.used z c.timed_lent.new.choices outside fault failed
+    (subst (λ s. FaultsBy (λ o. HasFailed g.D.Drive.contents g.D.Drive.count g.S.Source.left c.timed_lent.new.calls o) c.args.code.now s c.args.bound
+    c.args.choices.now c.timed_lent.result c.timed_lent.new.kernel.used z c.timed_lent.new.choices) same faults))
+    c.begin_program.ensures.exact (c.timed_lent.ensures.asked few))
