@@ -6,6 +6,7 @@ usage: tools/ahead.py NAME --only FUNCTION.. [rattle's flags]     as tools/ahead
 `rt check` goes no higher than an unproved crate; this does. Nothing of the libraries is proved by it, so it says how a proof
 stands and is no verdict. It takes one to five minutes of processor time, and up to 7 GB where all is read as source: name several
 functions in one call, and run tools/take.py first. `--only ''` reads the sources alone. What it checked is kept in out/ahead.
+A file may cite `Rattle.core` here, which `rt check` refuses.
 """
 import os
 import shutil
