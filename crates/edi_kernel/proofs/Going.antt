@@ -1,7 +1,7 @@
 -- A stint of the kernel is one of the machine.
-use Rattle.std.proofs.Common.{◌≡◌, ℕ, ◌-◌, ◌≤◌, Bool, true, false, List, length}
+use Rattle.std.proofs.Common.{◌≡◌, inl, inr, ℕ, ◌-◌, ◌≤◌, Bool, true, false, List, length}
 use Rattle.std.proofs.Common.{Option, Some, None, refl, sym, ◌∙◌, ap, arith, subst, if◌then◌else◌}
-use Rattle.std.specs.Prelude.{◌==◌}
+use Rattle.std.specs.Prelude.{◌==◌, IfSome}
 use Rattle.std.specs.Option.{option_map}
 use Rattle.edi_calls.specs.State.{State}
 use Rattle.edi_calls.specs.declared.ends.Outside.{Outside}
@@ -19,7 +19,7 @@ use Rattle.edi_kernel.specs.Table.{process_at, unmarked, free_slots}
 use Rattle.edi_kernel.specs.Table.{resumed}
 use Rattle.edi_kernel.specs.TableIsMachine.{IsTable, IsTaken, Naming}
 use Rattle.edi_kernel.specs.Stretch.{running_in, walked, Stretches, Allows, AsksFailed}
-use Rattle.edi_kernel.specs.Kernel.{Holds, StandsAfter, IsKernel, IsTakenIn}
+use Rattle.edi_kernel.specs.Kernel.{Holds, StandsAfter, IsKernel, IsNotedAs, IsTakenIn}
 use Rattle.edi_kernel.specs.Kernel.{BreaksBy, Handles, is_over, taken_after}
 use Rattle.edi_kernel.specs.Named.{BreaksRunBy, HoldsBy, GoesBy}
 use Rattle.edi_kernel.proofs.Switches.{unmarked_table}
@@ -56,6 +56,34 @@ mid_of old walked table slot cleared k e same f =
     sound : (b : Bool) → IsTable (if b then unmarked old.table else old.table)
     sound true = unmarked_table old.table k.table
     sound false = k.table
+
+-- what a kernel keeps, it keeps where an arrival is not noted
+pub kernel_as : (notes : Bool) (old noted new : KernelState) (result : StintEnd) → IsNotedAs notes old noted new result → IsKernel old → IsKernel noted
+    → IsKernel new
+kernel_as notes old noted new result is before k = record {
+  table = subst IsTable (sym table) k.table;
+  taken = subst (λ t. IsTakenIn t new.taken) (sym table) (subst (IsTakenIn noted.table) (sym (ap (λ (x : KernelState). x.taken) is.rest)) k.taken);
+  arrived = elim is.arrived [
+    | inl e ↦ subst (λ x. IfSome x IsOrdered) (sym e) k.arrived
+    | inr e ↦ subst (λ x. IfSome x IsOrdered) (sym e) before.arrived
+  ];
+}
+  where
+    table : new.table ≡ noted.table
+    table = ap (λ (x : KernelState). x.table) is.rest
+
+-- the same, beside a kernel that keeps the same activity
+pub noted_from : (notes : Bool) (old mid noted new : KernelState) (result : StintEnd) → mid.arrived ≡ old.arrived → IsNotedAs notes mid noted new result
+    → IsNotedAs notes old noted new result
+noted_from notes old mid noted new result same is = record {
+  rest = is.rest;
+  noting = is.noting;
+  other = is.other;
+  arrived = elim is.arrived [
+    | inl e ↦ inl e
+    | inr e ↦ inr (e ∙ same)
+  ];
+}
 
 module _ (words : List ℕ) (old mid new : KernelState) (slot left left1 : ℕ) (a : Activity) (cleared : Bool) (pause : Pause) (result : StintEnd) (l : Local)
     (kernel : IsKernel old) (taken : old.taken ≡ Some slot) (m_is : Mid old mid.table slot cleared) (after : new.taken ≡ taken_after pause (Some slot))

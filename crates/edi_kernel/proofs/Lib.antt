@@ -25,6 +25,7 @@ pub mod Going
 pub mod Choosing
 pub mod Starting
 pub mod Moments
+pub mod Enders
 pub mod Rounds
 pub mod Underway
 pub mod Named

@@ -13,7 +13,7 @@ use Rattle.edi_kernel.specs.declared.table.Table.{Table}
 use Rattle.edi_kernel.specs.declared.state.KernelState.{KernelState}
 use Rattle.edi_kernel.specs.Table.{PutsProcess, at_its_when, no_process, process_at, ready_slots, unmarked}
 use Rattle.edi_kernel.specs.TableIsMachine.{IsTable}
-use Rattle.edi_kernel.specs.Kernel.{StandsLast, StandsAfter, StandsAtEnd, ended_by}
+use Rattle.edi_kernel.specs.Kernel.{IsNotedAs, StandsLast, StandsAfter, StandsAtEnd, ended_by, is_arrived}
 use Rattle.edi_kernel.specs.Runs.{EndsUnready}
 use Rattle.edi_kernel.proofs.Lists.{put_list}
 
@@ -84,28 +84,40 @@ stands_at_end (stint_end.Arrived used) x taken ready t arrived is h = absurd (cc
 stands_at_end (stint_end.Forked used) x taken ready t arrived is h = absurd (cc)
 stands_at_end (stint_end.Exited used) x taken ready t arrived is h = absurd (cc)
 
+over_apart : (e : StintEnd) (x : Ending) → ended_by e ≡ Some x → is_arrived e ≡ false
+over_apart (stint_end.Over used y) x is = refl
+over_apart (stint_end.Arrived used) x is = absurd (cc)
+over_apart (stint_end.Forked used) x is = absurd (cc)
+over_apart (stint_end.Exited used) x is = absurd (cc)
+
+-- where a run ends, the kernel is as it is noted
+pub stands_other : (notes : Bool) (old noted new : KernelState) (e : StintEnd) (x : Ending) (taken : Option ℕ) (ready : List ℕ) → ended_by e ≡ Some x
+    → IsNotedAs notes old noted new e → StandsAfter e taken ready noted.table noted.arrived → StandsAfter e taken ready new.table new.arrived
+stands_other notes old noted new e x taken ready is kept h =
+    subst (λ (k : KernelState). StandsAfter e taken ready k.table k.arrived) (sym (kept.other (over_apart e x is))) h
+
 -- where a stint switches and then nobody is ready, nobody arrived
-none_arrived : (e : StintEnd) (taken : Option ℕ) (ready : List ℕ) (t : Table) (arrived : Option Activity) → ended_by e ≡ None → ready_slots t ≡ []
-    → StandsAfter e taken ready t arrived → arrived ≡ None
-none_arrived (stint_end.Arrived used) taken ready t arrived is nobody h = absurd (none_last ready h.slot (sym h.last ∙ nobody))
+none_arrived : (e : StintEnd) (taken : Option ℕ) (ready : List ℕ) (t : Table) (arrived kept : Option Activity) → ended_by e ≡ None → ready_slots t ≡ []
+    → (is_arrived e ≡ false → kept ≡ arrived) → StandsAfter e taken ready t arrived → kept ≡ None
+none_arrived (stint_end.Arrived used) taken ready t arrived kept is nobody same h = absurd (none_last ready h.slot (sym h.last ∙ nobody))
   where
     none_last : (xs : List ℕ) (x : ℕ) → xs ++ x ∷ [] ≡ [] → ⊥
     none_last [] x e = absurd (cc)
     none_last (y ∷ xs) x e = absurd (cc)
-none_arrived (stint_end.Forked used) taken ready t arrived is nobody h = h
-none_arrived (stint_end.Exited used) taken ready t arrived is nobody h = h
-none_arrived (stint_end.Over used e) taken ready t arrived is nobody h = absurd (cc)
+none_arrived (stint_end.Forked used) taken ready t arrived kept is nobody same h = same refl ∙ h
+none_arrived (stint_end.Exited used) taken ready t arrived kept is nobody same h = same refl ∙ h
+none_arrived (stint_end.Over used e) taken ready t arrived kept is nobody same h = absurd (cc)
 
-pub stands_unready : (e : StintEnd) (taken : Option ℕ) (ready : List ℕ) (result : Option Ending) (mid new : KernelState) → ended_by e ≡ None
-    → EndsUnready result mid new →
-    StandsAfter e taken ready mid.table mid.arrived → StandsAtEnd result new.table new.arrived
-stands_unready e taken ready None mid new is nobody h = tt
-stands_unready e taken ready (Some ending.Standstill) mid new is nobody h =
+pub stands_unready : (e : StintEnd) (taken : Option ℕ) (ready : List ℕ) (result : Option Ending) (noted mid new : KernelState) → ended_by e ≡ None
+    → EndsUnready result mid new → mid.table ≡ noted.table → (is_arrived e ≡ false → mid.arrived ≡ noted.arrived) →
+    StandsAfter e taken ready noted.table noted.arrived → StandsAtEnd result new.table new.arrived
+stands_unready e taken ready None noted mid new is nobody table same h = tt
+stands_unready e taken ready (Some ending.Standstill) noted mid new is nobody table same h =
     subst (λ (k : KernelState). StandsAtEnd (Some ending.Standstill) k.table k.arrived) (sym nobody.0)
-    (inr (none_arrived e taken ready mid.table mid.arrived is nobody.1 h, nobody.1))
-stands_unready e taken ready (Some ending.Done) mid new is nobody h = absurd nobody
-stands_unready e taken ready (Some (ending.Halted line)) mid new is nobody h = absurd nobody
-stands_unready e taken ready (Some (ending.Failed cause line)) mid new is nobody h = absurd nobody
-stands_unready e taken ready (Some ending.Turns) mid new is nobody h = absurd nobody
-stands_unready e taken ready (Some (ending.Bad at)) mid new is nobody h = absurd nobody
-stands_unready e taken ready (Some ending.Fault) mid new is nobody h = absurd nobody
+    (inr (none_arrived e taken ready noted.table noted.arrived mid.arrived is (sym (ap ready_slots table) ∙ nobody.1) same h, nobody.1))
+stands_unready e taken ready (Some ending.Done) noted mid new is nobody table same h = absurd nobody
+stands_unready e taken ready (Some (ending.Halted line)) noted mid new is nobody table same h = absurd nobody
+stands_unready e taken ready (Some (ending.Failed cause line)) noted mid new is nobody table same h = absurd nobody
+stands_unready e taken ready (Some ending.Turns) noted mid new is nobody table same h = absurd nobody
+stands_unready e taken ready (Some (ending.Bad at)) noted mid new is nobody table same h = absurd nobody
+stands_unready e taken ready (Some ending.Fault) noted mid new is nobody table same h = absurd nobody

@@ -26,7 +26,7 @@ use Rattle.edi_kernel.specs.Stints.{stint, stint_after}
 use Rattle.edi_kernel.specs.Kernel.{Holds, HoldsBroken, KeepsWords, Switches, EndsRun, BreaksOff, BreaksBy, GoesTo, ended_by, going_on, is_over, used_in}
 use Rattle.edi_kernel.specs.Named.{BreaksRun, BreaksRunBy, HoldsBy}
 use Rattle.edi_kernel.specs.Runs.{Proceeds, EndsUnready, KeepsMachine, RunEnds, RunFails, Rounds, RoundsBy}
-use Rattle.edi_kernel.specs.Runs.{RoundsBroken}
+use Rattle.edi_kernel.specs.Runs.{EndsStint, RoundsBroken}
 use Rattle.edi_kernel.specs.Moments.{moment, moment_on}
 use Rattle.edi_kernel.proofs.Moments.{moment_switched, moment_followed}
 
@@ -227,9 +227,14 @@ module _ (words : List ℕ) (bound : ℕ) (k new : KernelState) (now : State) (o
   ends_broken : (e : Ending) (prior : KernelState) (n : Naming) → drawn ≡ old → new.table ≡ k.table → new.taken ≡ k.taken
       → (b : BreaksRun words (left - used) e prior n k now m p others) → KeepsMachine e new b.ends.machine
       → (h : RunEnds words bound e new now old drawn m p others) × HoldsBroken words e new h.machine p others
+      × EndsStint words h.end h.machine m p others × (drawn.drawn ≡ old.drawn)
   unfolding ends_run
-  ends_broken e prior n same table taken b stands =
-      (ends_run e same b.ends stands, broken_same words e k new b.ends.machine p others store table taken b.broken)
+  ends_broken e prior n same table taken b stands = (
+    ends_run e same b.ends stands,
+    broken_same words e k new b.ends.machine p others store table taken b.broken,
+    (b.ends.steps, b.ends.is),
+    ap (λ d. d.drawn) same,
+  )
 
   pub broken_over : (e : Ending) (prior : KernelState) (n : Naming) → drawn ≡ old → new.table ≡ k.table → new.taken ≡ k.taken
       → BreaksRunBy words (stint_end.Over used e) left prior n k now m p others → RoundsBroken words bound (Some e) new now old drawn m p others

@@ -15,9 +15,11 @@ use Rattle.edi_kernel.specs.declared.ends.Ending.TheVariants as ending
 use Rattle.edi_kernel.specs.declared.state.KernelState.{KernelState}
 use Rattle.edi_kernel.specs.Kernel.{Holds, HoldsBroken, EndsAs}
 use Rattle.edi_kernel.specs.Runs.{Started, GoesRound, RunEnds, RunFails, Rounds, RoundsBy, RunsAs, FailsIn, FaultsBy}
-use Rattle.edi_kernel.specs.Runs.{RoundsBroken, RunsTo, StandsBroken, StandsIn}
+use Rattle.edi_kernel.specs.Runs.{EndsStint, RoundsBroken, RunsTo, StandsBroken, StandsIn}
+use Rattle.edi_kernel.specs.Enders.{ender, ender_after}
 use Rattle.edi_kernel.specs.Moments.{Moment, moment, moment_after, moment_of}
 use Rattle.edi_kernel.proofs.Starting.{Enters, NeverEnters, NeverGoes, enters, never_enters, never_goes}
+use Rattle.edi_kernel.proofs.Enders.{EndsBy, ends_by}
 use Rattle.edi_kernel.proofs.Rounds.{broken_same, holds_same}
 
 -- two relations that hold where the state is told
@@ -166,19 +168,22 @@ module _ (code : CodeParts) (bound : ℕ) (old : Drawn) where
       (m : Machine) (p : Name) (others : List Name) → Holds k m (Some p) others → m.system ≡ s → m.turns ≡ bound - k.used
       → RoundsBroken code.words bound result new t now next m p others
 
-  broken_in : (s x y : State) (k new : KernelState) (now next : Drawn) (e : Ending) → now.source ≡ old.source → (u : Underway code s bound old k x now) →
+  broken_in : (s x y : State) (k new : KernelState) (now next : Drawn) (e : Ending) → (u : Underway code s bound old k x now) →
       (h : RunEnds code.words bound e new y now next u.machine u.name u.others) → HoldsBroken code.words e new h.machine u.name u.others
-      → StandsBroken code s bound old e new next
-  broken_in s x y k new now next e same u h b = record {
-    machine = h.machine;
-    end = h.end;
-    is = u.comes h.steps (finished h.end h.machine next.drawn)
-        (sym (ap (λ c. run (fetch code.words) c h.steps u.machine u.name u.others now.drawn) same) ∙ h.is);
-    same = h.same;
-    name = u.name;
-    others = u.others;
-    broken = b;
-  }
+      → EndsStint code.words h.end h.machine u.machine u.name u.others → next.drawn ≡ now.drawn → StandsBroken code s bound old e new next
+  broken_in s x y k new now next e u h b stint drawn =
+      let z : EndsBy code s bound old.source old.drawn h.end h.machine u.name now.drawn =
+      ends_by code s bound old.source old.drawn u.machine u.name u.others now.drawn u.passes stint.0 h.end h.machine stint.1 in
+      record {
+        machine = h.machine;
+        end = h.end;
+        is = (z.steps, z.is ∙ ap (finished h.end h.machine) (sym drawn));
+        same = h.same;
+        name = u.name;
+        ran = z.ran;
+        others = u.others;
+        broken = b;
+      }
 
   stands_in : (s x y : State) (k new : KernelState) (now next : Drawn) (e : Ending) → now.source ≡ old.source → Underway code s bound old k x now
       → AnyRound (Some e) k new now next x y → AnyRoundBroken (Some e) k new now next x y → StandsIn code s bound old e new next
@@ -195,23 +200,23 @@ module _ (code : CodeParts) (bound : ℕ) (old : Drawn) where
   stands_in s x y k new now next ending.Done same u r b =
       let h : RoundsBroken code.words bound (Some ending.Done) new y now next u.machine u.name u.others =
       b u.machine u.name u.others u.holds u.system_is u.turns in
-      broken_in s x y k new now next ending.Done same u h.0 h.1
+      broken_in s x y k new now next ending.Done u h.0 h.1 h.2 h.3
   stands_in s x y k new now next (ending.Halted line) same u r b =
       let h : RoundsBroken code.words bound (Some (ending.Halted line)) new y now next u.machine u.name u.others =
       b u.machine u.name u.others u.holds u.system_is u.turns in
-      broken_in s x y k new now next (ending.Halted line) same u h.0 h.1
+      broken_in s x y k new now next (ending.Halted line) u h.0 h.1 h.2 h.3
   stands_in s x y k new now next (ending.Failed cause line) same u r b =
       let h : RoundsBroken code.words bound (Some (ending.Failed cause line)) new y now next u.machine u.name u.others =
       b u.machine u.name u.others u.holds u.system_is u.turns in
-      broken_in s x y k new now next (ending.Failed cause line) same u h.0 h.1
+      broken_in s x y k new now next (ending.Failed cause line) u h.0 h.1 h.2 h.3
   stands_in s x y k new now next ending.Turns same u r b =
       let h : RoundsBroken code.words bound (Some ending.Turns) new y now next u.machine u.name u.others =
       b u.machine u.name u.others u.holds u.system_is u.turns in
-      broken_in s x y k new now next ending.Turns same u h.0 h.1
+      broken_in s x y k new now next ending.Turns u h.0 h.1 h.2 h.3
   stands_in s x y k new now next (ending.Bad at) same u r b =
       let h : RoundsBroken code.words bound (Some (ending.Bad at)) new y now next u.machine u.name u.others =
       b u.machine u.name u.others u.holds u.system_is u.turns in
-      broken_in s x y k new now next (ending.Bad at) same u h.0 h.1
+      broken_in s x y k new now next (ending.Bad at) u h.0 h.1 h.2 h.3
   stands_in s x y k new now next ending.Fault same u r b = tt
 
   pub told_stands : (first before after : Option State) (k new : KernelState) (now next : Drawn) (e : Ending) → now.source ≡ old.source
@@ -293,6 +298,8 @@ module _ (code : CodeParts) (bound : ℕ) (old : Drawn) where
             );
             same = tt;
             name = [];
+            ran = ap (ender_after old.source (ender (fetch code.words) old.source 0) [] [] old.drawn)
+                (ap (λ i. entered (fetch code.words code.entry) code.entry code.calls i s) none ∙ x.enters.is);
             others = [];
             broken = broken_same code.words ending.Turns k new x.enters.machine [] [] e f g x.broken;
           }

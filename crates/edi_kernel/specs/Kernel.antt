@@ -279,6 +279,23 @@ abbrev pub is_arrival : Pause → Bool
 is_arrival (pause.At kind.Arrive) = true
 is_arrival pause = false
 
+-- the kernel, where it is noted that a process has arrived with this activity
+abbrev pub noting : Activity → KernelState → KernelState
+noting a k = record k { arrived = Some a; failed = false }
+
+-- whether a stint has ended by an arrival, also by that of an attempt
+abbrev pub is_arrived : StintEnd → Bool
+is_arrived (stint_end.Arrived used) = true
+is_arrived end = false
+
+-- A call that leaves `new` may be told to note no arrival; what it promises, it promises of `noted`, where one is noted. All else is the same,
+-- and `new` is `noted` where it was told to note, or where the stint has not ended by an arrival.
+pub record IsNotedAs (notes : Bool) (old noted new : KernelState) (result : StintEnd) : Type 0 where
+  pub rest : new ≡ record noted { arrived = new.arrived; failed = new.failed }
+  pub noting : notes ≡ true → new ≡ noted
+  pub other : is_arrived result ≡ false → new ≡ noted
+  pub arrived : (new.arrived ≡ noted.arrived) ⊎ (new.arrived ≡ old.arrived)
+
 -- marks are taken away where that is noted
 abbrev pub paused : (cleared : Bool) → KernelState → KernelState
 paused cleared k = record k { table = if cleared then unmarked k.table else k.table }
@@ -294,3 +311,12 @@ Handles (pause.Over ending) words slot used a old new result =
     (new.table ≡ with_process (unmarked old.table) slot (going_by (process_at old.table slot) a)) × (new.store ≡ old.store)
     × (result ≡ stint_end.Over used ending)
 Handles (pause.At kind) words slot used a old new result = HandlesTurn kind words slot used a old new result
+
+-- the pause is handled, and an arrival is noted or not
+pub record Settles (notes : Bool) (pause : Pause) (words : List ℕ) (slot used : ℕ) (a : Activity) (cleared : Bool) (old new : KernelState)
+    (result : StintEnd) : Type 0 where
+  pub noted : KernelState
+  pub is : IsNotedAs notes old noted new result
+  pub handles : Handles pause words slot used a (paused cleared old) noted result
+  pub standing : StandsAfter result (Some slot) (ready_slots old.table) noted.table noted.arrived
+  pub failed : MayFail result noted.failed

@@ -5,6 +5,7 @@ pub mod Stints
 pub mod Forks
 pub mod Kernel
 pub mod Moments
+pub mod Enders
 pub mod Runs
 pub mod Named
 pub mod Passed

@@ -6,6 +6,7 @@ use Rattle.edi_calls.specs.State.{State}
 use Rattle.edi_target.specs.Attempts.{attempt_fails}
 use Rattle.edi_target.specs.Fetch.{fetch}
 use Rattle.edi_target.specs.Mach.{Machine, went, step}
+use Rattle.edi_told.specs.Told.{WhereTold}
 use Rattle.edi_trace.specs.Drawn.{Drawn}
 use Rattle.edi_kernel.specs.declared.ends.Ending.{Ending}
 use Rattle.edi_kernel.specs.declared.ends.Ending.TheVariants as ending
@@ -17,7 +18,7 @@ use Rattle.edi_kernel.specs.declared.table.Table.{Table}
 use Rattle.edi_kernel.specs.Table.{is_live, process_at, ready_slots}
 use Rattle.edi_kernel.specs.TableIsMachine.{Naming}
 use Rattle.edi_kernel.specs.Stints.{followed}
-use Rattle.edi_kernel.specs.Kernel.{Holds, HoldsBroken, EndsRun, GoesTo}
+use Rattle.edi_kernel.specs.Kernel.{Holds, HoldsBroken, EndsRun, GoesTo, IsNotedAs, MayFail, StandsAfter}
 use Rattle.edi_kernel.specs.Runs.{Chooses}
 
 -- the kernel is this machine by these names
@@ -91,6 +92,17 @@ BreaksRunBy words (stint_end.Over used ending.Standstill) left old n k now m p o
 BreaksRunBy words (stint_end.Over used ending.Fault) left old n k now m p others = ⊤
 BreaksRunBy words (stint_end.Over used e) left old n k now m p others = BreaksRun words (left - used) e old n k now m p others
 BreaksRunBy words end left old n k now m p others = ⊤
+
+-- What a stint leaves, of the kernel where an arrival is noted: it is that of the machine's definition, as `GoesBy` and `BreaksRunBy` say.
+pub record StintGoes (notes : Bool) (words : List ℕ) (left : ℕ) (old new : KernelState) (before after : Option State) (result : StintEnd) : Type 0 where
+  pub noted : KernelState
+  pub is : IsNotedAs notes old noted new result
+  pub exact : WhereTold before after (λ s t. (m : Machine) (p : Name) (others : List Name) (n : Naming) →
+      HoldsBy n old m (Some p) others → m.system ≡ s → m.turns ≡ left → GoesBy words result left old n noted t m p others)
+  pub ends : WhereTold before after (λ s t. (m : Machine) (p : Name) (others : List Name) (n : Naming) →
+      HoldsBy n old m (Some p) others → m.system ≡ s → m.turns ≡ left → BreaksRunBy words result left old n noted t m p others)
+  pub standing : StandsAfter result old.taken (ready_slots old.table) noted.table noted.arrived
+  pub failed : MayFail result noted.failed
 
 -- the next process is taken, by the same names
 abbrev pub ChoosesBy : Naming → KernelState → Machine → (old new : Drawn) → (ready : List Name) → Type 0

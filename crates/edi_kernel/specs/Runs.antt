@@ -20,6 +20,9 @@ use Rattle.edi_kernel.specs.declared.state.KernelState.{KernelState}
 use Rattle.edi_kernel.specs.Table.{FirstAlone, Withdraws, ready_slots}
 use Rattle.edi_kernel.specs.Kernel.{IsKernel, Holds, HoldsBroken, EndsAs, KeepsWords, FailsAt}
 use Rattle.edi_kernel.specs.Moments.{Moment, moment, moment_at, moment_of}
+use Rattle.edi_kernel.specs.Stints as stints
+use Rattle.edi_kernel.specs.Stints.{stint}
+use Rattle.edi_kernel.specs.Enders.{ender_from_start}
 
 -- ---- the next process
 
@@ -140,6 +143,10 @@ RoundsBy failed words bound (Some ending.Fault) k now old new m p others =
     (f : RunFails words bound k now old new m p others) × IsUsed f.fails.number failed
 RoundsBy failed words bound e k now old new m p others = ⊤
 
+-- a stint of p ends the run so
+abbrev pub EndsStint : List ℕ → outcome.Ending → (machine : Machine) → Machine → Name → List Name → Type 0
+EndsStint words end machine m p others = (n : ℕ) × (stint (fetch words) n m p others ≡ stints.over end machine)
+
 -- where a round has ended the run by an instruction of p, the kernel is the machine of that end
 abbrev pub RoundsBroken : List ℕ → (bound : ℕ) → Option Ending → KernelState → State → (old new : Drawn) → Machine → Name → List Name → Type 0
 RoundsBroken words bound None k now old new m p others = ⊤
@@ -147,6 +154,7 @@ RoundsBroken words bound (Some ending.Standstill) k now old new m p others = ⊤
 RoundsBroken words bound (Some ending.Fault) k now old new m p others = ⊤
 RoundsBroken words bound (Some e) k now old new m p others =
     (h : RunEnds words bound e k now old new m p others) × HoldsBroken words e k h.machine p others
+    × EndsStint words h.end h.machine m p others × (new.drawn ≡ old.drawn)
 
 -- where the next stint begins: at this machine; or, where the entry's turn is still due, at the one after that turn
 abbrev pub IsAtBy : Bool → CodeParts → KernelState → State → (left : ℕ) → Machine → Name → List Name → Type 0
@@ -210,14 +218,15 @@ pub record StandsStill (code : CodeParts) (system : State) (bound : ℕ) (old : 
   pub ready : List Name
   pub holds : Holds k machine None ready
 
--- The machine in which this run of the code ended by an instruction of a process: the kernel is that machine, but that nobody is marked, and
--- that this process is still taken and goes on.
+-- The machine in which this run of the code ended by an instruction of the process `name`: the kernel is that machine, but that nobody is
+-- marked, and that this process is still taken and goes on.
 pub record StandsBroken (code : CodeParts) (system : State) (bound : ℕ) (old : Drawn) (e : Ending) (k : KernelState) (new : Drawn) : Type 0 where
   pub machine : Machine
   pub end : outcome.Ending
   pub is : EndsAfter code system bound old.source old.drawn end machine new.drawn
   pub same : EndsAs end e
   pub name : Name
+  pub ran : ender_from_start (fetch code.words) code.entry code.calls system bound old.source old.drawn is.0 ≡ Some name
   pub others : List Name
   pub broken : HoldsBroken code.words e k machine name others
 

@@ -176,7 +176,7 @@ impl KernelState {
         ensures blame { Blamed (fault_of result) (C.failed calls.new) (C.faults calls.old) (C.faults calls.new) }
         ensures lasts { CallsLast C.faults C.references C.leads calls.old calls.new }
     {
-        let end = self.go(code, calls, bound - self.used);
+        let end = self.go(code, calls, bound - self.used, false);
         self.used += used_in(end);
         if let Some(ending) = ended_by(end) {
             return Some(ending);
@@ -265,7 +265,7 @@ impl KernelState {
             };
         }
         self.entering = false;
-        let end = later_by(self.go(code, calls, turns_left - entry), entry);
+        let end = later_by(self.go(code, calls, turns_left - entry, true), entry);
         self.used = used_before.saturating_add(used_in(end));
         end
     }

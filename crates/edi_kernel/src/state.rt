@@ -1,11 +1,11 @@
 //! The kernel's state, and what it does at each switch.
 
-ghost use Rattle.std.specs.Prelude.{◌≡◌, ◌≤◌, ◌<◌, ◌==◌, ◌+◌, ◌-◌, ◌^◌, if◌then◌else◌, length, None, Some, IsSome, Option, ℕ, true, false, List, []};
+ghost use Rattle.std.specs.Prelude.{◌≡◌, ◌⊎◌, ◌≤◌, ◌<◌, ◌==◌, ◌+◌, ◌-◌, ◌^◌, if◌then◌else◌, length, None, Some, IsSome, Option, ℕ, true, false, List, []};
 ghost use Rattle.edi_machine.specs.Activities.{IsOrdered, local_of};
 ghost use Rattle.edi_machine.specs.Starts.{IsFork, branches_at};
 ghost use Rattle.edi_kernel.specs.declared.table.Table.{Table};
 ghost use Rattle.edi_kernel.specs.Table.{process_at, free_slots, ready_slots, resumed};
-ghost use Rattle.edi_kernel.specs.TableIsMachine.{IsTable, IsTaken, Naming};
+ghost use Rattle.edi_kernel.specs.TableIsMachine.{IsTable, IsTaken};
 ghost use Rattle.edi_told.specs.Told.{WhereTold};
 ghost use Rattle.edi_calls.specs.Names.{Name};
 ghost use Rattle.edi_target.specs.Mach.{Machine};
@@ -20,6 +20,7 @@ ghost use Rattle.edi_kernel.specs.Kernel.{
   IsForked,
   IsKernel,
   MayFail,
+  Settles,
   StandsAfter,
   StandsLast,
   attempt_end,
@@ -27,11 +28,11 @@ ghost use Rattle.edi_kernel.specs.Kernel.{
   is_arrival,
   is_failure,
   is_over,
-  paused,
+  noting,
   taken_after,
   used_in,
 };
-ghost use Rattle.edi_kernel.specs.Named.{BreaksRunBy, GoesBy, HoldsBy};
+ghost use Rattle.edi_kernel.specs.Named.{StintGoes};
 
 use crate::ends::{Ending, StintEnd};
 use crate::fork::{branch_count, fork};
@@ -207,28 +208,39 @@ impl KernelState {
         }
     }
 
-    /// The process at `slot` has arrived at a `when` after so many turns, and is taken no more.
+    /// Notes an arrival with this activity, if that is asked.
     #[inline(always)]
-    fn arrive(&mut self, slot: usize, activity: &Activity, used: u64) -> StintEnd
+    fn note_if(&mut self, asked: bool, activity: &Activity)
+        ensures { self.new ≡ (if asked then noting activity.now self.old else self.old) }
+    {
+        if asked {
+            self.arrived = Some(*activity);
+            self.failed = false;
+        }
+    }
+
+    /// The process at `slot` has arrived at a `when` after so many turns, and is taken no more. The arrival is noted, if that is asked.
+    #[inline(always)]
+    fn arrive(&mut self, slot: usize, activity: &Activity, used: u64, notes: bool) -> StintEnd
         requires table { IsTable self.old.table }
         requires taken { IsTaken self.old.table slot }
-        ensures standing { StandsAfter result (Some slot) (ready_slots self.old.table) self.new.table self.new.arrived }
-        ensures failed { MayFail result self.new.failed }
-        ensures exact { HandlesTurn TurnKind.Arrive [] slot used activity.now self.old self.new result }
+        ensures standing { StandsAfter result (Some slot) (ready_slots self.old.table) self.new.table (Some activity.now) }
+        ensures exact { HandlesTurn TurnKind.Arrive [] slot used activity.now self.old (noting activity.now self.new) result }
+        ensures noted { notes ≡ true → self.new ≡ noting activity.now self.new }
+        ensures arrived { (self.new.arrived ≡ Some activity.now) ⊎ (self.new.arrived ≡ self.old.arrived) }
         ensures free { self.new.taken ≡ None }
         ensures entering { self.new.entering ≡ self.old.entering }
         ensures turns { self.new.used ≡ self.old.used }
     {
         self.taken = None;
-        self.failed = false;
         self.table.arrive(slot, activity);
-        self.arrived = Some(*activity);
+        self.note_if(notes, activity);
         StintEnd::Arrived { used }
     }
 
     /// Handles the pause of the process at `slot`, which has come so far, after so many turns. It is taken no more, unless it ended the run.
     ///
-    /// An arrival is handled here, apart from all that is rare. It takes all marks away, whatever is noted of them.
+    /// An arrival is handled here, apart from all that is rare, and noted if that is asked. It takes all marks away, whatever is noted of them.
     #[inline(always)]
     fn settle(
         &mut self,
@@ -237,6 +249,7 @@ impl KernelState {
         progress: &Progress,
         pause: Pause,
         used: u64,
+        notes: bool,
     ) -> StintEnd
         requires table { IsTable self.old.table }
         requires taken { IsTaken self.old.table slot }
@@ -244,15 +257,13 @@ impl KernelState {
         requires allowed { Allows (Some pause) code.now.words (32 - length (free_slots self.old.table)) (slot == 0)
             (local_of self.old.store progress.now.activity) }
         requires standstill { is_standstill pause ≡ false }
-        ensures standing { StandsAfter result (Some slot) (ready_slots self.old.table) self.new.table self.new.arrived }
-        ensures failed { MayFail result self.new.failed }
-        ensures exact { Handles pause code.now.words slot used progress.now.activity (paused progress.now.cleared self.old) self.new result }
+        ensures exact { Settles notes pause code.now.words slot used progress.now.activity progress.now.cleared self.old self.new result }
         ensures taken { self.new.taken ≡ taken_after pause self.old.taken }
         ensures entering { self.new.entering ≡ self.old.entering }
         ensures turns { self.new.used ≡ self.old.used }
     {
         if is_arrival(pause) {
-            return self.arrive(slot, &progress.activity, used);
+            return self.arrive(slot, &progress.activity, used, notes);
         }
         self.table.unmark_if(progress.cleared);
         self.handle(code, slot, &progress.activity, pause, used)
@@ -291,23 +302,22 @@ impl KernelState {
     }
 
     /// The taken process goes on until it gives way, the run ends, or `left` turns are used up and another is
-    /// due.
-    pub(crate) fn go<C: Calls>(&mut self, code: &Code, calls: &mut C, left: u64) -> StintEnd
+    /// due. An arrival is noted if that is asked: a stint tells of it, and a run does not.
+    pub(crate) fn go<C: Calls>(
+        &mut self,
+        code: &Code,
+        calls: &mut C,
+        left: u64,
+        notes: bool,
+    ) -> StintEnd
         requires kernel { IsKernel self.old }
         requires taken { IsSome self.old.taken }
         requires working { C.failed calls.old None }
-        ensures exact { WhereTold (C.state calls.old) (C.state calls.new) (λ s t. (m : Machine) (p : Name) (others : List Name) (n : Naming) →
-            HoldsBy n self.old m (Some p) others → m.system ≡ s → m.turns ≡ left →
-            GoesBy code.now.words result left self.old n self.new t m p others) }
+        ensures exact { StintGoes notes code.now.words left self.old self.new (C.state calls.old) (C.state calls.new) result }
         ensures asked { WhereTold (C.state calls.old) (C.state calls.new) (λ s t. (m : Machine) (p : Name) (others : List Name) →
             Holds self.old m (Some p) others → m.system ≡ s → m.turns ≡ left → BreaksBy (C.failed calls.new) code.now.words result left t m p others) }
-        ensures ends { WhereTold (C.state calls.old) (C.state calls.new) (λ s t. (m : Machine) (p : Name) (others : List Name) (n : Naming) →
-            HoldsBy n self.old m (Some p) others → m.system ≡ s → m.turns ≡ left →
-            BreaksRunBy code.now.words result left self.old n self.new t m p others) }
         ensures kernel { IsKernel self.new }
         ensures free { is_over result ≡ false → self.new.taken ≡ None }
-        ensures standing { StandsAfter result self.old.taken (ready_slots self.old.table) self.new.table self.new.arrived }
-        ensures failed { MayFail result self.new.failed }
         ensures used { used_in result ≤ left }
         ensures spent { is_over result ≡ false → 0 < used_in result }
         ensures blame { Blamed (faulted result) (C.failed calls.new) (C.faults calls.old) (C.faults calls.new) }
@@ -324,6 +334,6 @@ impl KernelState {
             phase: activity.held == 1,
         };
         let pause = self.walk(code, calls, slot, &mut progress);
-        self.settle(code, slot, &progress, pause, left - progress.left)
+        self.settle(code, slot, &progress, pause, left - progress.left, notes)
     }
 }
