@@ -347,16 +347,16 @@ never_bad unit input f r at e =
 
 -- ---- a run
 
--- what some choices select, of so many turns and moves
-abbrev pub SelectedBy : ProgramUnit → State → (bound : ℕ) → (choices : List ℕ) → outcome.Ending → (used moves : ℕ) → (shown : List ℕ) → Type 0
-SelectedBy unit system bound choices end used moves shown =
+-- what some choices select, of so many turns and moves, with so many choices drawn
+abbrev pub SelectedBy : ProgramUnit → State → (bound : ℕ) → (choices : List ℕ) → outcome.Ending → (used moves drawn : ℕ) → (shown : List ℕ) → Type 0
+SelectedBy unit system bound choices end used moves drawn shown =
     (o : Outcome) × (s : Select unit system bound (listed choices) o) × (o.ending ≡ end) × (o.turns ≡ used) × (o.shown ≡ shown)
-    × (moves_selected unit system bound (listed choices) o s ≡ moves)
+    × (moves_selected unit system bound (listed choices) o s ≡ moves) × (o.draws ≡ drawn)
 
 module _ (unit : ProgramUnit) (c : CanBeCoded unit) (code : CodeParts) (is : IsUnitCode unit code) (system : State) (bound : ℕ) (choices : List ℕ)
     (from : Choices) (source : from ≡ listed choices) where
   ran_as : (e : Ending) (k : KernelState) (now : State) (later : Drawn) (moves : ℕ) → k.used ≤ bound → HasEnded code system bound from e k now later moves →
-      (end : outcome.Ending) → ending_of e ≡ Some end → SelectedBy unit system bound choices end k.used moves now.shown
+      (end : outcome.Ending) → ending_of e ≡ Some end → SelectedBy unit system bound choices end k.used moves later.drawn now.shown
   ran_as e k now later moves le h end same =
       let o : Outcome = outcome_of now h.end k.used later.drawn in
       let left : k.used ≡ bound - h.machine.turns = omega (arith, h.turns, le) in
@@ -376,12 +376,13 @@ module _ (unit : ProgramUnit) (c : CanBeCoded unit) (code : CodeParts) (is : IsU
         refl,
         moves_are_counted unit c code is system bound (listed choices) h.end h.machine later.drawn moves
             (subst (λ z. EndsMoved code system bound z h.end h.machine later.drawn moves) source h.ends) s.0 s.1 s.2 s.3 s.4 s.5,
+        refl,
       )
 
   -- what a run of the kernel comes to
   pub ran : (e : Ending) (k : KernelState) (now : State) (later : Drawn) (moves : ℕ) → k.used ≤ bound →
       Comes code system bound from (Some e) k now later moves → (end : outcome.Ending) → ending_of e ≡ Some end →
-      SelectedBy unit system bound choices end k.used moves now.shown
+      SelectedBy unit system bound choices end k.used moves later.drawn now.shown
   ran ending.Fault k now later moves le r = λ end same. absurd (none_some end same)
     where
       none_some : (end : outcome.Ending) → None ≡ Some end → ⊥

@@ -1,5 +1,5 @@
 -- Rounds of a run whose moves are counted.
-use Rattle.std.proofs.Common.{◌≡◌, ◌⊎◌, inl, inr, ℕ, zero, suc, ◌+◌, ◌-◌, ◌<◌, ◌≤◌, true, false, ◌||◌, nat_lt, if◌then◌else◌, List, [], ◌∷◌, ◌++◌, Option, Some, None}
+use Rattle.std.proofs.Common.{◌≡◌, inl, inr, ℕ, suc, ◌+◌, ◌-◌, ◌<◌, true, false, ◌||◌, nat_lt, if◌then◌else◌, List, [], ◌++◌, Option, Some, None}
 use Rattle.std.proofs.Common.{refl, sym, ap, subst, ◌∙◌, arith}
 use Rattle.std.proofs.lemmas.Bool.Decides.{nat_tests}
 use Rattle.edi_calls.specs.Choice.{Choices}
@@ -19,7 +19,7 @@ use Rattle.edi_kernel.specs.declared.ends.StintEnd.TheVariants as stint_end
 use Rattle.edi_kernel.specs.declared.state.KernelState.{KernelState}
 use Rattle.edi_kernel.specs.Kept.{IsMarkCount}
 use Rattle.edi_kernel.specs.Kernel.{EndsRun, GoesTo, Holds, IsKernel, Switches, ended_by, is_over, used_in}
-use Rattle.edi_kernel.specs.Runs.{IsAt, IsAtBy, Proceeds, Started}
+use Rattle.edi_kernel.specs.Runs.{IsAtBy, Proceeds, Started}
 use Rattle.edi_kernel.proofs.Again.{mark_count}
 use Rattle.edi_kernel.proofs.Starting.{Enters, NeverEnters, enters, never_enters}
 use Rattle.edi_explored.specs.Moves.{counted, moves_on}

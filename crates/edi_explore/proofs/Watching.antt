@@ -3,14 +3,15 @@ use Rattle.std.proofs.Common.{◌≡◌, ◌⊎◌, inl, inr, ℕ, zero, suc, �
 use Rattle.std.proofs.Common.{arith, length-append, append_assoc}
 use Rattle.std.specs.Prelude.{slice_get}
 use Rattle.std.proofs.lemmas.List.{append-nil}
+use Rattle.std.proofs.lemmas.Option.{slice_get_within}
 use Rattle.edi_told.specs.Told.{WhereTold}
 use Rattle.edi_explore.specs.declared.ends.Verdict.{Verdict}
 use Rattle.edi_explore.specs.declared.ends.Verdict.TheVariants as verdict
 use Rattle.edi_explore.specs.declared.step.GivenUp.{GivenUp}
 use Rattle.edi_explore.specs.declared.step.GivenUp.TheVariants as given_up
 use Rattle.edi_explore.specs.Verdicts.{IsConfirmed, or_else, verdict_of_given_up}
-use Rattle.edi_explore.specs.Watched.{IsWatched, Sees}
-use Rattle.edi_explore.proofs.Keying.{split_at}
+use Rattle.edi_explore.specs.Watched.{IsWatched, NeverFall, Sees}
+use Rattle.edi_explore.proofs.Keying.{some_is, split_at}
 
 -- what stands in a list behind another one
 after_at : (xs ys : List ℕ) (i n : ℕ) → slice_get (xs ++ ys) i ≡ Some n →
@@ -22,35 +23,74 @@ after_at (x ∷ xs) ys (suc i) n e = elim (after_at xs ys i n e) [
   | inr h ↦ inr (h.0, omega (arith, h.1), h.2)
 ]
 
-pub sees_none : (from most : ℕ) (xs : List ℕ) → (s : Sees from most xs xs) × (length s.more ≡ 0)
-sees_none from most xs = (record { more = []; is = sym (append-nil xs); each = λ i n e. absurd (cc) }, refl)
+-- of two lists whose numbers never fall, where none of the second is less than one of the first
+falls_never : (xs ys : List ℕ) (bound : ℕ) → NeverFall xs → NeverFall ys → ((i m : ℕ) → slice_get xs i ≡ Some m → m ≤ bound) →
+    ((i n : ℕ) → slice_get ys i ≡ Some n → bound ≤ n) → NeverFall (xs ++ ys)
+falls_never xs ys bound one other up low i m n a b = elim (after_at xs ys (suc i) n b) [
+  | inl h ↦ elim (after_at xs ys i m a) [
+    | inl g ↦ one i m n g h
+    | inr g ↦ absurd (omega (arith, g.1, slice_get_within xs (suc i) n h))
+  ]
+  | inr h ↦ elim (after_at xs ys i m a) [
+    | inl g ↦ omega (arith, up i m g, low h.0 n h.2)
+    | inr g ↦
+        let next : h.0 ≡ suc g.0 = omega (arith, g.1, h.1) in
+        other g.0 m n g.2 (ap (λ j. slice_get ys j) (sym next) ∙ h.2)
+  ]
+]
+
+one_never : (n : ℕ) → NeverFall (n ∷ [])
+one_never n i a b p q = absurd (cc)
+
+pub sees_none : (from least most : ℕ) (xs : List ℕ) → (s : Sees from least most xs xs) × (length s.more ≡ 0)
+sees_none from least most xs = (
+  record { more = []; is = sym (append-nil xs); each = λ i n e. absurd (cc); rises = λ i m n p q. absurd (cc) },
+  refl,
+)
+
+-- where there may be more
+pub sees_wide : (from least before most : ℕ) (xs ys : List ℕ) → Sees from least before xs ys → before ≤ most → Sees from least most xs ys
+sees_wide from least before most xs ys s grows = record {
+  more = s.more;
+  is = s.is;
+  each = λ i n e. let b = s.each i n e in (b.0, b.1, omega (arith, b.2, grows));
+  rises = s.rises;
+}
 
 -- one number more
-pub sees_one : (from most states : ℕ) (xs ys zs : List ℕ) (s : Sees from most xs ys) → zs ≡ ys ++ states ∷ [] → states ≤ most →
-    from + length s.more + 2 ≤ states → (t : Sees from most xs zs) × (length t.more ≡ length s.more + 1)
-sees_one from most states xs ys zs s is few least = (
+pub sees_one : (from least before most states : ℕ) (xs ys zs : List ℕ) (s : Sees from least before xs ys) → zs ≡ ys ++ states ∷ [] → before ≤ states →
+    states ≤ most → least ≤ states → from + length s.more + 2 ≤ states →
+    (t : Sees from least most xs zs) × (length t.more ≡ length s.more + 1)
+sees_one from least before most states xs ys zs s is grows few above far = (
   record {
     more = s.more ++ states ∷ [];
     is = is ∙ ap (λ (l : List ℕ). l ++ states ∷ []) s.is ∙ append_assoc xs s.more (states ∷ []);
     each = λ i n e. elim (split_at s.more states n i e) [
-      | inl h ↦ s.each i n h
-      | inr h ↦ (omega (arith, h.0, h.1, least), omega (arith, h.1, few))
+      | inl h ↦ let b = s.each i n h in (b.0, b.1, omega (arith, b.2, grows, few))
+      | inr h ↦ (omega (arith, h.0, h.1, far), omega (arith, h.1, above), omega (arith, h.1, few))
     ];
+    rises = falls_never s.more (states ∷ []) states s.rises (one_never states) (λ i m e. omega (arith, (s.each i m e).2, grows))
+        (λ i n e. only i n e);
   },
   length-append s.more (states ∷ []),
 )
+  where
+    only : (i n : ℕ) → slice_get (states ∷ []) i ≡ Some n → states ≤ n
+    only zero n e = let same : states ≡ n = some_is e in omega (arith, same)
+    only (suc i) n e = absurd (cc)
 
 -- and those of a level
-pub sees_on : (most from : ℕ) (xs ys zs : List ℕ) (s : Sees 0 most xs ys) (t : Sees from most ys zs) → from ≡ length s.more →
-    (u : Sees 0 most xs zs) × (length u.more ≡ from + length t.more)
-sees_on most from xs ys zs s t same = (
+pub sees_on : (before most from : ℕ) (xs ys zs : List ℕ) (s : Sees 0 0 before xs ys) (t : Sees from before most ys zs) → from ≡ length s.more →
+    before ≤ most → (u : Sees 0 0 most xs zs) × (length u.more ≡ from + length t.more)
+sees_on before most from xs ys zs s t same grows = (
   record {
     more = s.more ++ t.more;
     is = t.is ∙ ap (λ (l : List ℕ). l ++ t.more) s.is ∙ append_assoc xs s.more t.more;
     each = λ i n e. elim (after_at s.more t.more i n e) [
-      | inl h ↦ s.each i n h
-      | inr h ↦ let b = t.each h.0 n h.2 in (omega (arith, b.0, h.1, same), b.1)
+      | inl h ↦ let b = s.each i n h in (b.0, b.1, omega (arith, b.2, grows))
+      | inr h ↦ let b = t.each h.0 n h.2 in (omega (arith, b.0, h.1, same), omega arith, b.2)
     ];
+    rises = falls_never s.more t.more before s.rises t.rises (λ i m e. (s.each i m e).2) (λ i n e. (t.each i n e).1);
   },
   length-append s.more t.more ∙ ap (λ n. n + length t.more) (sym same),
 )
@@ -80,22 +120,24 @@ never_full (verdict.Cut n) moves e = absurd (cc)
 never_full (verdict.Unrecorded n) moves e = absurd (cc)
 never_full (verdict.NoMemory n) moves e = absurd (cc)
 
-pub watched_whole : (v : Verdict) (most states : ℕ) (xs ys : List ℕ) (s : Sees 0 most xs ys) → length s.more + 1 ≡ states → IsWatched v most states xs ys
-watched_whole v most states xs ys s whole = record { sees = s; whole = λ e. whole }
+pub watched_whole : (v : Verdict) (most states : ℕ) (xs ys : List ℕ) → states ≤ most → (s : Sees 0 0 states xs ys) → length s.more + 1 ≡ states →
+    IsWatched v most states xs ys
+watched_whole v most states xs ys few s whole = record { few = few; sees = s; whole = λ e. whole }
 
-pub watched_not : (v : Verdict) (most states : ℕ) (xs ys : List ℕ) → Sees 0 most xs ys → (v ≡ verdict.All → ⊥) → IsWatched v most states xs ys
-watched_not v most states xs ys s not = record { sees = s; whole = λ e. absurd (not e) }
+pub watched_not : (v : Verdict) (most states : ℕ) (xs ys : List ℕ) → states ≤ most → Sees 0 0 states xs ys → (v ≡ verdict.All → ⊥) →
+    IsWatched v most states xs ys
+watched_not v most states xs ys few s not = record { few = few; sees = s; whole = λ e. absurd (not e) }
 
 pub watched_early : (v w : Verdict) (g : GivenUp) (moves most states : ℕ) (xs ys : List ℕ) → w ≡ or_else v (verdict_of_given_up g moves) →
-    Sees 0 most xs ys → IsWatched w most states xs ys
-watched_early v w g moves most states xs ys is s = watched_not w most states xs ys s (λ e. never_all v g moves (sym is ∙ e))
+    states ≤ most → Sees 0 0 states xs ys → IsWatched w most states xs ys
+watched_early v w g moves most states xs ys is few s = watched_not w most states xs ys few s (λ e. never_all v g moves (sym is ∙ e))
 
-pub watched_full : (v w : Verdict) (moves most states : ℕ) (xs ys : List ℕ) → w ≡ or_else v (verdict.Full moves) → Sees 0 most xs ys →
-    IsWatched w most states xs ys
-watched_full v w moves most states xs ys is s = watched_not w most states xs ys s (λ e. never_full v moves (sym is ∙ e))
+pub watched_full : (v w : Verdict) (moves most states : ℕ) (xs ys : List ℕ) → w ≡ or_else v (verdict.Full moves) → states ≤ most →
+    Sees 0 0 states xs ys → IsWatched w most states xs ys
+watched_full v w moves most states xs ys is few s = watched_not w most states xs ys few s (λ e. never_full v moves (sym is ∙ e))
 
 pub watched_confirmed : (v w : Verdict) (most states : ℕ) (xs ys : List ℕ) → IsConfirmed v w → IsWatched v most states xs ys → IsWatched w most states xs ys
-watched_confirmed v w most states xs ys e h = record { sees = h.sees; whole = λ all. h.whole (was_all v w e all) }
+watched_confirmed v w most states xs ys e h = record { few = h.few; sees = h.sees; whole = λ all. h.whole (was_all v w e all) }
   where
     was_all : (v w : Verdict) → IsConfirmed v w → w ≡ verdict.All → v ≡ verdict.All
     was_all verdict.All w e all = refl

@@ -1,5 +1,5 @@
 -- Words of contracts. What a search answers.
-use Rattle.std.specs.Prelude.{◌≡◌, ◌⊎◌, ◌<◌, ◌≤◌, ℕ, List, length, ⊤}
+use Rattle.std.specs.Prelude.{◌≡◌, ◌⊎◌, ◌+◌, ◌<◌, ◌≤◌, ℕ, List, length, ⊤}
 use Rattle.edi_calls.specs.Choice.{listed}
 use Rattle.edi_calls.specs.Outcome.{Outcome}
 use Rattle.edi_unit.specs.Tree.{ProgramUnit}
@@ -7,6 +7,7 @@ use Rattle.edi_meaning.specs.Select.{Select}
 use Rattle.edi_target.specs.Check.{CodeParts}
 use Rattle.edi_follows.specs.Theorem.{CanBeCoded}
 use Rattle.edi_explored.specs.Covered.{AllTold, AllToldBelow}
+use Rattle.edi_explored.specs.Moves.{moves_selected}
 use Rattle.edi_explored.specs.machine.Kernels.{IsUnitCode}
 use Rattle.edi_explore.specs.declared.ends.Found.{Found}
 use Rattle.edi_explore.specs.declared.ends.Limits.{Limits}
@@ -50,11 +51,22 @@ IsUpTo (verdict.NoMemory moves) n = n ≡ moves
 
 -- ---- a cut
 
--- the execution that these choices select has more than so many turns; a record may have the choices
-pub record IsCutBy (turns : ℕ) (unit : ProgramUnit) (input choices : List ℕ) : Type 0 where
+-- this bound on its turns cuts the execution that these choices select, after so many moves and with so many choices drawn
+pub record IsCutAt (bound : ℕ) (unit : ProgramUnit) (input choices : List ℕ) (moves drawn : ℕ) : Type 0 where
   pub outcome : Outcome
-  pub selects : Select unit (offline input) turns (listed choices) outcome
+  pub selects : Select unit (offline input) bound (listed choices) outcome
   pub cut : outcome.ending ≡ turn_limit
+  pub moved : moves_selected unit (offline input) bound (listed choices) outcome selects ≡ moves
+  pub draws : outcome.draws ≡ drawn
+
+-- A process goes on for more than so many turns: in the execution that these choices select no other one is taken in these turns, nor is it taken
+-- again, since there is neither a move nor a choice in them. A record may have the choices.
+pub record IsCutBy (turns : ℕ) (unit : ProgramUnit) (input choices : List ℕ) : Type 0 where
+  pub before : ℕ
+  pub moves : ℕ
+  pub drawn : ℕ
+  pub begins : IsCutAt before unit input choices moves drawn
+  pub goes_on : IsCutAt (before + turns) unit input choices moves drawn
   pub few : length choices ≤ most_choices
   pub small : AreChoices choices
 

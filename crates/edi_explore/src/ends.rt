@@ -58,7 +58,7 @@ pub struct Report {
     pub found: Vec<Found>,
     pub verdict: Verdict,
     pub states: usize,
-    /// Where the verdict is `Cut`: choices with which the run has more turns than a process may take, at most 65,536. Else they say nothing.
+    /// Where the verdict is `Cut`: choices with which a process goes on for more turns than it may, at most 65,536. Else they say nothing.
     pub cut: Vec<u8>,
 }
 

@@ -87,6 +87,7 @@ impl Search {
         ensures full { IfErr result (λ given_up. given_up ≡ GivenUp.Full → limits.states ≤ length self.new.states.keys.keys) }
         ensures many { IfErr result (λ given_up. given_up ≡ GivenUp.Many → HasMany limits self.new.found.items) }
         ensures few { length self.new.states.keys.keys ≤ limits.states }
+        ensures grows { length self.old.states.keys.keys ≤ length self.new.states.keys.keys }
     {
         let followed = follow(
             self.calls.alloc,
@@ -145,6 +146,7 @@ impl Search {
         ensures full { IfErr result (λ given_up. given_up ≡ GivenUp.Full → limits.states ≤ length self.new.states.keys.keys) }
         ensures many { IfErr result (λ given_up. given_up ≡ GivenUp.Many → HasMany limits self.new.found.items) }
         ensures few { length self.new.states.keys.keys ≤ limits.states }
+        ensures grows { length self.old.states.keys.keys ≤ length self.new.states.keys.keys }
     {
         let Ok(number) = u32::try_from(state) else {
             return Err(GivenUp::Full);

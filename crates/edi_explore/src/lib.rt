@@ -2,6 +2,7 @@
 #![tactic(auto)]
 
 mod back;
+mod cut;
 mod ends;
 mod expand;
 mod finding;

@@ -65,7 +65,7 @@ fn proceed(kernel: &mut Kernel, choices: &mut Choices) -> Option<Ending>
 }
 
 /// A stint of the process that is taken, and the choice of the next. The answer is the ending, if the run has ended.
-fn round(
+pub(crate) fn round(
     kernel: &mut Kernel,
     code: &Code,
     calls: &mut Offline,

@@ -63,7 +63,7 @@ pub(crate) fn choices_to(
 }
 
 /// Bytes are choices.
-fn are_choices(choices: &[u8])
+pub(crate) fn are_choices(choices: &[u8])
     ensures { AreChoices choices.now }
 {}
 

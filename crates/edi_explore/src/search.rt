@@ -12,17 +12,17 @@ ghost use Rattle.edi_explore.specs.Finding.{Finds, FindsAt, IsBegun};
 ghost use Rattle.edi_explore.specs.Found.{AllTellWaits, AreNeverBad, AreRecorded, endings_of};
 ghost use Rattle.edi_explore.specs.Offline.{offline};
 ghost use Rattle.edi_explore.specs.Shown.{AreDistinct, HasMany, asks_of, shown_endings_of};
-ghost use Rattle.edi_explore.specs.Verdicts.{HasCause, HasFirst, IsAnswer, IsConfirmed, IsCutBy, IsUpTo, or_else, verdict_of, verdict_of_given_up};
+ghost use Rattle.edi_explore.specs.Verdicts.{HasCause, HasFirst, IsAnswer, IsUpTo, or_else, verdict_of, verdict_of_given_up};
 ghost use Rattle.edi_explore.specs.Watched.{IsWatched, SeesLevel};
 
+use crate::cut::confirmed;
 use crate::ends::{Limits, Report, Verdict};
 use crate::expand::Expanded;
-use crate::finding::{MOST_CHOICES, Met, Search};
-use crate::record::run;
+use crate::finding::{Met, Search};
 use crate::states::Origin;
 use crate::step::{Followed, GivenUp, settle};
 use crate::watch::Watcher;
-use edi_kernel::{Ending, Kernel};
+use edi_kernel::Kernel;
 use edi_target::Code;
 use std::alloc::{AllocError, Global};
 
@@ -131,10 +131,11 @@ impl Search {
         ensures expands { IfOk result (λ expanded. ComesTo code.now input.now limits self.old self.new expanded
             ((v : ℕ) → from ≤ v → v < length self.old.states.keys.keys → HasExpanded code.now input.now limits self.new v)) }
         ensures watches { WhereTold (W.seen watcher.old) (W.seen watcher.new)
-            (SeesLevel result from (length self.old.states.keys.keys) (limits.states + 1)) }
+            (SeesLevel result from (length self.old.states.keys.keys) (length self.new.states.keys.keys + 1)) }
         ensures full { IfErr result (λ given_up. given_up ≡ GivenUp.Full → limits.states ≤ length self.new.states.keys.keys) }
         ensures many { IfErr result (λ given_up. given_up ≡ GivenUp.Many → HasMany limits self.new.found.items) }
         ensures few { length self.new.states.keys.keys ≤ limits.states }
+        ensures grows { length self.old.states.keys.keys ≤ length self.new.states.keys.keys }
     {
         let mut expanded = Expanded::Whole;
         for state in from..self.states.len() {
@@ -229,74 +230,6 @@ impl Search {
     }
 }
 
-/// Whether the run with these choices has more than so many turns, and no more choices than a record has. The only error is want of memory.
-fn is_cut(
-    alloc: Global,
-    kernel: &mut Kernel,
-    code: &Code,
-    input: &[u8],
-    choices: &[u8],
-    turns: u64,
-) -> Result<bool, AllocError>
-    ensures { (unit : ProgramUnit) → CanBeCoded unit → IsUnitCode unit code.now →
-        IfOk result (λ cut. cut ≡ true → IsCutBy turns unit input.now choices.now) }
-{
-    if choices.len() > MOST_CHOICES {
-        return Ok(false);
-    }
-    let again = Vec::from_slice(alloc, choices)?;
-    let found = run(alloc, kernel, code, input, again, turns)?;
-    // No object outside is there to fail: memory ran out in a call.
-    if found.ending == Ending::Fault {
-        return Err(AllocError);
-    }
-    Ok(found.ending == Ending::Turns)
-}
-
-/// The verdict that a stint was cut, after so many moves, if the run with these choices is cut; else one that says the same of endings. If memory
-/// runs out in that run it says so.
-fn confirmed_cut(
-    alloc: Global,
-    kernel: &mut Kernel,
-    code: &Code,
-    input: &[u8],
-    choices: &[u8],
-    turns: u64,
-    moves: usize,
-) -> Verdict
-    ensures same { IsConfirmed (Verdict.Cut moves) result }
-    ensures cause { (unit : ProgramUnit) → CanBeCoded unit → IsUnitCode unit code.now → HasCause turns unit input.now result choices.now }
-{
-    match is_cut(alloc, kernel, code, input, choices, turns) {
-        Ok(true) => Verdict::Cut(moves),
-        Ok(false) => Verdict::Unrecorded(moves),
-        Err(_) => Verdict::NoMemory(moves),
-    }
-}
-
-/// The verdict again, where a cut is told only if the run with these choices is cut.
-fn confirmed(
-    alloc: Global,
-    kernel: &mut Kernel,
-    code: &Code,
-    input: &[u8],
-    choices: &[u8],
-    turns: u64,
-    verdict: Verdict,
-) -> Verdict
-    ensures same { IsConfirmed verdict result }
-    ensures cause { (unit : ProgramUnit) → CanBeCoded unit → IsUnitCode unit code.now → HasCause turns unit input.now result choices.now }
-{
-    match verdict {
-        Verdict::Cut(moves) => confirmed_cut(alloc, kernel, code, input, choices, turns, moves),
-        Verdict::All => Verdict::All,
-        Verdict::Full(moves) => Verdict::Full(moves),
-        Verdict::Many(moves) => Verdict::Many(moves),
-        Verdict::Unrecorded(moves) => Verdict::Unrecorded(moves),
-        Verdict::NoMemory(moves) => Verdict::NoMemory(moves),
-    }
-}
-
 /// Finds every ending that any choices bring about, for the program of this code with this input and no disk.
 ///
 /// Each ending that is found has choices, which bring it about: a run of the kernel ended so with them, after as many moves as are told. No
@@ -307,7 +240,7 @@ fn confirmed(
 /// that goes on for ever has no ending, and is cut by each bound on its turns. Where output is looked at, an ending with other output is another
 /// ending.
 ///
-/// Where the verdict is that a stint was cut, the choices of the report bring that about: the run with them has more turns than a stint may have.
+/// Where the verdict is that a stint was cut, the choices of the report bring that about: the run with them has a stint of more turns than one may have.
 /// As many states and one more were met where the verdict is that there may be no more; there are never more than these. As many endings were
 /// found as may be where the verdict is `Many`; there are never more. After each state the watcher is told how many there are by now.
 ///

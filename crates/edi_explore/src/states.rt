@@ -243,6 +243,7 @@ impl States {
         ensures added { IfOk result (λ kept. kept ≡ true → IsAdded (asks_of limits) self.old self.new kernel.now calls.now) }
         ensures full { IfOk result (λ kept. kept ≡ false → limits.states ≤ length self.new.keys.keys) }
         ensures few { length self.new.keys.keys ≤ limits.states }
+        ensures grows { length self.old.keys.keys ≤ length self.new.keys.keys }
     {
         let key = self.key_of(alloc, kernel, calls, limits.asks())?;
         if self.keys.len() >= limits.states as usize && !self.keys.contains(&key) {

@@ -82,6 +82,7 @@ pub(crate) fn settle(
     ensures full { IfErr result (λ given_up. given_up ≡ GivenUp.Full → limits.states ≤ length states.new.keys.keys) }
     ensures few_found { IfErr result (λ given_up. given_up ≡ GivenUp.Many → ⊥) }
     ensures few { length states.new.keys.keys ≤ limits.states }
+    ensures grows { length states.old.keys.keys ≤ length states.new.keys.keys }
 {
     if let StintEnd::Over { ending, .. } = end {
         return Ok(ended(ending)?);
@@ -137,6 +138,7 @@ pub(crate) fn follow(
     ensures full { IfErr result (λ given_up. given_up ≡ GivenUp.Full → limits.states ≤ length states.new.keys.keys) }
     ensures few_found { IfErr result (λ given_up. given_up ≡ GivenUp.Many → ⊥) }
     ensures few { length states.new.keys.keys ≤ limits.states }
+    ensures grows { length states.old.keys.keys ≤ length states.new.keys.keys }
     ensures input { OnOk result (calls.new.input ≡ calls.old.input) }
 {
     let state = origin.state as usize;

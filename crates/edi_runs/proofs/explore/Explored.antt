@@ -1,5 +1,5 @@
 -- What a search reports of the code of a text, in the words of the text.
-use Rattle.std.proofs.Common.{◌≡◌, ℕ, zero, suc, ◌<◌, ◌≤◌, Bool, true, false, List, [], ◌∷◌, length, map, Contains, Option, Some, is_some, refl, sym, ap, subst, ◌∙◌, arith}
+use Rattle.std.proofs.Common.{◌≡◌, ℕ, zero, suc, ◌+◌, ◌<◌, ◌≤◌, Bool, true, false, List, [], ◌∷◌, length, map, Contains, Option, Some, is_some, refl, sym, ap, subst, ◌∙◌, arith}
 use Rattle.std.specs.Prelude.{slice_get}
 use Rattle.std.proofs.lemmas.List.{length-map}
 use Rattle.edi_calls.specs.Outcome as outcome
@@ -16,16 +16,20 @@ use Rattle.edi_explored.specs.machine.Kernels.{IsUnitCode, ending_of}
 use Rattle.edi_explore.specs.declared.ends.Found.{Found}
 use Rattle.edi_explore.specs.declared.ends.Verdict.{Verdict}
 use Rattle.edi_explore.specs.declared.ends.Verdict.TheVariants as verdict
+use Rattle.edi_explore.specs.Fewest as search_fewest
+use Rattle.edi_explore.specs.Fewest.{AreWithin, IsWithin}
 use Rattle.edi_explore.specs.Found.{AllTellWaits, AreNeverBad, AreRecorded, IsRecorded, TellsWaits, WaitsBy, endings_of, is_standstill, with_ending}
 use Rattle.edi_explore.specs.Offline.{offline}
 use Rattle.edi_explore.specs.Shown as search
 use Rattle.edi_explore.specs.Shown.{shown_endings_of, with_shown}
+use Rattle.edi_explore.specs.Verdicts as search_cut
 use Rattle.edi_explore.specs.Verdicts.{HasCause, IsUpTo}
 use Rattle.edi_explore.proofs.Findings.{contains_at}
 use Rattle.edi_explore.proofs.Keying.{some_is}
 use Rattle.edi_waits.specs.Told.{all_of}
 use Rattle.edi_waits.specs.Waits.{Waiting}
-use Rattle.edi_runs.specs.explore.Explorations.{AreDistinct, AreTold, IsCutOnlyBy, IsExplorationOf, IsFound, IsFullOnlyAt, IsManyOnlyAt, IsReachedBy, Reached, ShowSame}
+use Rattle.edi_runs.specs.explore.Explorations.{AreDistinct, AreTold, IsCutAt, IsCutOnlyBy, IsExplorationOf, IsFewest, IsFound, IsFullOnlyAt, IsManyOnlyAt, IsReachedBy, IsShortest}
+use Rattle.edi_runs.specs.explore.Explorations.{Reached, ShowSame}
 use Rattle.edi_runs.specs.explore.Explorations.{Says, SaysShown, endings_in, shown_endings_in}
 use Rattle.edi_runs.specs.explore.Told.{reached_of}
 
@@ -107,7 +111,7 @@ same_shown_endings (f ∷ fs) told =
     ∙ ap (λ es. (t.0, f.shown.items) ∷ es) (same_shown_endings fs (λ g c. told g (later f fs g c)))
     ∙ ap (λ e. (e, f.shown.items) ∷ shown_endings_in (map reached_of fs)) (sym (meant_is f.ending t.0 t.1))
 
-same_shown : (asks : Bool) (a b : Reached) (x y : Found) → reached_of x ≡ a → reached_of y ≡ b → ShowSame asks a b →
+same_shown : (asks : Bool) (a b : Reached) (x y : Found) → reached_of x ≡ a → reached_of y ≡ b → ShowSame asks a.shown b.shown →
     SameShown asks x.shown.items y.shown.items
 same_shown true a b x y p q same = ap (λ (r : Reached). r.shown) q ∙ sym same ∙ sym (ap (λ (r : Reached). r.shown) p)
 same_shown false a b x y p q same = tt
@@ -145,6 +149,7 @@ module _ (text : List ℕ) (unit : ProgramUnit) (is : IsUnit text unit) (input :
         run = record { unit = unit; unit_is = is; run = s.selects };
         ending_is = s.ends ∙ sym (meant_is f.ending r.end r.is);
         turns_is = s.turns;
+        moves_is = s.moves;
         shown_is = s.shown;
         found = is_found f.ending r.end r.is r.uncut good;
         few = r.few;
@@ -187,15 +192,52 @@ module _ (text : List ℕ) (unit : ProgramUnit) (is : IsUnit text unit) (input :
       of (verdict.Unrecorded moves) all below = up_to moves (below moves refl)
       of (verdict.NoMemory moves) all below = up_to moves (below moves refl)
 
+  -- no execution of fewer moves ends so
+  fewest : (asks : Bool) (f : Found) → ((end : outcome.Ending) × (ending_of f.ending ≡ Some end)) → search_fewest.IsFewest asks unit input f →
+      IsFewest asks text input (reached_of f)
+  fewest asks f e h = record {
+    unit = unit;
+    unit_is = is;
+    fewest = λ bound choices end turns drawn order ends same.
+        h bound choices (meant f.ending) end turns drawn order ends (e.1 ∙ ap Some (sym (meant_is f.ending e.0 e.1)))
+        (shows_as asks (reached_of f) end.now.shown same);
+  }
+    where
+      shows_as : (asks : Bool) (one : Reached) (shown : List ℕ) → ShowSame asks shown one.shown → SameShown asks one.shown shown
+      shows_as true one shown same = same
+      shows_as false one shown same = tt
+
+  shortest : (v : Verdict) (asks : Bool) (fs : List Found) → AreEndings fs →
+      ((f : Found) → Contains fs f → IsWithin v f.moves → search_fewest.IsFewest asks unit input f) → AreWithin v fs → (f : Found) → Contains fs f →
+      IsShortest v asks text input (reached_of f)
+  shortest verdict.All asks fs told few within f c = fewest asks f (told f c) (few f c tt)
+  shortest (verdict.Full moves) asks fs told few within f c = fewest asks f (told f c) (few f c (within f c))
+  shortest (verdict.Many moves) asks fs told few within f c = fewest asks f (told f c) (few f c (within f c))
+  shortest (verdict.Cut moves) asks fs told few within f c = λ low. fewest asks f (told f c) (few f c low)
+  shortest (verdict.Unrecorded moves) asks fs told few within f c = λ low. fewest asks f (told f c) (few f c low)
+  shortest (verdict.NoMemory moves) asks fs told few within f c = λ low. fewest asks f (told f c) (few f c low)
+
+  cut_at : (bound : ℕ) (choices : List ℕ) (moves drawn : ℕ) → search_cut.IsCutAt bound unit input choices moves drawn →
+      IsCutAt bound text input choices moves drawn
+  cut_at bound choices moves drawn h = record {
+    outcome = h.outcome;
+    run = record { unit = unit; unit_is = is; run = h.selects };
+    cut = h.cut;
+    moved = h.moved;
+    draws = h.draws;
+  }
+
   -- why a stint was cut
   cause : (turns : ℕ) (v : Verdict) (choices : List ℕ) → HasCause turns unit input v choices → IsCutOnlyBy turns v text input choices
   cause turns verdict.All choices h = tt
   cause turns (verdict.Full moves) choices h = tt
   cause turns (verdict.Many moves) choices h = tt
   cause turns (verdict.Cut moves) choices h = record {
-    outcome = h.outcome;
-    run = record { unit = unit; unit_is = is; run = h.selects };
-    cut = h.cut;
+    before = h.before;
+    moves = h.moves;
+    drawn = h.drawn;
+    begins = cut_at h.before choices h.moves h.drawn h.begins;
+    goes_on = cut_at (h.before + turns) choices h.moves h.drawn h.goes_on;
     few = h.few;
     small = h.small;
   }
@@ -213,15 +255,17 @@ module _ (text : List ℕ) (unit : ProgramUnit) (is : IsUnit text unit) (input :
       AreNeverBad fs → AllTellWaits (parts_of unit) input fs → search.AreDistinct (is_some shown) fs →
       (v ≡ verdict.All → AreAll unit (offline input) (endings_of fs)) →
       ((moves : ℕ) → IsUpTo v moves → AreAllBelow moves unit (offline input) (endings_of fs)) → SearchShows shown v fs →
+      ((f : Found) → Contains fs f → IsWithin v f.moves → search_fewest.IsFewest (is_some shown) unit input f) → AreWithin v fs →
       ((moves : ℕ) → v ≡ verdict.Full moves → most < states) → states ≤ suc most → HasCause turns unit input v cut →
       IsExplorationOf text input most turns shown (record { endings = map reached_of fs; verdict = v; states = states; cut = cut })
-  exploration most turns shown v states fs cut recorded good waits once all below shows full bounded why =
+  exploration most turns shown v states fs cut recorded good waits once all below shows few within full bounded why =
       let told : AreEndings fs = λ f c. let r = recorded f c in (r.end, r.is) in
       record {
         reached = each_reached (IsReachedBy text input) fs (λ f c. reached f (recorded f c) (λ at e. good f at c e) (waits f c));
         distinct = distinct (is_some shown) fs told once;
         says = says v fs told all below;
         says_shown = λ asks. says_shown v fs told (shows.all asks) (shows.below asks);
+        shortest = each_reached (IsShortest v (is_some shown) text input) fs (shortest v (is_some shown) fs told few within);
         full = only v full;
         bounded = bounded;
         many = only_many v shows.many;

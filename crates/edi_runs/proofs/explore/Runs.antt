@@ -1,5 +1,5 @@
 -- Where all endings are found, each run of the text ends so.
-use Rattle.std.proofs.Common.{◌≡◌, inl, inr, ℕ, true, List, Contains, Option, is_some, sym, ap, subst, ◌∙◌}
+use Rattle.std.proofs.Common.{◌≡◌, inl, inr, ℕ, List, Contains, sym, ap, subst, ◌∙◌}
 use Rattle.edi_calls.specs.Choice.{Choices, listed}
 use Rattle.edi_calls.specs.Outcome as outcome
 use Rattle.edi_calls.specs.Outcome.{Ending, Outcome}

@@ -11,7 +11,7 @@ use Rattle.edi_runs.specs.explore.Explorations.{Findings, Reached}
 use Rattle.edi_runs.specs.explore.Lines.{choices_text, ending_line, numbers_text, output_line, report_text, summary_of, verdict_line}
 
 abbrev pub reached : Ending → (choices : List ℕ) → (turns : ℕ) → Reached
-reached ending choices turns = record { ending = ending; choices = choices; turns = turns; shown = []; waits = [] }
+reached ending choices turns = record { ending = ending; choices = choices; turns = turns; moves = 0; shown = []; waits = [] }
 
 abbrev pub found : List Reached → Verdict → (states : ℕ) → Findings
 found endings v states = record { endings = endings; verdict = v; states = states; cut = [] }

@@ -1,5 +1,5 @@
 -- Words of contracts. What a report of the search finds, as plain data; and what reading an input takes of it.
-use Rattle.std.specs.Prelude.{◌≡◌, ℕ, ◌<◌, ◌≤◌, suc, List, [], ◌∷◌, ◌++◌, length, drop, map, Result, Ok, Err}
+use Rattle.std.specs.Prelude.{◌≡◌, ℕ, ◌<◌, ◌≤◌, suc, List, [], ◌++◌, length, drop, map, Result, Ok, Err}
 use Rattle.std.specs.Global.{Vec}
 use Rattle.edi_timeline.specs.Told.{meant}
 use Rattle.edi_waits.specs.Told.{all_of}
@@ -11,7 +11,14 @@ use Rattle.edi_runs.specs.explore.Explorations.{Findings, Reached}
 use Rattle.edi_runs.specs.explore.Input.{most_input}
 
 abbrev pub reached_of : code_found.Found → Reached
-reached_of f = record { ending = meant f.ending; choices = f.choices.items; turns = f.turns; shown = f.shown.items; waits = all_of f.waits }
+reached_of f = record {
+  ending = meant f.ending;
+  choices = f.choices.items;
+  turns = f.turns;
+  moves = f.moves;
+  shown = f.shown.items;
+  waits = all_of f.waits;
+}
 
 abbrev pub findings_of : code_report.Report → Findings
 findings_of r = record { endings = map reached_of r.found.items; verdict = r.verdict; states = r.states; cut = r.cut.items }

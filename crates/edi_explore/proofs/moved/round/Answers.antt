@@ -1,6 +1,5 @@
 -- The stint ends the run, or the next process is taken.
-use Rattle.std.proofs.Common.{◌≡◌, ℕ, ◌-◌, false, sym, ap, subst, ◌∙◌, arith}
-use Rattle.edi_kernel.specs.Kernel.{ended_by, is_over}
+use Rattle.std.proofs.Common.{◌-◌, sym, ap, subst, ◌∙◌, arith}
 use Rattle.edi_kernel.specs.Runs.{IsAt}
 use Rattle.edi_explore.specs.Underway.{Comes}
 use Rattle.edi_explore.specs.Systems.{system_of}

@@ -1,6 +1,6 @@
 -- Round after round.
-use Rattle.std.proofs.Common.{refl, ap, sym, subst, ◌∙◌, arith}
-use Rattle.edi_explore.specs.Underway.{Comes, IsUnderway}
+use Rattle.std.proofs.Common.{refl, sym, subst, ◌∙◌, arith}
+use Rattle.edi_explore.specs.Underway.{Comes}
 use Rattle.edi_explore.specs.Systems.{system_of}
 use Rattle.edi_explore.proofs.Rounds.{begins, never_begins}
 use Rattle.edi_explore.proofs.moved.run_counted.Goals as goal

@@ -1,4 +1,4 @@
-use Rattle.std.proofs.Common.{◌≡◌, ◌+◌, ◌-◌, ◌<◌, ◌≤◌, IsSome, None}
+use Rattle.std.proofs.Common.{◌≡◌, ◌-◌, ◌≤◌, IsSome, None}
 use Rattle.edi_kernel.specs.Kernel.{IsKernel}
 use Rattle.edi_explore.specs.Underway.{IsUnderway}
 use Rattle.edi_explore.specs.Systems.{system_of}

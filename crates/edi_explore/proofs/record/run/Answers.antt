@@ -1,5 +1,5 @@
 -- The run is that of the machine, and so of the meaning.
-use Rattle.std.proofs.Common.{◌≡◌, ap, refl, sym, ◌∙◌, subst, arith}
+use Rattle.std.proofs.Common.{◌≡◌, ap, refl, sym, ◌∙◌, subst}
 use Rattle.edi_calls.specs.Choice.{listed}
 use Rattle.edi_calls.specs.State.{State}
 use Rattle.edi_trace.specs.Drawn.{Drawn}
@@ -14,7 +14,7 @@ returns-clause-exact c = λ unit coded is. record {
   small = subst AreChoices c.deref.ensures.value c.are_choices.ensures;
   came = λ end same.
       let list : c.in_ok-source.source.source ≡ listed c.args.choices.items = ap (λ (d : Drawn). d.source) c.in_ok-source.ensures ∙ ap listed c.deref-2.ensures.value in
-      let s = subst (λ (s : State). SelectedBy unit s c.args.turns c.args.choices.items end c.run_counted-ran.new.kernel.used c.run_counted-ran.result.moves c.run_counted-ran.new.calls.shown.items) c.in_ok-calls.ensures.system
+      let s = subst (λ (s : State). SelectedBy unit s c.args.turns c.args.choices.items end c.run_counted-ran.new.kernel.used c.run_counted-ran.result.moves c.run_counted-ran.new.choices.drawn c.run_counted-ran.new.calls.shown.items) c.in_ok-calls.ensures.system
       (ran unit coded c.args.code.now is (system_of c.in_ok-calls.calls) c.args.turns c.args.choices.items c.in_ok-source.source.source list
       c.run_counted-ran.result.ending c.run_counted-ran.new.kernel (system_of c.run_counted-ran.new.calls) c.run_counted-ran.new.choices
       c.run_counted-ran.result.moves c.run_counted-ran.ensures.used c.run_counted-ran.ensures.exact end same) in

@@ -8,7 +8,7 @@ use Rattle.edi_explore.specs.declared.states.Key.{Key}
 use Rattle.edi_explore.specs.Shown.{HasEnding, asks_of}
 use Rattle.edi_explore.specs.Tables.{shown_at}
 use Rattle.edi_explore.specs.Expand.{Apart, ComesTo, HasExpanded, HasStintThat, HasStintsTo, both}
-use Rattle.edi_explore.proofs.Expanding.{ends_standing, further_on, further_same, more_so, no_stints}
+use Rattle.edi_explore.proofs.Expanding.{ends_going, ends_standing, further_on, further_same, more_so, no_stints}
 use Rattle.edi_explore.proofs.Findings.{found_none, found_on}
 use Rattle.edi_explore.proofs.Keying.{lookup}
 use Rattle.edi_explore.proofs.finding.Search.expand.Goals as goal
@@ -24,6 +24,7 @@ loop-index-init c = record {
   finds = found_none c.args.code.now c.args.input.now c.args.limits c.args.self.now c.args.self.now refl refl;
   further = further_same c.args.code.now c.args.input.now c.args.limits c.args.self.now c.requires.search;
   few = c.requires.few;
+  grown = omega arith;
   so = λ whole apart. no_stints c.args.code.now c.args.input.now c.args.limits c.args.self.now c.args.state;
 }
 
@@ -45,6 +46,7 @@ loop-index-preserved c =
       further = further_on c.args.code.now c.args.input.now c.args.limits c.args.self.now c.loop-index.self c.stint.new.self
           c.loop-index.invariant.further follows.further;
       few = c.stint.ensures.few;
+      grown = omega (arith, c.loop-index.invariant.grown, c.stint.ensures.grows);
       so = λ whole apart.
           subst (λ (b : Bool). HasStintsTo c.args.code.now c.args.input.now c.args.limits c.stint.new.self (c.loop-index.index + 1) c.args.state b)
           (sym c.fails_after-stands.ensures)
@@ -53,6 +55,12 @@ loop-index-preserved c =
           (omega (arith, c.ready-index-end.ensures.slots, c.loop-index-test.true)) c.loop-index.invariant.further c.loop-index.invariant.so
           c.stint.ensures.finds.finds.more follows (sym c.and-expanded.ensures ∙ whole) apart);
     }
+
+pub returns-then-not-stands-clause-expands : goal.returns-then-not-stands-clause-expands
+returns-then-not-stands-clause-expands c =
+    ends_going c.args.code.now c.args.input.now c.args.limits c.args.self.now c.loop-index.self c.args.state c.loop-index.index c.loop-index.expanded
+    c.loop-index.stands c.requires.search c.requires.state c.loop-index.invariant.further c.loop-index.invariant.so
+    (omega (arith, c.ready-index-end.ensures.slots, c.loop-index-test.false, c.loop-index.auto.index-end)) c.if-not-stands.true
 
 pub returns-in_err-told-clause-finds : goal.returns-in_err-told-clause-finds
 returns-in_err-told-clause-finds c =

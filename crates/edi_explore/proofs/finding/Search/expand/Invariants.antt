@@ -10,5 +10,6 @@ invariant-loop-index l = record {
   finds : FindsAt l.code l.input l.limits l.fn.self l.self;
   further : GoesFurther l.code l.input l.limits l.fn.self l.self;
   few : length l.self.states.keys.keys ≤ l.limits.states;
+  grown : length l.fn.self.states.keys.keys ≤ length l.self.states.keys.keys;
   so : l.expanded ≡ expanded.Whole → Apart l.code l.input l.limits l.self l.state → HasStintsTo l.code l.input l.limits l.self l.index l.state l.stands;
 }

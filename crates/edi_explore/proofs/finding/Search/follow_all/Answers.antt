@@ -1,5 +1,5 @@
 -- The first stint, and then the levels.
-use Rattle.std.proofs.Common.{◌≡◌, ◌+◌, length, sym, subst}
+use Rattle.std.proofs.Common.{◌≡◌, ◌+◌, length, sym, subst, arith}
 use Rattle.edi_explore.specs.declared.ends.Verdict.{Verdict}
 use Rattle.edi_explore.specs.declared.ends.Verdict.TheVariants as verdict
 use Rattle.edi_explore.specs.Fewest.{AreWithin}
@@ -59,7 +59,8 @@ pub returns-in-Ok-Cut-clause-watches : goal.returns-in-Ok-Cut-clause-watches
 returns-in-Ok-Cut-clause-watches g c =
     let states = length c.begin.new.self.states.keys.keys + 1 in
     told_same (IsWatched (verdict.Cut 0) (c.args.limits.states + 1) states) (g.W.Watcher.seen c.args.watcher.now)
-    (λ x. watched_not (verdict.Cut 0) (c.args.limits.states + 1) states x x (sees_none 0 (c.args.limits.states + 1) x).0 (λ e. not_cut e))
+    (λ x. watched_not (verdict.Cut 0) (c.args.limits.states + 1) states x x
+    (omega (arith, c.begin.ensures.few)) (sees_none 0 0 states x).0 (λ e. not_cut e))
   where
     not_cut : verdict.Cut 0 ≡ verdict.All → ⊥
     not_cut e = cc
@@ -68,7 +69,8 @@ pub returns-in-Ok-Unrecorded-clause-watches : goal.returns-in-Ok-Unrecorded-clau
 returns-in-Ok-Unrecorded-clause-watches g c =
     let states = length c.begin.new.self.states.keys.keys + 1 in
     told_same (IsWatched (verdict.Unrecorded 0) (c.args.limits.states + 1) states) (g.W.Watcher.seen c.args.watcher.now)
-    (λ x. watched_not (verdict.Unrecorded 0) (c.args.limits.states + 1) states x x (sees_none 0 (c.args.limits.states + 1) x).0 (λ e. not_this e))
+    (λ x. watched_not (verdict.Unrecorded 0) (c.args.limits.states + 1) states x x
+    (omega (arith, c.begin.ensures.few)) (sees_none 0 0 states x).0 (λ e. not_this e))
   where
     not_this : verdict.Unrecorded 0 ≡ verdict.All → ⊥
     not_this e = cc
@@ -78,7 +80,7 @@ returns-in-Err-clause-watches g c =
     let states = length c.begin.new.self.states.keys.keys + 1 in
     told_same (IsWatched c.verdict.result (c.args.limits.states + 1) states) (g.W.Watcher.seen c.args.watcher.now)
     (λ x. watched_early verdict.All c.verdict.result c.in-Err.given_up 0 (c.args.limits.states + 1) states x x c.verdict.ensures
-    (sees_none 0 (c.args.limits.states + 1) x).0)
+    (omega (arith, c.begin.ensures.few)) (sees_none 0 0 states x).0)
 
 pub levels-requires-clause-first : goal.levels-requires-clause-first
 levels-requires-clause-first g c =

@@ -5,7 +5,7 @@ use Rattle.edi_explore.specs.Watched.{Sees, SeesLevel}
 use Rattle.edi_explore.proofs.Expanding.{further_on, further_same, level_more}
 use Rattle.edi_explore.proofs.Findings.{found_none, found_on}
 use Rattle.edi_explore.proofs.Table.{longer}
-use Rattle.edi_explore.proofs.Watching.{sees_none, sees_one, told_same}
+use Rattle.edi_explore.proofs.Watching.{sees_none, sees_one, sees_wide, told_same}
 use Rattle.edi_explore.proofs.finding.Search.level.Goals as goal
 
 pub loop-state-init : goal.loop-state-init
@@ -13,10 +13,12 @@ loop-state-init g c = record {
   finds = found_none c.args.code.now c.args.input.now c.args.limits c.args.self.now c.args.self.now refl refl;
   further = further_same c.args.code.now c.args.input.now c.args.limits c.args.self.now c.requires.search;
   few = c.requires.few;
+  grown = omega arith;
   so = λ e v low high. absurd (omega (arith, low, high));
   watches =
-      told_same (λ (x y : List ℕ). (s : Sees c.args.from (c.args.limits.states + 1) x y) × (c.args.from + length s.more ≡ c.args.from))
-      (g.W.Watcher.seen c.args.watcher.now) (λ x. let s = sees_none c.args.from (c.args.limits.states + 1) x in (s.0, omega (arith, s.1)));
+      told_same (λ (x y : List ℕ). (s : Sees c.args.from (length c.args.self.now.states.keys.keys + 1) (length c.args.self.now.states.keys.keys + 1) x y) × (c.args.from + length s.more ≡ c.args.from))
+      (g.W.Watcher.seen c.args.watcher.now) (λ x.
+      let s = sees_none c.args.from (length c.args.self.now.states.keys.keys + 1) (length c.args.self.now.states.keys.keys + 1) x in (s.0, omega (arith, s.1)));
 }
 
 pub expand-requires-clause-state : goal.expand-requires-clause-state
@@ -36,23 +38,27 @@ loop-state-preserved g c =
     let a = c.loop-state.self in
     let b = c.expand.new.self in
     let came = c.in-Ok.ensures.expands in
+    let least = length c.args.self.now.states.keys.keys + 1 in
     let far = longer a.states b.states input c.loop-state.invariant.further.search.states came.further.grows in
     let long = longer c.args.self.now.states a.states input c.requires.search.states c.loop-state.invariant.further.grows in
     record {
       finds = found_on code input limits c.args.self.now a b c.loop-state.invariant.finds c.in-Ok.ensures.finds;
       further = further_on code input limits c.args.self.now a b c.loop-state.invariant.further came.further;
       few = c.expand.ensures.few;
+      grown = omega (arith, c.loop-state.invariant.grown, c.expand.ensures.grows);
       so = λ whole v low high.
           level_more code input limits c.args.self.now a b c.args.from c.loop-state.state c.loop-state.expanded c.in-Ok.more
           c.loop-state.invariant.further (omega (arith, c.loop-state-test.true, c.len-state-end.ensures)) c.requires.search c.loop-state.invariant.so
           c.in-Ok.ensures.finds.finds.more came (sym c.and-expanded.ensures ∙ whole) v low high;
       watches =
-          WhereTold-then (λ x y. (s : Sees c.args.from (limits.states + 1) x y) × (c.args.from + length s.more ≡ c.loop-state.state))
-          (λ y z. z ≡ y ++ c.total.result ∷ []) (λ x z. (s : Sees c.args.from (limits.states + 1) x z) × (c.args.from + length s.more ≡ c.loop-state.state + 1))
+          WhereTold-then (λ x y. (s : Sees c.args.from least (length a.states.keys.keys + 1) x y) × (c.args.from + length s.more ≡ c.loop-state.state))
+          (λ y z. z ≡ y ++ c.total.result ∷ [])
+          (λ x z. (s : Sees c.args.from least (length b.states.keys.keys + 1) x z) × (c.args.from + length s.more ≡ c.loop-state.state + 1))
           (g.W.Watcher.seen c.args.watcher.now) (g.W.Watcher.seen c.loop-state.watcher) (g.W.Watcher.seen c.tell.new.self)
           (λ x y z s is.
           let t =
-          sees_one c.args.from (limits.states + 1) c.total.result x y z s.0 is (omega (arith, c.total.ensures, c.expand.ensures.few))
+          sees_one c.args.from least (length a.states.keys.keys + 1) (length b.states.keys.keys + 1) c.total.result x y z s.0 is
+          (omega (arith, c.total.ensures, far)) (omega (arith, c.total.ensures)) (omega (arith, c.total.ensures, far, long))
           (omega (arith, s.1, c.total.ensures, far, long, c.loop-state-test.true, c.len-state-end.ensures)) in
           (t.0, omega (arith, t.1, s.1))) c.loop-state.invariant.watches c.tell.ensures;
     }
@@ -64,14 +70,21 @@ returns-in-Err-clause-finds g c =
 
 pub returns-in-Err-clause-watches : goal.returns-in-Err-clause-watches
 returns-in-Err-clause-watches g c =
-    WhereTold-map (λ x y. (s : Sees c.args.from (c.args.limits.states + 1) x y) × (c.args.from + length s.more ≡ c.loop-state.state))
-    (SeesLevel _ c.args.from (length c.args.self.now.states.keys.keys) (c.args.limits.states + 1)) (g.W.Watcher.seen c.args.watcher.now)
-    (g.W.Watcher.seen c.loop-state.watcher) (λ x y s. record { sees = s.0; whole = tt }) c.loop-state.invariant.watches
+    let least = length c.args.self.now.states.keys.keys + 1 in
+    let before = length c.loop-state.self.states.keys.keys + 1 in
+    let most = length c.expand.new.self.states.keys.keys + 1 in
+    WhereTold-map (λ x y. (s : Sees c.args.from least before x y) × (c.args.from + length s.more ≡ c.loop-state.state))
+    (SeesLevel _ c.args.from (length c.args.self.now.states.keys.keys) most) (g.W.Watcher.seen c.args.watcher.now)
+    (g.W.Watcher.seen c.loop-state.watcher)
+    (λ x y s. record { sees = sees_wide c.args.from least before most x y s.0 (omega (arith, c.expand.ensures.grows)); whole = tt })
+    c.loop-state.invariant.watches
 
 pub returns-clause-watches : goal.returns-clause-watches
 returns-clause-watches g c =
-    WhereTold-map (λ x y. (s : Sees c.args.from (c.args.limits.states + 1) x y) × (c.args.from + length s.more ≡ c.loop-state.state))
-    (SeesLevel _ c.args.from (length c.args.self.now.states.keys.keys) (c.args.limits.states + 1)) (g.W.Watcher.seen c.args.watcher.now)
+    let least = length c.args.self.now.states.keys.keys + 1 in
+    let most = length c.loop-state.self.states.keys.keys + 1 in
+    WhereTold-map (λ x y. (s : Sees c.args.from least most x y) × (c.args.from + length s.more ≡ c.loop-state.state))
+    (SeesLevel _ c.args.from (length c.args.self.now.states.keys.keys) most) (g.W.Watcher.seen c.args.watcher.now)
     (g.W.Watcher.seen c.loop-state.watcher)
     (λ x y s. record { sees = s.0; whole = omega (arith, s.1, c.loop-state-test.false, c.len-state-end.ensures, c.requires.from) })
     c.loop-state.invariant.watches

@@ -34,8 +34,8 @@ loop-depth-init g c = record {
   deep = omega arith;
   within = omega arith;
   watches =
-      told_same (λ (x y : List ℕ). (s : Sees 0 (c.args.limits.states + 1) x y) × (length s.more ≡ 0)) (g.W.Watcher.seen c.args.watcher.now)
-      (λ x. sees_none 0 (c.args.limits.states + 1) x);
+      told_same (λ (x y : List ℕ). (s : Sees 0 0 (length c.args.self.now.states.keys.keys + 1) x y) × (length s.more ≡ 0)) (g.W.Watcher.seen c.args.watcher.now)
+      (λ x. sees_none 0 0 (length c.args.self.now.states.keys.keys + 1) x);
 }
 
 pub returns-then-from-to-clause-answer : goal.returns-then-from-to-clause-answer
@@ -45,11 +45,12 @@ returns-then-from-to-clause-answer g c =
 
 pub returns-then-from-to-clause-watches : goal.returns-then-from-to-clause-watches
 returns-then-from-to-clause-watches g c =
-    WhereTold-map (λ x y. (s : Sees 0 (c.args.limits.states + 1) x y) × (length s.more ≡ c.loop-depth.from))
+    WhereTold-map (λ x y. (s : Sees 0 0 (length c.loop-depth.self.states.keys.keys + 1) x y) × (length s.more ≡ c.loop-depth.from))
     (IsWatched c.loop-depth.verdict (c.args.limits.states + 1) (length c.loop-depth.self.states.keys.keys + 1)) (g.W.Watcher.seen c.args.watcher.now)
     (g.W.Watcher.seen c.loop-depth.watcher)
     (λ x y s.
-    watched_whole c.loop-depth.verdict (c.args.limits.states + 1) (length c.loop-depth.self.states.keys.keys + 1) x y s.0
+    watched_whole c.loop-depth.verdict (c.args.limits.states + 1) (length c.loop-depth.self.states.keys.keys + 1) x y
+    (omega (arith, c.loop-depth.invariant.few)) s.0
     (omega (arith, s.1, c.if-from-to.true, c.len-to.ensures))) c.loop-depth.invariant.watches
 
 pub level-requires-clause-search : goal.level-requires-clause-search
@@ -96,13 +97,15 @@ loop-depth-preserved g c =
       deep = omega (arith, c.loop-depth.invariant.deep, c.loop-depth.invariant.within, c.if-from-to.false, c.len-to.ensures);
       within = omega (arith, c.len-to.ensures, longer a.states b.states input c.loop-depth.invariant.search.states came.further.grows);
       watches =
-          WhereTold-then (λ x y. (s : Sees 0 (limits.states + 1) x y) × (length s.more ≡ c.loop-depth.from))
-          (SeesLevel c.level.result c.loop-depth.from (length a.states.keys.keys) (limits.states + 1))
-          (λ x z. (s : Sees 0 (limits.states + 1) x z) × (length s.more ≡ c.len-to.result)) (g.W.Watcher.seen c.args.watcher.now)
+          WhereTold-then (λ x y. (s : Sees 0 0 (length a.states.keys.keys + 1) x y) × (length s.more ≡ c.loop-depth.from))
+          (SeesLevel c.level.result c.loop-depth.from (length a.states.keys.keys) (length b.states.keys.keys + 1))
+          (λ x z. (s : Sees 0 0 (length b.states.keys.keys + 1) x z) × (length s.more ≡ c.len-to.result)) (g.W.Watcher.seen c.args.watcher.now)
           (g.W.Watcher.seen c.loop-depth.watcher) (g.W.Watcher.seen c.level.new.watcher)
           (λ x y z s t.
-          let u = sees_on (limits.states + 1) c.loop-depth.from x y z s.0 t.sees (sym s.1) in
-          (u.0, u.1 ∙ whole c.level.result c.in-Ok.expanded c.loop-depth.from (length a.states.keys.keys) (limits.states + 1) y z c.in-Ok.is t ∙ sym c.len-to.ensures)) c.loop-depth.invariant.watches c.level.ensures.watches;
+          let u =
+          sees_on (length a.states.keys.keys + 1) (length b.states.keys.keys + 1) c.loop-depth.from x y z s.0 t.sees (sym s.1)
+          (omega (arith, c.level.ensures.grows)) in
+          (u.0, u.1 ∙ whole c.level.result c.in-Ok.expanded c.loop-depth.from (length a.states.keys.keys) (length b.states.keys.keys + 1) y z c.in-Ok.is t ∙ sym c.len-to.ensures)) c.loop-depth.invariant.watches c.level.ensures.watches;
     }
 
 pub returns-in-Err-clause-finds : goal.returns-in-Err-clause-finds
@@ -141,14 +144,17 @@ pub returns-in-Err-clause-watches : goal.returns-in-Err-clause-watches
 returns-in-Err-clause-watches g c =
     let limits = c.args.limits in
     let b : Search = c.level.new.self in
-    WhereTold-then (λ x y. (s : Sees 0 (limits.states + 1) x y) × (length s.more ≡ c.loop-depth.from))
-    (SeesLevel c.level.result c.loop-depth.from (length c.loop-depth.self.states.keys.keys) (limits.states + 1))
+    let before = length c.loop-depth.self.states.keys.keys in
+    WhereTold-then (λ x y. (s : Sees 0 0 (before + 1) x y) × (length s.more ≡ c.loop-depth.from))
+    (SeesLevel c.level.result c.loop-depth.from before (length b.states.keys.keys + 1))
     (IsWatched c.or.result (limits.states + 1) (length b.states.keys.keys + 1)) (g.W.Watcher.seen c.args.watcher.now)
     (g.W.Watcher.seen c.loop-depth.watcher) (g.W.Watcher.seen c.level.new.watcher)
     (λ x y z s t.
     watched_early c.loop-depth.verdict c.or.result c.in-Err.given_up (c.loop-depth.depth + 1) (limits.states + 1) (length b.states.keys.keys + 1) x z
     (c.or.ensures ∙ ap (or_else c.loop-depth.verdict) c.verdict-in-Err.ensures)
-    (sees_on (limits.states + 1) c.loop-depth.from x y z s.0 t.sees (sym s.1)).0) c.loop-depth.invariant.watches c.level.ensures.watches
+    (omega (arith, c.level.ensures.few))
+    (sees_on (before + 1) (length b.states.keys.keys + 1) c.loop-depth.from x y z s.0 t.sees (sym s.1) (omega (arith, c.level.ensures.grows))).0)
+    c.loop-depth.invariant.watches c.level.ensures.watches
 
 pub returns-clause-answer : goal.returns-clause-answer
 returns-clause-answer g c =
@@ -168,12 +174,12 @@ returns-clause-fewest g c =
 
 pub returns-clause-watches : goal.returns-clause-watches
 returns-clause-watches g c =
-    WhereTold-map (λ x y. (s : Sees 0 (c.args.limits.states + 1) x y) × (length s.more ≡ c.loop-depth.from))
+    WhereTold-map (λ x y. (s : Sees 0 0 (length c.loop-depth.self.states.keys.keys + 1) x y) × (length s.more ≡ c.loop-depth.from))
     (IsWatched c.or-2.result (c.args.limits.states + 1) (length c.loop-depth.self.states.keys.keys + 1)) (g.W.Watcher.seen c.args.watcher.now)
     (g.W.Watcher.seen c.loop-depth.watcher)
     (λ x y s.
     watched_full c.loop-depth.verdict c.or-2.result (c.args.limits.states + 2) (c.args.limits.states + 1) (length c.loop-depth.self.states.keys.keys + 1)
-    x y c.or-2.ensures s.0) c.loop-depth.invariant.watches
+    x y c.or-2.ensures (omega (arith, c.loop-depth.invariant.few)) s.0) c.loop-depth.invariant.watches
 
 pub returns-then-from-to-clause-within : goal.returns-then-from-to-clause-within
 returns-then-from-to-clause-within g c =

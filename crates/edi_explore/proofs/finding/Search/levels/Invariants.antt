@@ -21,5 +21,5 @@ invariant-loop-depth g l = record {
   deep : l.depth ≤ l.from;
   within : l.from ≤ length l.self.states.keys.keys;
   watches : WhereTold (g.W.Watcher.seen l.fn.watcher) (g.W.Watcher.seen l.watcher) (λ x y.
-      (s : Sees 0 (l.limits.states + 1) x y) × (length s.more ≡ l.from));
+      (s : Sees 0 0 (length l.self.states.keys.keys + 1) x y) × (length s.more ≡ l.from));
 }

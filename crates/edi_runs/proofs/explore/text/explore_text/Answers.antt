@@ -1,4 +1,4 @@
-use Rattle.std.proofs.Common.{suc, ◌+◌, ◌≤◌, subst, arith}
+use Rattle.std.proofs.Common.{suc, ◌≤◌, subst, arith}
 use Rattle.edi_target.specs.Check.{CodeParts}
 use Rattle.edi_explore.specs.Found.{AllTellWaits}
 use Rattle.edi_runs.proofs.explore.Explored.{exploration, unit_code}
@@ -21,6 +21,6 @@ returns g c = record {
         many = e.many;
         few = e.few_found;
       })
-      e.full few (e.cause unit front.can is);
+      (e.fewest unit front.can is) e.within e.full few (e.cause unit front.can is);
   watches = c.in_ok-report.ensures.watches;
 }
