@@ -1,10 +1,42 @@
--- The lines of the calls that lead to a frame, by the frame below it.
-use Rattle.std.proofs.Common.{◌≡◌, ℕ, suc, ◌+◌, Bool, true, false, if◌then◌else◌, List, [], ◌∷◌, Some, None, refl, ap}
+-- The frames of a process, and the lines of the calls that lead to one, by the frame below it.
+use Rattle.std.proofs.Common.{◌≡◌, ℕ, zero, suc, ◌+◌, Bool, true, false, if◌then◌else◌, List, [], ◌∷◌, Some, None, refl, ap}
 use Rattle.edi_target.specs.Op.{address_of_words}
 use Rattle.edi_target.specs.Memory.{word}
 use Rattle.edi_kernel.specs.declared.frames.Below.{Below}
 use Rattle.edi_kernel.specs.Kept.{below_of, leads_down}
+use Rattle.edi_waits.specs.Ends.{frames_of}
+use Rattle.edi_waits.specs.Left.{frames_after, frames_below}
 use Rattle.edi_waits.specs.Places.{call_lines, line_before}
+
+-- the newest frame, and those below it
+module _ (memory : List ℕ) (first : ℕ) where
+  abbrev to : ℕ → ℕ
+  to base = word memory (base + 1)
+
+  abbrev up_to : ℕ → ℕ
+  up_to base = word memory (base + 4)
+
+  abbrev from : ℕ → ℕ
+  from base = address_of_words (word memory (base + 2)) (word memory (base + 3))
+
+  abbrev frame : (base top back : ℕ) → Below
+  frame base top back = record { base = base; top = top; back = back }
+
+  pub frames_same : (n base top back : ℕ) → frames_of (suc n) memory first base top back ≡ frame base top back ∷ frames_below n memory first base
+  frames_same zero base top back = go (leads_down first base (to base) (up_to base))
+    where
+      go : (t : Bool) → frame base top back ∷ (if t then frames_of 0 memory first (to base) (up_to base) (from base) else []) ≡ frame base top back ∷ []
+      go true = refl
+      go false = refl
+  frames_same (suc n) base top back = go (leads_down first base (to base) (up_to base)) (frames_same n (to base) (up_to base) (from base))
+    where
+      go : (t : Bool) → frames_of (suc n) memory first (to base) (up_to base) (from base)
+          ≡ frame (to base) (up_to base) (from base) ∷ frames_below n memory first (to base) →
+          frame base top back ∷ (if t then frames_of (suc n) memory first (to base) (up_to base) (from base) else [])
+          ≡ frame base top back
+          ∷ frames_after (frames_below n memory first) (if t then Some (frame (to base) (up_to base) (from base)) else None)
+      go true e = ap (λ (xs : List Below). frame base top back ∷ xs) e
+      go false e = refl
 
 module _ (words memory : List ℕ) (first base : ℕ) where
   abbrev here : Below

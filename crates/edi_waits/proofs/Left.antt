@@ -1,5 +1,5 @@
 -- Those that are put in slot after slot are those of the machine.
-use Rattle.std.proofs.Common.{◌≡◌, ◌⊎◌, inl, inr, ℕ, zero, suc, ◌<◌, ◌≤◌, Bool, true, false, if◌then◌else◌, List, Contains, Option, Some, None}
+use Rattle.std.proofs.Common.{◌≡◌, ◌⊎◌, inl, inr, ℕ, zero, suc, ◌-◌, ◌<◌, ◌≤◌, Bool, true, false, if◌then◌else◌, List, Contains, Option, Some, None}
 use Rattle.std.proofs.Common.{refl, sym, ap, subst, ◌∙◌, arith, eq-eqb}
 use Rattle.std.proofs.lemmas.Bool.{cases_eq, cases_lt, ne_eqb}
 use Rattle.std.specs.Option.{option_map}
@@ -13,11 +13,13 @@ use Rattle.edi_kernel.specs.Named.{HoldsBy}
 use Rattle.edi_kernel.proofs.Again.{found_has}
 use Rattle.edi_kernel.proofs.Changes.{live_below, names_apart}
 use Rattle.edi_waits.specs.declared.births.Names.{Names}
-use Rattle.edi_waits.specs.Ends.{AreAtEnd, AtEnd, InOrder, IsAtEnd, has_broken, stands_by}
-use Rattle.edi_waits.specs.Left.{at_end_of, at_ends, frames_by, is_slot, put_in}
+use Rattle.edi_waits.specs.Ends.{AreAtEnd, AtEnd, end_of, frames_of, stands_by}
+use Rattle.edi_waits.specs.Left.{at_end_of, at_ends, frames_by, is_broken, is_slot, put_in}
 use Rattle.edi_waits.specs.Names.{AreNames, forks_at, name_at}
 use Rattle.edi_waits.proofs.Naming.{told_name}
-use Rattle.edi_waits.proofs.Ordered.{Apart, Free, IsIn, apart_put, contained_in, in_back, in_contained, in_more, in_put, once_apart, order_put}
+use Rattle.edi_waits.proofs.CallLines.{frames_same}
+use Rattle.edi_waits.proofs.Lists.{some_is}
+use Rattle.edi_waits.proofs.Ordered.{Free, InOrder, IsIn, contained_in, in_back, in_contained, in_more, in_put, order_put, ordered}
 
 -- ---- those of the slots
 
@@ -77,14 +79,6 @@ module _ (k : KernelState) (names : Names) where
         let here : o.slot ≡ n = apart o.slot n o.lives e (ap (λ (t : AtEnd). t.process) (sym o.is) ∙ same) in
         absurd (omega (arith, o.below, here))
 
-    pub apart_all : (n : ℕ) → Apart (at_ends k names n)
-    apart_all zero = tt
-    apart_all (suc n) = go (live n) refl (apart_all n)
-      where
-        go : (b : Bool) → live n ≡ b → Apart (at_ends k names n) → Apart (if b then put_in (item n) (at_ends k names n) else at_ends k names n)
-        go true e more = apart_put (item n) (at_ends k names n) (free n e) more
-        go false e more = more
-
     pub order_all : (n : ℕ) → InOrder (at_ends k names n)
     order_all zero = tt
     order_all (suc n) = go (live n) refl (order_all n)
@@ -109,11 +103,14 @@ module _ (k : KernelState) (names : Names) (n : Naming) (m : Machine) (broke : O
   abbrev entry : ℕ → Activity
   entry slot = entry_of (process_at k.table slot) (n.forks slot)
 
+  abbrev End : Name → Activity → AtEnd
+  End = end_of m (is_broken broke)
+
   -- the process that ended the run is the one that is taken
-  ended_by : (slot : ℕ) → is_live k.table slot ≡ true → has_broken broke (name_at names k.table slot) ≡ is_slot k.taken slot
-  ended_by slot l = ap (has_broken broke) (called slot l) ∙ ap (λ o. has_broken o (n.name slot)) broke_is ∙ by_taken k.taken refl
+  ended_by : (slot : ℕ) → is_live k.table slot ≡ true → is_broken broke (name_at names k.table slot) ≡ is_slot k.taken slot
+  ended_by slot l = ap (is_broken broke) (called slot l) ∙ ap (λ o. is_broken o (n.name slot)) broke_is ∙ by_taken k.taken refl
     where
-      by_taken : (o : Option ℕ) → k.taken ≡ o → has_broken (option_map n.name o) (n.name slot) ≡ is_slot o slot
+      by_taken : (o : Option ℕ) → k.taken ≡ o → is_broken (option_map n.name o) (n.name slot) ≡ is_slot o slot
       by_taken None e = refl
       by_taken (Some t) e = elim (cases_eq t slot) [
         | inl same_slot ↦
@@ -121,31 +118,42 @@ module _ (k : KernelState) (names : Names) (n : Naming) (m : Machine) (broke : O
         | inr other ↦ names_apart k.table n m stands t slot (lives t e) l other ∙ sym (ne_eqb t slot other)
       ]
 
-  is_at : (x : AtEnd) (slot : ℕ) → is_live k.table slot ≡ true → x ≡ at_end_of k names slot → IsAtEnd m broke x
-  is_at x slot l is = subst (IsAtEnd m broke) (sym is) (record {
-    activity = entry slot;
-    found = ap (find m.activities) (called slot l) ∙ stands.found slot l;
-    stands_so =
-        ap (λ b. stands_by b (standing_of (process_at k.table slot).standing) (forks_at names slot)) (sym (ended_by slot l))
-        ∙ ap (stands_by (has_broken broke (name_at names k.table slot)) (standing_of (process_at k.table slot).standing)) (are.forks slot l);
-    frames_are = ap (λ memory. frames_by memory (process_at k.table slot).activity) (sym h.holds.memory);
-  })
+  -- what is told of a slot is what the machine has of its process
+  is_end : (slot : ℕ) → is_live k.table slot ≡ true → at_end_of k names slot ≡ End (name_at names k.table slot) (entry slot)
+  is_end slot l =
+      let a = (process_at k.table slot).activity in
+      let how : stands_by (is_slot k.taken slot) (standing_of (process_at k.table slot).standing) (forks_at names slot)
+      ≡ stands_by (is_broken broke (name_at names k.table slot)) (entry slot).standing (entry slot).forks =
+      ap (λ b. stands_by b (standing_of (process_at k.table slot).standing) (forks_at names slot)) (sym (ended_by slot l))
+      ∙ ap (stands_by (is_broken broke (name_at names k.table slot)) (standing_of (process_at k.table slot).standing)) (are.forks slot l) in
+      let frames : frames_by k.store a ≡ frames_of (suc (a.base - a.segment.first)) m.memory a.segment.first a.base a.top a.pc =
+      ap (λ memory. frames_by memory a) (sym h.holds.memory)
+      ∙ sym (frames_same m.memory a.segment.first (a.base - a.segment.first) a.base a.top a.pc) in
+      (λ i. record { process = name_at names k.table slot; stands = how i; frames = frames i })
 
-  all : (p : Name) (a : Activity) → find m.activities p ≡ Some a → (x : AtEnd) × Contains (at_ends k names 32) x × (x.process ≡ p)
-  all p a found =
-      let s : (slot : ℕ) × (is_live k.table slot ≡ true) × (p ≡ n.name slot) = stands.all p (found_has m.activities p a found) in (
-        at_end_of k names s.0,
-        in_contained (at_ends k names 32) (at_end_of k names s.0) (has_slot k names 32 s.0 (live_below k.table s.0 s.1) s.1),
-        called s.0 s.1 ∙ sym s.2,
+  is_at : (x : AtEnd) (slot : ℕ) → is_live k.table slot ≡ true → x ≡ at_end_of k names slot →
+      (a : Activity) × (find m.activities x.process ≡ Some a) × (x ≡ End x.process a)
+  is_at x slot l is =
+      let named : x.process ≡ name_at names k.table slot = ap (λ (z : AtEnd). z.process) is in (
+        entry slot,
+        ap (find m.activities) (named ∙ called slot l) ∙ stands.found slot l,
+        is ∙ is_end slot l ∙ ap (λ p. End p (entry slot)) (sym named),
       )
+
+  all : (p : Name) (a : Activity) → find m.activities p ≡ Some a → Contains (at_ends k names 32) (End p a)
+  all p a found =
+      let s : (slot : ℕ) × (is_live k.table slot ≡ true) × (p ≡ n.name slot) = stands.all p (found_has m.activities p a found) in
+      let named : name_at names k.table s.0 ≡ p = called s.0 s.1 ∙ sym s.2 in
+      let same_entry : entry s.0 ≡ a = some_is (sym (stands.found s.0 s.1) ∙ ap (find m.activities) (sym s.2) ∙ found) in
+      subst (Contains (at_ends k names 32)) (is_end s.0 s.1 ∙ (λ i. End (named i) (same_entry i)))
+      (in_contained (at_ends k names 32) (at_end_of k names s.0) (has_slot k names 32 s.0 (live_below k.table s.0 s.1) s.1))
 
   same_slot : (i j : ℕ) → is_live k.table i ≡ true → is_live k.table j ≡ true → name_at names k.table i ≡ name_at names k.table j → i ≡ j
   same_slot i j a b e = stands.apart i j a b (sym (called i a) ∙ e ∙ called j b)
 
-  pub are_at_end : AreAtEnd m broke (at_ends k names 32)
+  pub are_at_end : AreAtEnd m (is_broken broke) (at_ends k names 32)
   are_at_end = record {
     each = λ x c. let o = of_slot k names 32 x (contained_in (at_ends k names 32) x c) in is_at x o.slot o.lives o.is;
     all = all;
-    once = λ i j v w p q e. once_apart (at_ends k names 32) (apart_all k names same_slot 32) i j v w p q e;
-    order = order_all k names same_slot 32;
+    order = ordered (at_ends k names 32) (order_all k names same_slot 32);
   }

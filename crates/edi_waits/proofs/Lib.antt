@@ -1,10 +1,11 @@
-mod Lists
+pub mod Lists
 mod CallLines
 mod Naming
 mod Listed
-mod Compared
-mod Ordered
+pub mod Compared
+pub mod Ordered
 mod Left
+mod Seen
 mod Rounds
 mod Asked
 mod Whole

@@ -1,10 +1,10 @@
--- Processes that are put in by their names: each stands there once, in order.
+-- Processes that are put in by their names, in order.
 use Rattle.std.proofs.Common.{◌≡◌, ◌⊎◌, inl, inr, ℕ, zero, suc, Bool, true, false, if◌then◌else◌, List, [], ◌∷◌, map, drop, Contains}
 use Rattle.std.proofs.Common.{Some, refl, sym, ap, ◌∙◌, arith, slice_get}
 use Rattle.std.specs.Prelude.{⊤, insert}
 use Rattle.edi_calls.specs.Names.{Name}
 use Rattle.edi_waits.specs.declared.ends.Process.{Process}
-use Rattle.edi_waits.specs.Ends.{AtEnd, InOrder, is_before}
+use Rattle.edi_waits.specs.Ends.{AtEnd, is_before}
 use Rattle.edi_waits.specs.Left.{comes_before, index_among, put_in, told_end}
 use Rattle.edi_waits.proofs.Compared.{before_other}
 use Rattle.edi_waits.proofs.Lists.{at_contained, contains_later, some_is}
@@ -61,40 +61,27 @@ in_back x z (y ∷ ys) h = go (is_before x.process y.process) h (in_back x z ys)
       | inr k ↦ inr (inr k)
     ]
 
--- ---- none stands there twice
-
 -- none of these has this name
 abbrev pub Free : Name → List AtEnd → Type 0
 Free p xs = (x : AtEnd) → IsIn x xs → x.process ≡ p → ⊥
 
-abbrev pub Apart : List AtEnd → Type 0
-Apart [] = ⊤
-Apart (x ∷ xs) = Free x.process xs × Apart xs
-
-pub apart_put : (x : AtEnd) (ys : List AtEnd) → Free x.process ys → Apart ys → Apart (put_in x ys)
-apart_put x [] f a = (λ z h e. h, tt)
-apart_put x (y ∷ ys) f a = go (is_before x.process y.process) (apart_put x ys (λ z h e. f z (inr h) e) a.1)
-  where
-    go : (b : Bool) → Apart (put_in x ys) → Apart (if b then x ∷ y ∷ ys else y ∷ put_in x ys)
-    go true h = (f, a)
-    go false h = (
-      λ z k e. elim (in_back x z ys k) [
-        | inl is ↦ f y (inl refl) (sym e ∙ ap (λ (t : AtEnd). t.process) is)
-        | inr there ↦ a.0 z there e
-      ],
-      h,
-    )
-
-pub once_apart : (xs : List AtEnd) → Apart xs → (i j : ℕ) (v w : AtEnd) → slice_get xs i ≡ Some v → slice_get xs j ≡ Some w → v.process ≡ w.process → i ≡ j
-once_apart [] a i j v w p q e = absurd (cc)
-once_apart (x ∷ xs) a zero zero v w p q e = refl
-once_apart (x ∷ xs) a zero (suc j) v w p q e =
-    absurd (a.0 w (at_in xs j w q) (sym e ∙ ap (λ (t : AtEnd). t.process) (sym (some_is p))))
-once_apart (x ∷ xs) a (suc i) zero v w p q e =
-    absurd (a.0 v (at_in xs i v p) (e ∙ ap (λ (t : AtEnd). t.process) (sym (some_is q))))
-once_apart (x ∷ xs) a (suc i) (suc j) v w p q e = ap suc (once_apart xs a.1 i j v w p q e)
-
 -- ---- they are in order
+
+-- each comes before the next one
+abbrev pub InOrder : List AtEnd → Type 0
+InOrder [] = ⊤
+InOrder (x ∷ []) = ⊤
+InOrder (x ∷ y ∷ xs) = (is_before x.process y.process ≡ true) × InOrder (y ∷ xs)
+
+pub ordered : (xs : List AtEnd) → InOrder xs → (i : ℕ) (x y : AtEnd) → slice_get xs i ≡ Some x → slice_get xs (suc i) ≡ Some y →
+    is_before x.process y.process ≡ true
+ordered [] o i x y p q = absurd (cc)
+ordered (z ∷ []) o i x y p q = absurd (cc)
+ordered (z ∷ w ∷ zs) o zero x y p q =
+    let a : z ≡ x = some_is p in
+    let b : w ≡ y = some_is q in
+    (λ i. is_before (sym a i).process (sym b i).process) ∙ o.0
+ordered (z ∷ w ∷ zs) o (suc i) x y p q = ordered (w ∷ zs) o.1 i x y p q
 
 after : (z x : AtEnd) (ys : List AtEnd) → is_before z.process x.process ≡ true → InOrder (z ∷ ys) → Free x.process ys → InOrder (z ∷ put_in x ys)
 after z x [] b o f = (b, tt)

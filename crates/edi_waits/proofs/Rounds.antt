@@ -26,6 +26,7 @@ use Rattle.edi_kernel.specs.Kernel.{BreaksOff, EndsAs, EndsRun, ForksInto, Holds
 use Rattle.edi_kernel.specs.Moments.{moment, moment_at, moment_of, moment_on}
 use Rattle.edi_kernel.specs.Named.{BreaksRun, BreaksRunBy, GoesBy, HoldsBy, NamesGrow}
 use Rattle.edi_kernel.specs.Runs.{FailsIn, IsAt, IsAtBy, RunsAs}
+use Rattle.edi_kernel.proofs.Enders.{EndsBy, ends_by}
 use Rattle.edi_kernel.proofs.Lists.{live_of_home}
 use Rattle.edi_kernel.proofs.Moments.{moment_followed, moment_switched}
 use Rattle.edi_kernel.proofs.Sharing.{none_twice}
@@ -89,14 +90,15 @@ module _ (code : CodeParts) (s : State) (bound : ℕ) (first : Drawn) where
         Broke code s bound first e k now names
     broke left e more same b =
         let h : EndsRun code.words left e k y w.machine w.name w.others = b.ends in
-        let j : (j : ℕ) × (run (fetch code.words) first.source j w.machine w.name w.others now.drawn ≡ finished h.end h.machine now.drawn) =
-        run_over (fetch code.words) first.source h.steps w.machine w.name w.others now.drawn h.end h.machine h.is in
+        let z : EndsBy code s bound first.source first.drawn h.end h.machine w.name now.drawn =
+        ends_by code s bound first.source first.drawn w.machine w.name w.others now.drawn w.passes h.steps h.end h.machine h.is in
         record {
           machine = h.machine;
           end = h.end;
           name = w.name;
           others = w.others;
-          ends = w.comes j.0 (finished h.end h.machine now.drawn) j.1;
+          ends = (z.steps, z.is);
+          ran = z.ran;
           same = h.same;
           broken = b.broken;
           kernel = kernel;

@@ -1,9 +1,10 @@
 -- A whole run whose processes are named: its start, and who stands where at its end.
 use Rattle.std.proofs.Common.{◌≡◌, ℕ, suc, ◌-◌, ◌<◌, List, [], length, Option, Some, None, refl, sym, ap, subst, ◌∙◌, arith}
-use Rattle.std.proofs.Common.{true, Result, Ok, Err, IfOk, IfSome}
+use Rattle.std.proofs.Common.{true, false, Result, Ok, Err, IfOk, IfSome}
 use Rattle.std.specs.Global.{Vec}
 use Rattle.edi_told.specs.Told.{WhereTold}
 use Rattle.edi_told.proofs.Told.{WhereTold-map, WhereTold-then}
+use Rattle.edi_calls.specs.Names.{Name, same}
 use Rattle.edi_calls.specs.Outcome as outcome
 use Rattle.edi_calls.specs.Ready.{stays}
 use Rattle.edi_calls.specs.State.{State}
@@ -16,16 +17,19 @@ use Rattle.edi_kernel.specs.declared.ends.Ending.TheVariants as ending
 use Rattle.edi_kernel.specs.declared.state.KernelState.{KernelState}
 use Rattle.edi_kernel.specs.Table.{is_free_home, is_live, process_at}
 use Rattle.edi_kernel.specs.TableIsMachine.{IsTaken, entry_of}
-use Rattle.edi_kernel.specs.Kernel.{IsKernel, IsTakenIn, going_on}
+use Rattle.edi_kernel.specs.Enders.{ender, ender_after, ender_from_start}
+use Rattle.edi_kernel.specs.Kernel.{HoldsBroken, IsKernel, IsTakenIn, going_on}
 use Rattle.edi_kernel.specs.Moments.{moment, moment_after}
 use Rattle.edi_kernel.specs.Runs.{IsAtBy, RunsTo, Started, StandsBroken, StandsIn}
+use Rattle.edi_kernel.proofs.Endings.{ends_as}
 use Rattle.edi_kernel.proofs.Lists.{live_of_home}
 use Rattle.edi_kernel.proofs.Starting.{Enters, NeverGoes, enters, never_goes}
 use Rattle.edi_waits.specs.declared.births.Names.{Names}
 use Rattle.edi_waits.specs.declared.waits.Wait.{Wait}
 use Rattle.edi_waits.specs.Told.{all_of}
 use Rattle.edi_waits.specs.Names.{birth_at, no_birth, waiting_below}
-use Rattle.edi_waits.specs.Ends.{AreAtEnd, AtEnd, EndsOr, EndsSo, Tells, TellsBroken}
+use Rattle.edi_waits.specs.Ended.{EndsOr, EndsSo, RanLast}
+use Rattle.edi_waits.specs.Ends.{AreAtEnd, AtEnd}
 use Rattle.edi_waits.specs.Left.{at_ends}
 use Rattle.edi_waits.specs.Runs.{Broke, Comes, EndsNamed, Going, Stands}
 use Rattle.edi_waits.specs.Waits.{AreWaiting, EndsOtherwise, StandsSo, Waiting}
@@ -33,6 +37,7 @@ use Rattle.edi_waits.proofs.Naming.{first_alone, names_begin}
 use Rattle.edi_waits.proofs.Left.{are_at_end}
 use Rattle.edi_waits.proofs.Listed.{are_waiting}
 use Rattle.edi_waits.proofs.Rounds.{AnyRound}
+use Rattle.edi_waits.proofs.Seen.{Sees, sees}
 
 module _ (code : CodeParts) (s : State) (bound : ℕ) (first : Drawn) where
   -- a run that stands still, where these are told
@@ -87,6 +92,8 @@ module _ (code : CodeParts) (s : State) (bound : ℕ) (first : Drawn) where
           ap (after_step first.source (run (fetch code.words) first.source 0) [] [] first.drawn)
               (ap (λ i. entered (fetch code.words code.entry) code.entry code.calls i s) left ∙ x.enters.is),
         );
+        ran = ap (ender_after first.source (ender (fetch code.words) first.source 0) [] [] first.drawn)
+            (ap (λ i. entered (fetch code.words code.entry) code.entry code.calls i s) left ∙ x.enters.is);
         same = tt;
         kernel = st.kernel;
         broken = x.broken;
@@ -101,57 +108,60 @@ module _ (code : CodeParts) (s : State) (bound : ℕ) (first : Drawn) where
       let t : IsTaken k.table slot = subst (IsTakenIn k.table) e kernel.taken in
       live_of_home k.table slot t.inside (ap is_free_home t.homeless)
 
-  broke_so : (e : Ending) (k : KernelState) (now : Drawn) (names : Names) (xs : List AtEnd) → (h : Broke code s bound first e k now names) →
-      xs ≡ at_ends k names 32 →
-      Tells code.words e h.machine (going_on h.machine h.name h.broken.local h.broken.activity.forks) (Some h.name) → EndsSo code s bound first e xs
-  broke_so e k now names xs h is tells =
-      let told : Machine = going_on h.machine h.name h.broken.local h.broken.activity.forks in
+  ran_last : (end : outcome.Ending) (steps : ℕ) (p : Name) → ender_from_start (fetch code.words) code.entry code.calls s bound first.source first.drawn steps ≡ Some p
+      → RanLast code s bound first.source first.drawn steps end p
+  ran_last outcome.done steps p e = e
+  ran_last (outcome.halted line) steps p e = e
+  ran_last (outcome.failed cause line) steps p e = e
+  ran_last outcome.turns steps p e = e
+  ran_last outcome.standstill steps p e = tt
+  ran_last (outcome.bad at) steps p e = e
+
+  broke_so : (e : Ending) (k : KernelState) (now : Drawn) (names : Names) (xs : List AtEnd) → Broke code s bound first e k now names → xs ≡ at_ends k names 32
+      → (e ≡ ending.Standstill → ⊥) → EndsSo code s bound first e k.store xs
+  broke_so e k now names xs h is not_still =
+      let b : HoldsBroken code.words e k h.machine h.name h.others = h.broken in
+      let told : Machine = going_on h.machine h.name b.local b.activity.forks in
+      let t : Sees code.words h.end h.machine h.name k.store xs = sees code.words h.machine h.name b.activity b.found b.local k.store b.holds.memory xs
+      (subst (AreAtEnd told (same h.name)) (sym is)
+      (are_at_end k names b.holds.naming told (Some h.name) h.others k.used (record { holds = b.holds; by = refl }) h.named (taken_lives k h.kernel)))
+      e h.end not_still (ends_as h.end e h.same) b.goes_on in
       record {
         machine = h.machine;
         drawn = now.drawn;
         end = h.end;
         same = h.same;
         ends = h.ends;
-        told = told;
-        broke = Some h.name;
-        tells = tells;
-        are = subst (AreAtEnd told (Some h.name)) (sym is)
-            (are_at_end k names h.broken.holds.naming told (Some h.name) h.others k.used (record { holds = h.broken.holds; by = refl }) h.named
-            (taken_lives k h.kernel));
+        last = h.name;
+        ran_last = ran_last h.end h.ends.0 h.name h.ran;
+        seen = t.seen;
+        is_seen = t.is_seen;
+        memory_is = t.memory_is;
+        are = t.are;
       }
-
-  tells_so : (e : Ending) (k : KernelState) (now : Drawn) (names : Names) (h : Broke code s bound first e k now names) →
-      TellsBroken code.words e h.machine (going_on h.machine h.name h.broken.local h.broken.activity.forks) h.name
-  tells_so e k now names h = record {
-    activity = h.broken.activity;
-    found = h.broken.found;
-    local = h.broken.local;
-    goes_on = h.broken.goes_on;
-    is = refl;
-  }
 
   -- a run that has ended, where these are told
   pub ends_so : (e : Ending) (k : KernelState) (now : Drawn) (names : Names) (xs : List AtEnd) → EndsNamed code s bound first e k now names →
-      xs ≡ at_ends k names 32 → EndsOr code s bound first e xs
+      xs ≡ at_ends k names 32 → EndsOr code s bound first e k.store xs
   ends_so ending.Standstill k now names xs h is = record {
     machine = h.machine;
     drawn = now.drawn;
     end = outcome.standstill;
     same = tt;
     ends = h.ends;
-    told = h.machine;
-    broke = None;
-    tells = (refl, refl);
-    are = subst (AreAtEnd h.machine None) (sym is)
+    last = [];
+    ran_last = tt;
+    seen = h.machine;
+    is_seen = refl;
+    memory_is = h.holds.holds.memory;
+    are = subst (AreAtEnd h.machine (λ p. false)) (sym is)
         (are_at_end k names h.naming h.machine None h.ready k.used h.holds h.named (taken_lives k h.kernel));
   }
-  ends_so ending.Done k now names xs h is = broke_so ending.Done k now names xs h is (tells_so ending.Done k now names h)
-  ends_so (ending.Halted line) k now names xs h is =
-      broke_so (ending.Halted line) k now names xs h is (tells_so (ending.Halted line) k now names h)
-  ends_so (ending.Failed cause line) k now names xs h is =
-      broke_so (ending.Failed cause line) k now names xs h is (tells_so (ending.Failed cause line) k now names h)
-  ends_so ending.Turns k now names xs h is = broke_so ending.Turns k now names xs h is (tells_so ending.Turns k now names h)
-  ends_so (ending.Bad at) k now names xs h is = broke_so (ending.Bad at) k now names xs h is (tells_so (ending.Bad at) k now names h)
+  ends_so ending.Done k now names xs h is = broke_so ending.Done k now names xs h is (λ e. absurd (cc))
+  ends_so (ending.Halted line) k now names xs h is = broke_so (ending.Halted line) k now names xs h is (λ e. absurd (cc))
+  ends_so (ending.Failed cause line) k now names xs h is = broke_so (ending.Failed cause line) k now names xs h is (λ e. absurd (cc))
+  ends_so ending.Turns k now names xs h is = broke_so ending.Turns k now names xs h is (λ e. absurd (cc))
+  ends_so (ending.Bad at) k now names xs h is = broke_so (ending.Bad at) k now names xs h is (λ e. absurd (cc))
   ends_so ending.Fault k now names xs h is = tt
 
   broken_in : (e : Ending) (k : KernelState) (now : Drawn) (names : Names) → Broke code s bound first e k now names → StandsBroken code s bound first e k now
@@ -161,6 +171,7 @@ module _ (code : CodeParts) (s : State) (bound : ℕ) (first : Drawn) where
     is = h.ends;
     same = h.same;
     name = h.name;
+    ran = h.ran;
     others = h.others;
     broken = h.broken;
   }

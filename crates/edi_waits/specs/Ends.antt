@@ -1,19 +1,15 @@
--- Definition. WHO STANDS WHERE at the end of a run: each process that lives, how it stands, and its frames; and the end of a run of a code.
-use Rattle.std.specs.Prelude.{◌≡◌, ℕ, zero, suc, ◌-◌, Bool, true, false, ◌&&◌, ◌||◌, nat_eq, nat_lt, if◌then◌else◌, List, [], ◌∷◌, Contains, slice_get}
-use Rattle.std.specs.Prelude.{Option, Some, None, ⊤}
+-- Definition. WHO STANDS WHERE at the end of a run: each process that lives, how it stands, and its frames; and which machine is told.
+use Rattle.std.specs.Prelude.{◌≡◌, ◌⊎◌, ℕ, zero, suc, ◌+◌, ◌-◌, Bool, true, false, ◌&&◌, ◌||◌, nat_eq, nat_lt, if◌then◌else◌, List, [], ◌∷◌, length, Contains}
+use Rattle.std.specs.Prelude.{slice_get, Option, Some, None}
 use Rattle.edi_calls.specs.Names.{Name, find, same}
 use Rattle.edi_calls.specs.Outcome as outcome
-use Rattle.edi_calls.specs.State.{State}
-use Rattle.edi_target.specs.Check.{CodeParts}
-use Rattle.edi_target.specs.Effect.{Local}
-use Rattle.edi_target.specs.Mach.{Activity, Machine, Standing, ready, at_when, waiting, running_of}
-use Rattle.edi_trace.specs.Drawn.{Drawn}
-use Rattle.edi_kernel.specs.declared.ends.Ending.{Ending}
-use Rattle.edi_kernel.specs.declared.ends.Ending.TheVariants as ending
+use Rattle.edi_target.specs.Effect.{Effect, due}
+use Rattle.edi_target.specs.Fetch.{fetch}
+use Rattle.edi_target.specs.Mach.{Activity, Machine, Standing, ready, at_when, waiting, activity_of, back, effect_at, is_first, running_of}
+use Rattle.edi_target.specs.Memory.{word}
+use Rattle.edi_target.specs.Op.{address_of_words}
 use Rattle.edi_kernel.specs.declared.frames.Below.{Below}
-use Rattle.edi_kernel.specs.Kept.{below_of}
-use Rattle.edi_kernel.specs.Kernel.{EndsAs, GoesOnAs, going_on}
-use Rattle.edi_kernel.specs.Runs.{EndsAfter}
+use Rattle.edi_kernel.specs.Kept.{leads_down}
 use Rattle.edi_waits.specs.declared.ends.Stands.{Stands}
 use Rattle.edi_waits.specs.declared.ends.Stands.TheVariants as stands
 
@@ -26,26 +22,19 @@ stands_by false ready forks = if nat_eq forks 0 then stands.Fresh else stands.Jo
 stands_by false at_when forks = stands.AtWhen
 stands_by false (waiting n) forks = stands.Awaits n
 
--- whether this process ended the run
-abbrev pub has_broken : Option Name → Name → Bool
-has_broken None p = false
-has_broken (Some q) p = same q p
+-- whether this process ended the run, whose last instruction was one of `last`: at a standstill nobody has
+abbrev pub has_broken : outcome.Ending → (last : Name) → Name → Bool
+has_broken outcome.standstill last = λ p. false
+has_broken end last = same last
 
 -- ---- its frames
 
-abbrev pub frames_after : (ℕ → List Below) → Option Below → List Below
-frames_after more None = []
-frames_after more (Some frame) = frame ∷ more frame.base
-
--- those below the one at this base, at most so many, the newest first
-abbrev pub frames_below : ℕ → List ℕ → (first base : ℕ) → List Below
-frames_below zero memory first base = []
-frames_below (suc n) memory first base = frames_after (frames_below n memory first) (below_of memory first base)
-
--- The frames of a process, the newest first: where each begins, up to where it is in use, and where the code goes on in it. Each begins below
--- the one before, so they are fewer than the words.
-abbrev pub frames_of : List ℕ → (first base top pc : ℕ) → List Below
-frames_of memory first base top pc = record { base = base; top = top; back = pc } ∷ frames_below (base - first) memory first base
+-- The frames of a process, the newest first, at most so many: where each begins, up to where it is in use, and where the code goes on in it.
+abbrev pub frames_of : ℕ → List ℕ → (first base top back : ℕ) → List Below
+frames_of zero memory first base top back = []
+frames_of (suc n) memory first base top back =
+    record { base = base; top = top; back = back } ∷ (if leads_down first base (word memory (base + 1)) (word memory (base + 4)) then frames_of n memory first
+    (word memory (base + 1)) (word memory (base + 4)) (address_of_words (word memory (base + 2)) (word memory (base + 3))) else [])
 
 -- ---- all processes
 
@@ -62,56 +51,30 @@ is_before [] (y ∷ q) = true
 is_before (x ∷ p) [] = false
 is_before (x ∷ p) (y ∷ q) = nat_lt x y || (nat_eq x y && is_before p q)
 
--- each comes before the next one
-abbrev pub InOrder : List AtEnd → Type 0
-InOrder [] = ⊤
-InOrder (x ∷ []) = ⊤
-InOrder (x ∷ y ∷ xs) = (is_before x.process y.process ≡ true) × InOrder (y ∷ xs)
+-- of this machine, where such a process ended the run
+module _ (m : Machine) (ran : Name → Bool) where
+  -- Each frame begins below the one before, so they are no more than the words from the segment's first to the newest frame's base.
+  abbrev pub end_of : Name → Activity → AtEnd
+  end_of p a = record { process = p; stands = stands_by (ran p) a.standing a.forks; frames = frames_of (suc (a.base - a.first)) m.memory a.first a.base a.top a.pc }
 
--- of this machine, where this process ended the run, if one did
-module _ (m : Machine) (broke : Option Name) where
-  pub record IsAtEnd (x : AtEnd) : Type 0 where
-    pub activity : Activity
-    pub found : find m.activities x.process ≡ Some activity
-    pub stands_so : x.stands ≡ stands_by (has_broken broke x.process) activity.standing activity.forks
-    pub frames_are : x.frames ≡ frames_of m.memory activity.first activity.base activity.top activity.pc
-
-  -- THESE ARE THERE: each stands so, each process of the machine is one of them, and none stands there twice; by their names
+  -- THESE ARE THERE: each stands so, and each process of the machine is one of them; each comes before the next one, and so none stands there twice
   pub record AreAtEnd (xs : List AtEnd) : Type 0 where
-    pub each : (x : AtEnd) → Contains xs x → IsAtEnd x
-    pub all : (p : Name) (a : Activity) → find m.activities p ≡ Some a → (x : AtEnd) × Contains xs x × (x.process ≡ p)
-    pub once : (i j : ℕ) (v w : AtEnd) → slice_get xs i ≡ Some v → slice_get xs j ≡ Some w → v.process ≡ w.process → i ≡ j
-    pub order : InOrder xs
+    pub each : (x : AtEnd) → Contains xs x → (a : Activity) × (find m.activities x.process ≡ Some a) × (x ≡ end_of x.process a)
+    pub all : (p : Name) (a : Activity) → find m.activities p ≡ Some a → Contains xs (end_of p a)
+    pub order : (i : ℕ) (x y : AtEnd) → slice_get xs i ≡ Some x → slice_get xs (suc i) ≡ Some y → is_before x.process y.process ≡ true
 
--- ---- the end of a run
+-- ---- the machine of an end
 
--- the machine, but that nobody is marked, and that the process p goes on whose instruction ended the run
-pub record TellsBroken (words : List ℕ) (e : Ending) (machine told : Machine) (p : Name) : Type 0 where
-  pub activity : Activity
-  pub found : find machine.activities p ≡ Some activity
-  pub local : Local
-  pub goes_on : GoesOnAs words e machine p (running_of machine activity).local local
-  pub is : told ≡ going_on machine p local activity.forks
+-- an instruction of p of which a turn is due has been executed
+abbrev pub executed : Effect → Machine → Name → Activity → Machine
+executed (due kind l) m p a = back m p (activity_of l a.forks ready) [] (record (running_of m a) { local = l })
+executed effect m p a = m
 
--- how the machine of an end is told, and who ended the run: a standstill nobody
-abbrev pub Tells : List ℕ → Ending → (machine told : Machine) → Option Name → Type 0
-Tells words ending.Standstill machine told broke = (told ≡ machine) × (broke ≡ None)
-Tells words e machine told None = ⊥
-Tells words e machine told (Some p) = TellsBroken words e machine told p
+abbrev pub executed_by : List ℕ → Machine → Name → Option Activity → Machine
+executed_by words m p None = m
+executed_by words m p (Some a) = executed (effect_at (fetch words) (fetch words a.pc) (length m.activities) (is_first p) (running_of m a).local) m p a
 
--- THE END of a run of this code, where so many choices had been drawn before it: the run ends so, in a machine in which these stand.
-pub record EndsSo (code : CodeParts) (system : State) (bound : ℕ) (old : Drawn) (e : Ending) (xs : List AtEnd) : Type 0 where
-  pub machine : Machine
-  pub drawn : ℕ
-  pub end : outcome.Ending
-  pub same : EndsAs end e
-  pub ends : EndsAfter code system bound old.source old.drawn end machine drawn
-  pub told : Machine
-  pub broke : Option Name
-  pub tells : Tells code.words e machine told broke
-  pub are : AreAtEnd told broke xs
-
--- where an object outside failed nothing is told
-abbrev pub EndsOr : CodeParts → State → (bound : ℕ) → (old : Drawn) → Ending → List AtEnd → Type 0
-EndsOr code system bound old ending.Fault xs = ⊤
-EndsOr code system bound old e xs = EndsSo code system bound old e xs
+-- The machine that is told is that of the end. Where no turn was left for the last instruction, of p, this may have been executed all the same.
+abbrev pub IsSeen : List ℕ → outcome.Ending → (m seen : Machine) → Name → Type 0
+IsSeen words outcome.turns m seen p = (seen ≡ m) ⊎ (seen ≡ executed_by words m p (find m.activities p))
+IsSeen words end m seen p = seen ≡ m

@@ -1,16 +1,17 @@
 -- Words of contracts. The processes that a kernel has left, by their names.
-use Rattle.std.specs.Prelude.{ℕ, zero, suc, ◌==◌, ◌&&◌, ◌||◌, nat_lt, nat_eq, Bool, true, false, if◌then◌else◌, List, [], ◌∷◌, map, Option, Some, None}
+use Rattle.std.specs.Prelude.{ℕ, zero, suc, ◌-◌, ◌==◌, ◌&&◌, ◌||◌, nat_lt, nat_eq, Bool, true, false, if◌then◌else◌, List, [], ◌∷◌, map, Option, Some, None}
 use Rattle.std.specs.Global.{Vec}
-use Rattle.edi_calls.specs.Names.{Name}
+use Rattle.edi_calls.specs.Names.{Name, same}
 use Rattle.edi_machine.specs.declared.activity.Activity.{Activity}
 use Rattle.edi_kernel.specs.declared.frames.Below.{Below}
 use Rattle.edi_kernel.specs.declared.state.KernelState.{KernelState}
+use Rattle.edi_kernel.specs.Kept.{below_of}
 use Rattle.edi_kernel.specs.Table.{is_live, process_at}
 use Rattle.edi_kernel.specs.TableIsMachine.{standing_of}
 use Rattle.edi_waits.specs.declared.births.Branch.{Branch}
 use Rattle.edi_waits.specs.declared.births.Names.{Names}
 use Rattle.edi_waits.specs.declared.ends.Process.{Process}
-use Rattle.edi_waits.specs.Ends.{AtEnd, frames_of, is_before, stands_by}
+use Rattle.edi_waits.specs.Ends.{AtEnd, is_before, stands_by}
 use Rattle.edi_waits.specs.Names.{forks_at, name_at}
 use Rattle.edi_waits.specs.Told.{name_of}
 
@@ -19,8 +20,22 @@ abbrev pub is_slot : Option ℕ → ℕ → Bool
 is_slot None slot = false
 is_slot (Some at) slot = at == slot
 
+-- whether a process is the one that ended the run, if one did
+abbrev pub is_broken : Option Name → Name → Bool
+is_broken None = λ p. false
+is_broken (Some q) = same q
+
+abbrev pub frames_after : (ℕ → List Below) → Option Below → List Below
+frames_after more None = []
+frames_after more (Some frame) = frame ∷ more frame.base
+
+-- the frames below the one at this base, at most so many, the newest first
+abbrev pub frames_below : ℕ → List ℕ → (first base : ℕ) → List Below
+frames_below zero memory first base = []
+frames_below (suc n) memory first base = frames_after (frames_below n memory first) (below_of memory first base)
+
 abbrev pub frames_by : List ℕ → Activity → List Below
-frames_by memory a = frames_of memory a.segment.first a.base a.top a.pc
+frames_by memory a = record { base = a.base; top = a.top; back = a.pc } ∷ frames_below (a.base - a.segment.first) memory a.segment.first a.base
 
 -- what is told of the process at a slot
 abbrev pub at_end_of : KernelState → Names → ℕ → AtEnd

@@ -4,4 +4,5 @@ pub mod Told
 pub mod Names
 pub mod Runs
 pub mod Ends
+pub mod Ended
 pub mod Left

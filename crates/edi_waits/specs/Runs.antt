@@ -12,6 +12,7 @@ use Rattle.edi_kernel.specs.declared.ends.Ending.{Ending}
 use Rattle.edi_kernel.specs.declared.ends.Ending.TheVariants as ending
 use Rattle.edi_kernel.specs.declared.state.KernelState.{KernelState}
 use Rattle.edi_kernel.specs.TableIsMachine.{Naming}
+use Rattle.edi_kernel.specs.Enders.{ender_from_start}
 use Rattle.edi_kernel.specs.Kernel.{EndsAs, HoldsBroken, IsKernel}
 use Rattle.edi_kernel.specs.Moments.{Moment, moment, moment_of}
 use Rattle.edi_kernel.specs.Named.{ChoosesBy, HoldsBy}
@@ -54,13 +55,14 @@ module _ (code : CodeParts) (s : State) (bound : ℕ) (first : Drawn) where
     pub holds : HoldsBy naming k machine None ready
     pub named : AreNames names naming k.table k.used
 
-  -- it has ended by an instruction of a process
+  -- it has ended by an instruction of this process
   pub record Broke (e : Ending) (k : KernelState) (now : Drawn) (names : Names) : Type 0 where
     pub machine : Machine
     pub end : outcome.Ending
     pub name : Name
     pub others : List Name
     pub ends : EndsAfter code s bound first.source first.drawn end machine now.drawn
+    pub ran : ender_from_start (fetch code.words) code.entry code.calls s bound first.source first.drawn ends.0 ≡ Some name
     pub same : EndsAs end e
     pub kernel : IsKernel k
     pub broken : HoldsBroken code.words e k machine name others

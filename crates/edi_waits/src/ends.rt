@@ -7,8 +7,9 @@ ghost use Rattle.edi_trace.specs.Drawn.{Drawn};
 ghost use Rattle.edi_kernel.specs.declared.ends.Ending.{Ending};
 ghost use Rattle.edi_kernel.specs.TableIsMachine.{standing_of};
 ghost use Rattle.edi_machine.specs.Activities.{IsOrdered};
-ghost use Rattle.edi_waits.specs.Ends.{EndsOr, frames_below, is_before, stands_by};
-ghost use Rattle.edi_waits.specs.Left.{at_end_of, at_ends, comes_before, decided, frames_by, index_among, is_slot, put_in, told_end, told_ends};
+ghost use Rattle.edi_waits.specs.Ended.{EndsOr};
+ghost use Rattle.edi_waits.specs.Ends.{is_before, stands_by};
+ghost use Rattle.edi_waits.specs.Left.{at_end_of, at_ends, comes_before, decided, frames_below, frames_by, index_among, is_slot, put_in, told_end, told_ends};
 ghost use Rattle.edi_waits.specs.Runs.{EndsNamed};
 ghost use Rattle.edi_waits.specs.Told.{name_of};
 
@@ -221,7 +222,7 @@ pub fn processes_at(
     names: &Names,
 ) -> Result<Vec<Process>, AllocError>
     ensures exact { IfOk result (λ processes. (code : CodeParts) (s : State) (bound : ℕ) (old new : Drawn) (e : Ending) →
-        EndsNamed code s bound old e kernel.now new names.now → EndsOr code s bound old e (told_ends processes)) }
+        EndsNamed code s bound old e kernel.now new names.now → EndsOr code s bound old e kernel.now.store (told_ends processes)) }
 {
     let processes = processes_in(alloc, kernel, names)?;
     Ok(processes)

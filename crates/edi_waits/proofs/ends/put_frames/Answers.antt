@@ -2,7 +2,7 @@
 use Rattle.std.proofs.Common.{◌≡◌, suc, ◌+◌, ◌-◌, List, [], ◌∷◌, ◌++◌, None, Some, sym, ap, ◌∙◌, arith, append-nil, append_assoc}
 use Rattle.edi_kernel.specs.declared.frames.Below.{Below}
 use Rattle.edi_kernel.specs.Kept.{below_of}
-use Rattle.edi_waits.specs.Ends.{frames_after, frames_below}
+use Rattle.edi_waits.specs.Left.{frames_after, frames_below}
 use Rattle.edi_waits.proofs.ends.put_frames.Goals as goal
 
 pub returns-in_default : goal.returns-in_default

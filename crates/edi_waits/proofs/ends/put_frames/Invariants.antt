@@ -1,5 +1,5 @@
 use Rattle.std.proofs.Common.{◌≡◌, ◌+◌, ◌-◌, ◌≤◌, ◌^◌, ◌++◌}
-use Rattle.edi_waits.specs.Ends.{frames_below}
+use Rattle.edi_waits.specs.Left.{frames_below}
 use Rattle.edi_waits.proofs.ends.put_frames.Given as goal
 
 -- the frames so far, and those below the one here, are all

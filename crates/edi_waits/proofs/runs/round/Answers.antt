@@ -1,5 +1,5 @@
 -- The stint ends the run, or the next process is taken.
-use Rattle.std.proofs.Common.{◌≡◌, ℕ, ◌-◌, Option, Some, None, sym, ap, subst, ◌∙◌, arith}
+use Rattle.std.proofs.Common.{◌≡◌, ℕ, ◌-◌, Option, Some, None, refl, sym, ap, subst, ◌∙◌, arith}
 use Rattle.edi_kernel.specs.declared.ends.Ending.TheVariants as ending
 use Rattle.edi_kernel.specs.Kernel.{fault_of}
 use Rattle.edi_kernel.proofs.Placing.{stands_at_end, stands_unready}
@@ -48,8 +48,8 @@ returns-in-Some-clause-standing g c =
 
 pub returns-clause-standing : goal.returns-clause-standing
 returns-clause-standing g c =
-    stands_unready c.stint-end.result _ _ c.proceed.result c.stint-end.new.self c.proceed.new.kernel
-    (sym c.ended_by.ensures.exact ∙ c.in_default.is) c.proceed.ensures.nobody c.stint-end.ensures.standing
+    stands_unready c.stint-end.result _ _ c.proceed.result c.stint-end.new.self c.stint-end.new.self c.proceed.new.kernel
+    (sym c.ended_by.ensures.exact ∙ c.in_default.is) c.proceed.ensures.nobody refl (λ not. refl) c.stint-end.ensures.standing
 
 pub returns-in-Some-clause-asked : goal.returns-in-Some-clause-asked
 returns-in-Some-clause-asked g c =
