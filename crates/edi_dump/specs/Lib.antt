@@ -1,2 +1,7 @@
+pub mod Frames
+pub mod Laws
+pub mod Rows
 pub mod Text
 pub mod Told
+pub mod Views
+pub mod values

@@ -1,0 +1,12 @@
+//! The text of a value.
+
+mod brackets;
+mod elementary;
+mod parts;
+mod sets;
+mod texts;
+
+pub(crate) use brackets::{MOST_SHOWN, first, shown};
+pub(crate) use parts::size_of;
+pub(crate) use sets::word_at;
+pub(crate) use texts::{behind, value_text};

@@ -1,5 +1,0 @@
-use Rattle.edi_frames.proofs.valued.Told.{texts_are_of_values}
-use Rattle.edi_frames.proofs.laws.texts_are_of_values.Goals as goal
-
-pub returns : goal.returns
-returns c = record { law = texts_are_of_values }
