@@ -1,0 +1,4 @@
+pub mod Own
+pub mod Plain
+pub mod Turns
+pub mod First
