@@ -164,6 +164,12 @@ CASES = [
     About("no_disk", "run hello", (b"a",), files={"hello": HELLO}),
     # main, its arrival, its attempt: then nothing can happen.
     About("standstill", "run waits --record r", (b"w", Kept("r", b""), b"\nstandstill\n"), 17, files={"waits": WAITS}),
+    # The same with its dump, for which the text is read once more after the run.
+    About(
+        "dump", "run waits --record r --dump d",
+        (b"w", Kept("r", b""), Kept("d", b"standstill\nmain is at the when of line 1 in main\n  main\n    display = proc\n"), b"\nstandstill\n"), 17,
+        files={"waits": WAITS},
+    ),
     About("replay", "replay race c", (b"ba",), files={"race": RACE, "c": b"1\n"}),
     # The choice 1 lets branch 2 arrive first; then 0 and 0 take branch 1 to its `when`, and branch 2 to its end.
     About(

@@ -17,10 +17,10 @@ pub mod Past
 pub mod PointsRead
 pub mod Shown
 pub mod Stopping
-pub mod TimedDemo
-pub mod TimedEnds
-pub mod TimeMeans
-pub mod TimedKept
+pub mod AccountDemo
+pub mod AccountEnds
+pub mod AccountMeans
+pub mod AccountKept
 pub mod Told
 pub mod WalkEnds
 pub mod WalkExits

@@ -5,7 +5,7 @@ pub mod Demonstrated
 pub mod FileSteps
 pub mod OnKept
 pub mod OnMounted
-pub mod OnTimed
+pub mod OnAccounts
 pub mod OnWalked
 pub mod OnWatched
 pub mod RunMeans

@@ -4,11 +4,12 @@ use Rattle.edi_told.specs.Faults.{CountRose}
 use Rattle.edi_host.specs.Contents.{Contents}
 use Rattle.std.specs.Borrow.{Bor}
 use Rattle.edi_words.specs.Words.{Command, Text}
+use Rattle.edi_words.specs.declared.commands.Account.{Account}
 use Rattle.edi_words.specs.declared.commands.Command as commands
 use Rattle.edi_words.specs.declared.commands.Command.TheVariants as command
 use Rattle.edi_words.specs.declared.commands.Options.{Options}
 use Rattle.edi_words.specs.Words as words
-use Rattle.edi_words.specs.View.{options_of, view}
+use Rattle.edi_words.specs.View.{account_of, options_of, view}
 use Rattle.edi_statuses.specs.declared.status.Status.{Status}
 use Rattle.edi_statuses.specs.declared.status.Status.TheVariants as status
 use Rattle.edi_statuses.specs.Counts.{Counts, HasCause, IsBlamed, NoneFalls, OutputRose}
@@ -46,12 +47,12 @@ obeyed_demo c n m o s due before after kernel is same came =
     obeyed_so c (command.Demo n o) s due before after kernel is
     (subst (λ k. Came s due (Some (words.demo k (options_of o))) before after kernel) same came)
 
-pub obeyed_timed_demo : (c : commands.Command) (n m : ℕ) (out : Bor Text) (o : Options) (s : Status) (due : Bool) (before after : Outside) (kernel : Lent)
-    → c ≡ command.TimeDemo n out o → m ≡ n → Came s due (Some (words.time_demo m out.now (options_of o))) before after kernel
+pub obeyed_demo_with : (c : commands.Command) (n m : ℕ) (account : Account) (o : Options) (s : Status) (due : Bool) (before after : Outside) (kernel : Lent)
+    → c ≡ command.DemoWith n account o → m ≡ n → Came s due (Some (words.demo_with m (account_of account) (options_of o))) before after kernel
     → Came s due (Some (view c)) before after kernel
-obeyed_timed_demo c n m out o s due before after kernel is same came =
-    obeyed_so c (command.TimeDemo n out o) s due before after kernel is
-    (subst (λ k. Came s due (Some (words.time_demo k out.now (options_of o))) before after kernel) same came)
+obeyed_demo_with c n m account o s due before after kernel is same came =
+    obeyed_so c (command.DemoWith n account o) s due before after kernel is
+    (subst (λ k. Came s due (Some (words.demo_with k (account_of account) (options_of o))) before after kernel) same came)
 
 -- so of a replay, which is a run
 pub obeyed_replay : (c : commands.Command) (file choices : Bor Text) (turns : ℕ) (o : Options) (s : Status) (due : Bool) (before after : Outside)

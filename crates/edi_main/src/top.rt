@@ -19,7 +19,7 @@ use edi_commands::boot::boot;
 use edi_commands::code::list;
 use edi_commands::disk::{get, new_disk, new_disk_from, put};
 use edi_commands::run::Form::{Code, Text};
-use edi_commands::run::{demonstrate, run_file, time_file, walk_file, watch_file};
+use edi_commands::run::{demonstrate, run_file, run_file_with, walk_file, watch_file};
 use edi_commands::text::{check, compile_file, explain_file, explore_file};
 use edi_explore::Watcher;
 use edi_host::{Drive, Files, Sink, Source};
@@ -164,16 +164,28 @@ fn perform<F: Files, D: Drive, S: Source, T: Sink, P: Sink, W: Watcher>(
                 alloc, file, options, files, input, terminal, kernel, watcher,
             )
         }
-        Command::Time { file, out, options } => time_file(
-            alloc, Text, file, out, options, files, drive, input, terminal, printer, kernel,
+        Command::RunWith {
+            file,
+            account,
+            options,
+        } => run_file_with(
+            alloc, Text, file, account, options, files, drive, input, terminal, printer, kernel,
         ),
-        Command::TimeCode { file, out, options } => time_file(
-            alloc, Code, file, out, options, files, drive, input, terminal, printer, kernel,
+        Command::ExecWith {
+            file,
+            account,
+            options,
+        } => run_file_with(
+            alloc, Code, file, account, options, files, drive, input, terminal, printer, kernel,
         ),
-        Command::TimeDemo { n, out, options } => demonstrate(
+        Command::DemoWith {
+            n,
+            account,
+            options,
+        } => demonstrate(
             alloc,
             u32::from(n),
-            Some(out),
+            Some(account),
             options,
             files,
             terminal,

@@ -2,6 +2,7 @@
 
 mod checks;
 mod disks;
+mod dumps;
 mod editings;
 mod explorations;
 mod faults;

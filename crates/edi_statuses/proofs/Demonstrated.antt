@@ -1,20 +1,20 @@
--- What a status of `demo` means does not change where the terminal takes its line, with a timeline or without one.
+-- What a status of `demo` means does not change where the terminal takes its line, with an account or without one.
 use Rattle.std.proofs.Common.{ℕ, List, [], Option, inl, inr}
 use Rattle.std.specs.Prelude.{◌⊎◌}
 use Rattle.edi_calls.specs.Choice.{Choices}
 use Rattle.edi_utils.specs.Demo.{demo_text}
-use Rattle.edi_words.specs.Words.{ChoicesFrom}
+use Rattle.edi_words.specs.Words.{Account, ChoicesFrom}
 use Rattle.edi_statuses.specs.declared.status.Status.{Status}
 use Rattle.edi_statuses.specs.declared.status.Status.TheVariants as status
 use Rattle.edi_statuses.specs.Outside.{Outside, seen, SameFiles, Lent}
 use Rattle.edi_statuses.specs.Executions.{Runnable, text, BrokeRun}
 use Rattle.edi_statuses.specs.Steps.{goes}
-use Rattle.edi_statuses.specs.Timelines.{TimedInPart, TimedLost, Times}
-use Rattle.edi_statuses.specs.Commands.{CommandEffect, Demonstrates, DemonstratesTimed, DemoSteps, Does, IsNothing, OnItsOwn, Runs, ShowsSize, with_own}
-use Rattle.edi_statuses.specs.Broken.{BrokeDemo, BrokeTimedDemo, CutsSize, HasBegun, RanUnkept, RanWhole}
+use Rattle.edi_statuses.specs.Accounts.{AccountInPart, AccountLost, RunsWith}
+use Rattle.edi_statuses.specs.Commands.{CommandEffect, Demonstrates, DemonstratesWith, DemoSteps, Does, IsNothing, OnItsOwn, Runs, ShowsSize, with_own}
+use Rattle.edi_statuses.specs.Broken.{BrokeDemo, BrokeDemoWith, CutsSize, HasBegun, RanUnkept, RanWhole}
 use Rattle.edi_statuses.specs.Decided.{with_shown}
 use Rattle.edi_statuses.proofs.Terminal.{StillTold, broke_later, demo_later, does_later, nothing_later, runs_later, unkept_later, whole_later}
-use Rattle.edi_statuses.proofs.Timed.{in_part_later, lost_later, times_later}
+use Rattle.edi_statuses.proofs.Accounts.{in_part_later, lost_later, runs_with_later}
 
 module _ (b m : Outside) (y : Option (List ℕ)) (still : StillTold m.shown y) where
   abbrev before_ : Outside
@@ -81,64 +81,64 @@ module _ (b m : Outside) (y : Option (List ℕ)) (still : StillTold m.shown y) w
     broke_demo_later shown (inl h) = inl (own_broke shown h)
     broke_demo_later shown (inr h) = inr (cut_later (Runs program bound choices name) own_runs shown h)
 
-    -- ---- with a timeline
+    -- ---- with an account
 
-    module _ (out : List ℕ) where
-      own_times : (s : Status) (shown : List ℕ) → OnItsOwn (λ a c. Times program bound choices out name s a c shown kernel) before_ m
-          → OnItsOwn (λ a c. Times program bound choices out name s a c shown kernel) seen_later later_
-      own_times s shown =
-          own_later (λ a c. Times program bound choices out name s a c shown kernel)
-          (λ disk left. times_later (with_own [] [] b) (with_own disk left m) y still program bound choices out name s shown kernel)
+    module _ (account : Account) where
+      own_with : (s : Status) (shown : List ℕ) → OnItsOwn (λ a c. RunsWith program bound choices account name s a c shown kernel) before_ m
+          → OnItsOwn (λ a c. RunsWith program bound choices account name s a c shown kernel) seen_later later_
+      own_with s shown =
+          own_later (λ a c. RunsWith program bound choices account name s a c shown kernel)
+          (λ disk left. runs_with_later (with_own [] [] b) (with_own disk left m) y still program bound choices account name s shown kernel)
 
-      pub own_in_part : (shown : List ℕ) → OnItsOwn (λ a c. TimedInPart program bound choices out name a c shown kernel) before_ m
-          → OnItsOwn (λ a c. TimedInPart program bound choices out name a c shown kernel) seen_later later_
+      pub own_in_part : (shown : List ℕ) → OnItsOwn (λ a c. AccountInPart program bound choices account name a c shown kernel) before_ m
+          → OnItsOwn (λ a c. AccountInPart program bound choices account name a c shown kernel) seen_later later_
       own_in_part shown =
-          own_later (λ a c. TimedInPart program bound choices out name a c shown kernel)
-          (λ disk left. in_part_later (with_own [] [] b) (with_own disk left m) y still program bound choices out name shown kernel)
+          own_later (λ a c. AccountInPart program bound choices account name a c shown kernel)
+          (λ disk left. in_part_later (with_own [] [] b) (with_own disk left m) y still program bound choices account name shown kernel)
 
-      pub own_lost : (shown : List ℕ) → OnItsOwn (λ a c. TimedLost program bound choices out name a c shown kernel) before_ m
-          → OnItsOwn (λ a c. TimedLost program bound choices out name a c shown kernel) seen_later later_
+      pub own_lost : (shown : List ℕ) → OnItsOwn (λ a c. AccountLost program bound choices account name a c shown kernel) before_ m
+          → OnItsOwn (λ a c. AccountLost program bound choices account name a c shown kernel) seen_later later_
       own_lost shown =
-          own_later (λ a c. TimedLost program bound choices out name a c shown kernel)
-          (λ disk left. lost_later (with_own [] [] b) (with_own disk left m) y still program bound choices out name shown kernel)
+          own_later (λ a c. AccountLost program bound choices account name a c shown kernel)
+          (λ disk left. lost_later (with_own [] [] b) (with_own disk left m) y still program bound choices account name shown kernel)
 
-      pub timed_demo_later : (s : Status) (shown : List ℕ) → DemonstratesTimed n bound choices out name s before_ m shown kernel
-          → DemonstratesTimed n bound choices out name s seen_later later_ shown kernel
-      timed_demo_later = size_later (Times program bound choices out name) own_times
+      pub demo_with_later : (s : Status) (shown : List ℕ) → DemonstratesWith n bound choices account name s before_ m shown kernel
+          → DemonstratesWith n bound choices account name s seen_later later_ shown kernel
+      demo_with_later = size_later (RunsWith program bound choices account name) own_with
 
-      pub broke_timed_later : (shown : List ℕ) → BrokeTimedDemo n bound choices out name before_ m shown kernel
-          → BrokeTimedDemo n bound choices out name seen_later later_ shown kernel
-      broke_timed_later shown (inl h) = inl (own_broke shown h)
-      broke_timed_later shown (inr h) = inr (cut_later (Times program bound choices out name) own_times shown h)
+      pub broke_with_later : (shown : List ℕ) → BrokeDemoWith n bound choices account name before_ m shown kernel
+          → BrokeDemoWith n bound choices account name seen_later later_ shown kernel
+      broke_with_later shown (inl h) = inl (own_broke shown h)
+      broke_with_later shown (inr h) = inr (cut_later (RunsWith program bound choices account name) own_with shown h)
 
   -- of the whole command
-  pub record TimedDemoLater (n bound : ℕ) (from : ChoicesFrom) (out : List ℕ) (name : Option (List ℕ)) (shown : List ℕ) (kernel : Lent) : Type 0 where
-    pub comes : (s : Status) → Does (DemoSteps before_ from) (λ v. DemonstratesTimed n bound v out name) s before_ m shown kernel
-        → Does (DemoSteps seen_later from) (λ v. DemonstratesTimed n bound v out name) s seen_later later_ shown kernel
+  pub record DemoWithLater (n bound : ℕ) (from : ChoicesFrom) (account : Account) (name : Option (List ℕ)) (shown : List ℕ) (kernel : Lent) : Type 0 where
+    pub comes : (s : Status) → Does (DemoSteps before_ from) (λ v. DemonstratesWith n bound v account name) s before_ m shown kernel
+        → Does (DemoSteps seen_later from) (λ v. DemonstratesWith n bound v account name) s seen_later later_ shown kernel
     pub wants : IsNothing before_ m shown kernel
-        ⊎ HasBegun (DemoSteps before_ from) (λ v. OnItsOwn (λ a c. TimedInPart (text (demo_text n)) bound v out name a c shown kernel) before_ m)
+        ⊎ HasBegun (DemoSteps before_ from) (λ v. OnItsOwn (λ a c. AccountInPart (text (demo_text n)) bound v account name a c shown kernel) before_ m)
         → IsNothing seen_later later_ shown kernel
-        ⊎ HasBegun (DemoSteps seen_later from) (λ v. OnItsOwn (λ a c. TimedInPart (text (demo_text n)) bound v out name a c shown kernel) seen_later later_)
-    pub files : HasBegun (DemoSteps before_ from) (λ v. OnItsOwn (λ a c. TimedLost (text (demo_text n)) bound v out name a c shown kernel) before_ m)
-        → HasBegun (DemoSteps seen_later from) (λ v. OnItsOwn (λ a c. TimedLost (text (demo_text n)) bound v out name a c shown kernel) seen_later later_)
-    pub output : HasBegun (DemoSteps before_ from) (λ v. BrokeTimedDemo n bound v out name before_ m shown kernel)
-        → HasBegun (DemoSteps seen_later from) (λ v. BrokeTimedDemo n bound v out name seen_later later_ shown kernel)
+        ⊎ HasBegun (DemoSteps seen_later from) (λ v. OnItsOwn (λ a c. AccountInPart (text (demo_text n)) bound v account name a c shown kernel) seen_later later_)
+    pub files : HasBegun (DemoSteps before_ from) (λ v. OnItsOwn (λ a c. AccountLost (text (demo_text n)) bound v account name a c shown kernel) before_ m)
+        → HasBegun (DemoSteps seen_later from) (λ v. OnItsOwn (λ a c. AccountLost (text (demo_text n)) bound v account name a c shown kernel) seen_later later_)
+    pub output : HasBegun (DemoSteps before_ from) (λ v. BrokeDemoWith n bound v account name before_ m shown kernel)
+        → HasBegun (DemoSteps seen_later from) (λ v. BrokeDemoWith n bound v account name seen_later later_ shown kernel)
 
-  module _ (n bound : ℕ) (from : ChoicesFrom) (out : List ℕ) (name : Option (List ℕ)) (shown : List ℕ) (kernel : Lent) where
-    timed_wants : IsNothing before_ m shown kernel
-        ⊎ HasBegun (DemoSteps before_ from) (λ v. OnItsOwn (λ a c. TimedInPart (text (demo_text n)) bound v out name a c shown kernel) before_ m)
+  module _ (n bound : ℕ) (from : ChoicesFrom) (account : Account) (name : Option (List ℕ)) (shown : List ℕ) (kernel : Lent) where
+    with_wants : IsNothing before_ m shown kernel
+        ⊎ HasBegun (DemoSteps before_ from) (λ v. OnItsOwn (λ a c. AccountInPart (text (demo_text n)) bound v account name a c shown kernel) before_ m)
         → IsNothing seen_later later_ shown kernel
-        ⊎ HasBegun (DemoSteps seen_later from) (λ v. OnItsOwn (λ a c. TimedInPart (text (demo_text n)) bound v out name a c shown kernel) seen_later later_)
-    timed_wants (inl h) = inl (nothing_later b m y still shown kernel h)
-    timed_wants (inr h) = inr (h.0, demo_later b m y still from (goes h.0) h.1, own_in_part n bound h.0 name kernel out shown h.2)
+        ⊎ HasBegun (DemoSteps seen_later from) (λ v. OnItsOwn (λ a c. AccountInPart (text (demo_text n)) bound v account name a c shown kernel) seen_later later_)
+    with_wants (inl h) = inl (nothing_later b m y still shown kernel h)
+    with_wants (inr h) = inr (h.0, demo_later b m y still from (goes h.0) h.1, own_in_part n bound h.0 name kernel account shown h.2)
 
-    pub timed_demo_by : TimedDemoLater n bound from out name shown kernel
-    timed_demo_by =
+    pub demo_with_by : DemoWithLater n bound from account name shown kernel
+    demo_with_by =
         let go = demo_later b m y still from in
         record {
-          comes = λ s. does_later b m y still (DemoSteps before_ from) (DemoSteps seen_later from) (λ v. DemonstratesTimed n bound v out name)
-              (λ v. DemonstratesTimed n bound v out name) s shown kernel go (λ v. timed_demo_later n bound v name kernel out s shown);
-          wants = timed_wants;
-          files = λ h. (h.0, go (goes h.0) h.1, own_lost n bound h.0 name kernel out shown h.2);
-          output = λ h. (h.0, go (goes h.0) h.1, broke_timed_later n bound h.0 name kernel out shown h.2);
+          comes = λ s. does_later b m y still (DemoSteps before_ from) (DemoSteps seen_later from) (λ v. DemonstratesWith n bound v account name)
+              (λ v. DemonstratesWith n bound v account name) s shown kernel go (λ v. demo_with_later n bound v name kernel account s shown);
+          wants = with_wants;
+          files = λ h. (h.0, go (goes h.0) h.1, own_lost n bound h.0 name kernel account shown h.2);
+          output = λ h. (h.0, go (goes h.0) h.1, broke_with_later n bound h.0 name kernel account shown h.2);
         }

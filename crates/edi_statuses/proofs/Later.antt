@@ -5,7 +5,7 @@ use Rattle.edi_calls.specs.Choice.{Choices}
 use Rattle.edi_utils.specs.Demo.{demo_text}
 use Rattle.edi_utils.specs.Listing.{listing_of}
 use Rattle.edi_words.specs.Words as words
-use Rattle.edi_words.specs.Words.{Command, ExploreOptions, Options}
+use Rattle.edi_words.specs.Words.{Account, Command, ExploreOptions, Options}
 use Rattle.edi_statuses.specs.declared.status.Status.{Status}
 use Rattle.edi_statuses.specs.declared.status.Status.TheVariants as status
 use Rattle.edi_statuses.specs.Outside.{Outside, seen, Lent}
@@ -21,9 +21,9 @@ use Rattle.edi_statuses.specs.Decided.{with_shown}
 use Rattle.edi_statuses.proofs.Terminal.{StillTold, asks_later, fetch_fails_later, run_later, exec_later, watch_later, text_later, old_later, put_later, get_later, nothing_later, begun_later}
 use Rattle.edi_statuses.proofs.Terminal.{drive_later, keeps_later, blocks_later, code_later, runs_later, whole_later, unkept_later, broke_later}
 use Rattle.edi_statuses.proofs.Terminal.{record_later, does_later, list_later, shows_later, front_later, demo_later, fetches_later}
-use Rattle.edi_statuses.proofs.Demonstrated.{demonstrates_later, own_unkept, own_whole, broke_demo_later, timed_demo_by}
+use Rattle.edi_statuses.proofs.Demonstrated.{demonstrates_later, own_unkept, own_whole, broke_demo_later, demo_with_by}
 use Rattle.edi_statuses.proofs.Watched.{watches_later, watched_wants, watched_lost, watched_broke}
-use Rattle.edi_statuses.proofs.Timed.{timed_later_by}
+use Rattle.edi_statuses.proofs.Accounts.{with_later_by}
 use Rattle.edi_statuses.proofs.Walked.{walks_later, walked_failed, walked_wants}
 use Rattle.edi_statuses.proofs.Explored.{explored_cut, explored_lost, explored_took, explored_wants, explores_later}
 use Rattle.edi_statuses.specs.Explored.{ExploresText}
@@ -109,16 +109,16 @@ module _ (b m : Outside) (y : Option (List ℕ)) (still : StillTold m.shown y) w
       options.record_file shown kernel (exec_later b m y still file options.choices) in
       record { comes = r.comes; wants = r.wants; files = r.files; drive = r.broke status.DriveFault; input = r.broke status.InputFault; output = r.broke status.OutputFault }
 
-  time_is : (file out : List ℕ) (options : Options) (shown : List ℕ) (kernel : Lent) → Later (words.time file out options) shown kernel
-  time_is file out options shown kernel =
-      let r = timed_later_by b m y still (RunSteps before_ file options.choices) (RunSteps seen_later file options.choices) (λ v. text v.0) (λ v. v.1)
-      options.turns out options.record_file shown kernel (run_later b m y still file options.choices) in
+  run_with_is : (file : List ℕ) (account : Account) (options : Options) (shown : List ℕ) (kernel : Lent) → Later (words.run_with file account options) shown kernel
+  run_with_is file account options shown kernel =
+      let r = with_later_by b m y still (RunSteps before_ file options.choices) (RunSteps seen_later file options.choices) (λ v. text v.0) (λ v. v.1)
+      options.turns account options.record_file shown kernel (run_later b m y still file options.choices) in
       record { comes = r.comes; wants = r.wants; files = r.files; drive = r.broke status.DriveFault; input = r.broke status.InputFault; output = r.broke status.OutputFault }
 
-  time_code_is : (file out : List ℕ) (options : Options) (shown : List ℕ) (kernel : Lent) → Later (words.time_code file out options) shown kernel
-  time_code_is file out options shown kernel =
-      let r = timed_later_by b m y still (ExecSteps before_ file options.choices) (ExecSteps seen_later file options.choices) (λ v. code v.0) (λ v. v.1)
-      options.turns out options.record_file shown kernel (exec_later b m y still file options.choices) in
+  exec_with_is : (file : List ℕ) (account : Account) (options : Options) (shown : List ℕ) (kernel : Lent) → Later (words.exec_with file account options) shown kernel
+  exec_with_is file account options shown kernel =
+      let r = with_later_by b m y still (ExecSteps before_ file options.choices) (ExecSteps seen_later file options.choices) (λ v. code v.0) (λ v. v.1)
+      options.turns account options.record_file shown kernel (exec_later b m y still file options.choices) in
       record { comes = r.comes; wants = r.wants; files = r.files; drive = r.broke status.DriveFault; input = r.broke status.InputFault; output = r.broke status.OutputFault }
 
   watch_is : (file points_file out : List ℕ) (options : Options) (shown : List ℕ) (kernel : Lent) → Later (words.watch file points_file out options) shown kernel
@@ -170,9 +170,9 @@ module _ (b m : Outside) (y : Option (List ℕ)) (still : StillTold m.shown y) w
         output = λ h. (h.0, steps (goes h.0) h.1, broke_demo_later b m y still n options.turns h.0 options.record_file kernel shown h.2);
       }
 
-  time_demo_is : (n : ℕ) (out : List ℕ) (options : Options) (shown : List ℕ) (kernel : Lent) → Later (words.time_demo n out options) shown kernel
-  time_demo_is n out options shown kernel =
-      let r = timed_demo_by b m y still n options.turns options.choices out options.record_file shown kernel in
+  demo_with_is : (n : ℕ) (account : Account) (options : Options) (shown : List ℕ) (kernel : Lent) → Later (words.demo_with n account options) shown kernel
+  demo_with_is n account options shown kernel =
+      let r = demo_with_by b m y still n options.turns options.choices account options.record_file shown kernel in
       record { comes = r.comes; wants = r.wants; files = r.files; drive = λ h. absurd h; input = λ h. absurd h; output = r.output }
 
   boot_is : (options : Options) (shown : List ℕ) (kernel : Lent) → Later (words.boot options) shown kernel
@@ -317,9 +317,9 @@ module _ (b m : Outside) (y : Option (List ℕ)) (still : StillTold m.shown y) w
   each_is (words.walk file choices turns) shown kernel = walk_is file choices turns shown kernel
   each_is (words.watch file points_file out options) shown kernel = watch_is file points_file out options shown kernel
   each_is (words.explore file options) shown kernel = explore_is file options shown kernel
-  each_is (words.time file out options) shown kernel = time_is file out options shown kernel
-  each_is (words.time_code file out options) shown kernel = time_code_is file out options shown kernel
-  each_is (words.time_demo n out options) shown kernel = time_demo_is n out options shown kernel
+  each_is (words.run_with file account options) shown kernel = run_with_is file account options shown kernel
+  each_is (words.exec_with file account options) shown kernel = exec_with_is file account options shown kernel
+  each_is (words.demo_with n account options) shown kernel = demo_with_is n account options shown kernel
 
   -- ---- the statuses
 

@@ -14,7 +14,7 @@ pub mod Demonstrated
 pub mod Watched
 pub mod Walked
 pub mod Explored
-pub mod Timed
+pub mod Accounts
 pub mod always
 pub mod OneLog
 pub mod OneEnd

@@ -1,5 +1,5 @@
 -- Contents that are told decide all that a command leaves.
-use Rattle.std.proofs.Common.{◌≡◌, ◌∙◌, ℕ, List, [], ◌∷◌, length, Option, Some, None, false, true, refl, sym, ap, subst, inl, inr, rules, true≢false}
+use Rattle.std.proofs.Common.{◌≡◌, ◌∙◌, ℕ, List, [], ◌∷◌, ◌++◌, length, Option, Some, None, false, true, refl, sym, ap, subst, inl, inr, rules, true≢false}
 use Rattle.edi_calls.specs.Choice.{Choices}
 use Rattle.edi_calls.specs.Outcome.{Ending, Outcome}
 use Rattle.edi_calls.specs.State.{State}
@@ -14,19 +14,19 @@ use Rattle.edi_utils.specs.Listing.{listing_of}
 use Rattle.edi_runs.proofs.walk.Texts.{texts_have_one_walk}
 use Rattle.edi_timed.specs.on.Laws.{TimelinesAreOne}
 use Rattle.edi_words.specs.Words as words
-use Rattle.edi_words.specs.Words.{Command}
+use Rattle.edi_words.specs.Words.{Command, timeline, dump}
 use Rattle.edi_statuses.specs.declared.status.Status.{Status}
 use Rattle.edi_statuses.specs.Outside.{Outside, Devices, Kept, KernelLeft, system_on, with_kept}
 use Rattle.edi_statuses.specs.Steps.{AfterStep, goes, stops, Fetches, FindsPoints, Ready}
 use Rattle.edi_statuses.specs.Executions.{Runnable, text, code, HasRun, record_of}
 use Rattle.edi_statuses.specs.Walked.{Walks}
-use Rattle.edi_statuses.specs.Timelines.{Times, timable, timed_files}
-use Rattle.edi_statuses.specs.Commands.{Comes, CommandEffect, Demonstrates, DemonstratesTimed, Does, Explains, IsDone, IsNothing, KeepsCode, OnlyBlocks}
+use Rattle.edi_statuses.specs.Accounts.{RunsWith, timable, timeline_files}
+use Rattle.edi_statuses.specs.Commands.{Comes, CommandEffect, Demonstrates, DemonstratesWith, Does, Explains, IsDone, IsNothing, KeepsCode, OnlyBlocks}
 use Rattle.edi_statuses.specs.Commands.{Runs, ShowsReport, AreMigrated, AreNew, ArePut, RunSteps, ExecSteps, WatchSteps, Watches, TextSteps, OldSteps}
 use Rattle.edi_statuses.specs.Commands.{OnlyKeeps, OnlyShows, ShowsSize, PutSteps, GetSteps, ListSteps, DemoSteps}
 use Rattle.edi_statuses.specs.Decided.{IsTold, is_decided}
 use Rattle.edi_statuses.specs.Always.{lent_from, told_outside}
-use Rattle.edi_statuses.specs.OneEnd.{LeaveSame, OneEnd}
+use Rattle.edi_statuses.specs.OneEnd.{LeaveSame, OneEnd, keeps_dump}
 use Rattle.edi_statuses.proofs.OneLog.{one_log}
 use Rattle.edi_statuses.proofs.always.Programs.{watch_then}
 use Rattle.edi_statuses.proofs.StepLemmas.{IsOne, TextsAreOne, fetches_one, not_both, ready_one, value_or}
@@ -83,15 +83,17 @@ module _ (files : Contents) (d : Devices) (kernel : KernelLeft) where
         turns = same.turns;
       }
 
-  times_end : TimelinesAreOne → (program : Runnable) (bound : ℕ) (choices : Choices) (out : List ℕ) (record_file : Option (List ℕ))
-      → LeavesOne files d kernel (Times program bound choices out record_file)
-  times_end timelines program bound choices out record_file s t one other e f shown bytes left also h k =
+  -- with a timeline
+  runs_with_end : TimelinesAreOne → (program : Runnable) (bound : ℕ) (choices : Choices) (out : List ℕ) (record_file : Option (List ℕ))
+      → LeavesOne files d kernel (RunsWith program bound choices (timeline out) record_file)
+  runs_with_end timelines program bound choices out record_file s t one other e f shown bytes left also h k =
       let same = runs_leave program bound choices h.0 k.0 h.2.drawn k.2.drawn d e f shown bytes left also h.2.ran k.2.ran in
-      let told : h.2.told ≡ k.2.told =
-      timelines (timable program) (system_on d) bound choices h.2.told k.2.told h.2.told_is k.2.told_is in record {
+      let told : h.2.are.0 ≡ k.2.are.0 =
+      timelines (timable program) (system_on d) bound choices h.2.are.0 k.2.are.0 h.2.are.1 k.2.are.1 in
+      let made : h.2.made ≡ k.2.made = h.2.are.2 ∙ ap (timeline_files out) told ∙ sym k.2.are.2 in record {
         files_ =
-            h.2.files ∙ ap (λ x. with_kept (timed_files record_file choices h.2.drawn out x) files) told
-            ∙ ap (λ n. with_kept (timed_files record_file choices n out k.2.told) files) same.draws
+            h.2.files ∙ ap (λ x. with_kept (record_of record_file choices h.2.drawn ++ x) files) made
+            ∙ ap (λ n. with_kept (record_of record_file choices n ++ k.2.made) files) same.draws
             ∙ sym k.2.files;
         slots = same.slots;
         count = same.count;
@@ -241,55 +243,58 @@ module _ (each : TextsAreOne) (files : Contents) (d : Devices) (kernel : KernelL
   told : IsTold (told_outside files d)
   told = told_is files d
 
-  ends_one : TimelinesAreOne → (c : Command) → is_decided c ≡ true → EndsOne (Comes c)
-  ends_one timelines (words.run file o) decided = does_end (RunSteps before file o.choices) (λ a. Runs (text a.0) o.turns a.1 o.record_file)
+  ends_one : TimelinesAreOne → (c : Command) → is_decided c ≡ true → keeps_dump c ≡ false → EndsOne (Comes c)
+  ends_one timelines (words.run file o) decided whole = does_end (RunSteps before file o.choices) (λ a. Runs (text a.0) o.turns a.1 o.record_file)
       (text_steps each before before before told told told file o.choices) (λ a went. runs_end files d kernel (text a.0) o.turns a.1 o.record_file)
-  ends_one timelines (words.replay file choices turns) decided = does_end (RunSteps before file (words.file choices)) (λ a. Runs (text a.0) turns a.1 None)
+  ends_one timelines (words.replay file choices turns) decided whole = does_end (RunSteps before file (words.file choices)) (λ a. Runs (text a.0) turns a.1 None)
       (text_steps each before before before told told told file (words.file choices)) (λ a went. runs_end files d kernel (text a.0) turns a.1 None)
-  ends_one timelines (words.exec file o) decided = does_end (ExecSteps before file o.choices) (λ a. Runs (code a.0) o.turns a.1 o.record_file)
+  ends_one timelines (words.exec file o) decided whole = does_end (ExecSteps before file o.choices) (λ a. Runs (code a.0) o.turns a.1 o.record_file)
       (code_steps each before before before told told told file o.choices) (λ a went. runs_end files d kernel (code a.0) o.turns a.1 o.record_file)
-  ends_one timelines (words.boot o) decided = absurd (true≢false (sym decided))
-  ends_one timelines (words.compile file out) decided = does_end (TextSteps before file) (λ a. IsDone (KeepsCode out a.0 a.1))
+  ends_one timelines (words.boot o) decided whole = absurd (true≢false (sym decided))
+  ends_one timelines (words.compile file out) decided whole = does_end (TextSteps before file) (λ a. IsDone (KeepsCode out a.0 a.1))
       (compile_steps each before before before told told told file) (λ a went. code_end out a.0 a.1)
-  ends_one timelines (words.newdisk blocks None) decided = does_end (Ready blocks) (λ n. IsDone (OnlyBlocks (AreNew n))) (ready_one blocks)
+  ends_one timelines (words.newdisk blocks None) decided whole = does_end (Ready blocks) (λ n. IsDone (OnlyBlocks (AreNew n))) (ready_one blocks)
       (λ n went. blocks_end (AreNew n) (λ a b h k. (h.1.files ∙ sym k.1.files, h.0 ∙ sym k.0)))
-  ends_one timelines (words.newdisk blocks (Some file)) decided =
+  ends_one timelines (words.newdisk blocks (Some file)) decided whole =
       does_end (OldSteps before blocks file) (λ old. IsDone (OnlyBlocks (AreMigrated blocks old))) (old_steps each before before before told told told blocks file)
       (λ old went. blocks_end (AreMigrated blocks old) (λ a b h k. (h.1.files ∙ sym k.1.files, h.0 ∙ sym k.0)))
-  ends_one timelines (words.put file title) decided = does_end (PutSteps before file title) (λ bytes. IsDone (OnlyBlocks (ArePut title bytes)))
+  ends_one timelines (words.put file title) decided whole = does_end (PutSteps before file title) (λ bytes. IsDone (OnlyBlocks (ArePut title bytes)))
       (put_steps each before before before told told told file title)
       (λ bytes went. blocks_end (ArePut title bytes) (λ a b h k. (h.1.files ∙ sym k.1.files, h.0 ∙ sym k.0)))
-  ends_one timelines (words.get title file) decided = does_end (GetSteps before title) (λ bytes. IsDone (OnlyKeeps ((file, bytes) ∷ [])))
+  ends_one timelines (words.get title file) decided whole = does_end (GetSteps before title) (λ bytes. IsDone (OnlyKeeps ((file, bytes) ∷ [])))
       (get_steps each before before before told told told title) (λ bytes went. keeps_end ((file, bytes) ∷ []))
-  ends_one timelines (words.list file) decided = does_end (ListSteps before file) (λ parts. IsDone (OnlyShows (listing_of parts.words)))
+  ends_one timelines (words.list file) decided whole = does_end (ListSteps before file) (λ parts. IsDone (OnlyShows (listing_of parts.words)))
       (list_steps each before before before told told told file) (λ parts went. shows_end (listing_of parts.words))
-  ends_one timelines (words.demo n o) decided = does_end (DemoSteps before o.choices) (λ choices. Demonstrates n o.turns choices o.record_file)
+  ends_one timelines (words.demo n o) decided whole = does_end (DemoSteps before o.choices) (λ choices. Demonstrates n o.turns choices o.record_file)
       (demo_steps each before before before told told told o.choices)
       (λ choices went. size_end n (Runs (text (demo_text n)) o.turns choices o.record_file)
       (runs_end files own kernel (text (demo_text n)) o.turns choices o.record_file))
-  ends_one timelines (words.check file) decided = does_end (TextSteps before file) (λ a. IsDone (ShowsReport a.1))
+  ends_one timelines (words.check file) decided whole = does_end (TextSteps before file) (λ a. IsDone (ShowsReport a.1))
       (compile_steps each before before before told told told file) (λ a went. report_end a.1)
-  ends_one timelines (words.explain file) decided = does_end (Fetches before file) Explains (fetches_one before told.files file) (λ bytes went. explains_end bytes)
-  ends_one timelines (words.walk file choices turns) decided = does_end (RunSteps before file (words.file choices)) (λ a. Walks a.0 turns a.1)
+  ends_one timelines (words.explain file) decided whole = does_end (Fetches before file) Explains (fetches_one before told.files file) (λ bytes went. explains_end bytes)
+  ends_one timelines (words.walk file choices turns) decided whole = does_end (RunSteps before file (words.file choices)) (λ a. Walks a.0 turns a.1)
       (text_steps each before before before told told told file (words.file choices)) (λ a went. walks_end a.0 turns a.1)
-  ends_one timelines (words.watch file points_file out o) decided =
+  ends_one timelines (words.watch file points_file out o) decided whole =
       does_end (WatchSteps before file points_file o.choices) (λ a. Watches a.0 a.2 o.turns a.1 out o.record_file)
       (watch_steps each before before before told told told file points_file o.choices) (λ a went. let found = (watch_then before file points_file o.choices a went).0.1 in
       watches_end a.0 found.0 a.2 found.1 o.turns a.1 out o.record_file)
-  ends_one timelines (words.time file out o) decided =
-      does_end (RunSteps before file o.choices) (λ a. Times (text a.0) o.turns a.1 out o.record_file)
-      (text_steps each before before before told told told file o.choices) (λ a went. times_end files d kernel timelines (text a.0) o.turns a.1 out o.record_file)
-  ends_one timelines (words.time_code file out o) decided =
-      does_end (ExecSteps before file o.choices) (λ a. Times (code a.0) o.turns a.1 out o.record_file)
-      (code_steps each before before before told told told file o.choices) (λ a went. times_end files d kernel timelines (code a.0) o.turns a.1 out o.record_file)
-  ends_one timelines (words.time_demo n out o) decided =
-      does_end (DemoSteps before o.choices) (λ choices. DemonstratesTimed n o.turns choices out o.record_file)
+  ends_one timelines (words.run_with file (timeline out) o) decided whole =
+      does_end (RunSteps before file o.choices) (λ a. RunsWith (text a.0) o.turns a.1 (timeline out) o.record_file)
+      (text_steps each before before before told told told file o.choices) (λ a went. runs_with_end files d kernel timelines (text a.0) o.turns a.1 out o.record_file)
+  ends_one timelines (words.exec_with file (timeline out) o) decided whole =
+      does_end (ExecSteps before file o.choices) (λ a. RunsWith (code a.0) o.turns a.1 (timeline out) o.record_file)
+      (code_steps each before before before told told told file o.choices) (λ a went. runs_with_end files d kernel timelines (code a.0) o.turns a.1 out o.record_file)
+  ends_one timelines (words.demo_with n (timeline out) o) decided whole =
+      does_end (DemoSteps before o.choices) (λ choices. DemonstratesWith n o.turns choices (timeline out) o.record_file)
       (demo_steps each before before before told told told o.choices)
-      (λ choices went. size_end n (Times (text (demo_text n)) o.turns choices out o.record_file)
-      (times_end files own kernel timelines (text (demo_text n)) o.turns choices out o.record_file))
-  ends_one timelines (words.explore file o) decided = absurd (true≢false (sym decided))
+      (λ choices went. size_end n (RunsWith (text (demo_text n)) o.turns choices (timeline out) o.record_file)
+      (runs_with_end files own kernel timelines (text (demo_text n)) o.turns choices out o.record_file))
+  ends_one timelines (words.run_with file (dump out) o) decided whole = absurd (true≢false whole)
+  ends_one timelines (words.exec_with file (dump out) o) decided whole = absurd (true≢false whole)
+  ends_one timelines (words.demo_with n (dump out) o) decided whole = absurd (true≢false whole)
+  ends_one timelines (words.explore file o) decided whole = absurd (true≢false (sym decided))
 
 -- THE LAW
 pub one_end : TextsAreOne → TimelinesAreOne → OneEnd
-one_end each timelines s t c files one other d e f shown bytes kernel left also decided h k =
-    ends_one each files d kernel timelines c decided s t one other e f shown bytes left also h k
+one_end each timelines s t c files one other d e f shown bytes kernel left also decided whole h k =
+    ends_one each files d kernel timelines c decided whole s t one other e f shown bytes left also h k

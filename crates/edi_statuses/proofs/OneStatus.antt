@@ -23,19 +23,19 @@ use Rattle.edi_runs.specs.declared.explore.summary.Summary.TheVariants as summar
 use Rattle.edi_runs.specs.explore.Input.{most_input, names_accept}
 use Rattle.edi_runs.specs.explore.Lines.{summary_of}
 use Rattle.edi_words.specs.Words as words
-use Rattle.edi_words.specs.Words.{ChoicesFrom, Command, ExploreOptions, Options}
+use Rattle.edi_words.specs.Words.{Account, ChoicesFrom, Command, ExploreOptions, Options}
 use Rattle.edi_statuses.specs.declared.status.Status.{Status}
 use Rattle.edi_statuses.specs.declared.status.Status.TheVariants as status
 use Rattle.edi_statuses.specs.Outside.{Outside, Devices, devices_of, system_on, KernelLeft, Lent}
 use Rattle.edi_statuses.specs.Executions.{Runnable, text, code, HasOutcome, HasRun, Ran, status_of}
 use Rattle.edi_statuses.specs.Commands.{Comes, IsDone, OnlyBlocks, OnlyKeeps, OnlyShows, ShowsReport, KeepsCode, Runs, AreNew, AreMigrated, ArePut}
 use Rattle.edi_statuses.specs.Commands.{RunSteps, ExecSteps, WatchSteps, Watches, TextSteps, OldSteps, PutSteps, GetSteps, ListSteps, DemoSteps}
-use Rattle.edi_statuses.specs.Commands.{CommandEffect, Demonstrates, DemonstratesTimed, Explains, IsShownOf, ShowsSize, size_shown, with_own}
+use Rattle.edi_statuses.specs.Commands.{CommandEffect, Demonstrates, DemonstratesWith, Explains, IsShownOf, ShowsSize, size_shown, with_own}
 use Rattle.edi_statuses.specs.Steps.{goes, ◌>>=◌, Accepts, Fetches, Ready}
 use Rattle.edi_statuses.specs.Walked.{Walks}
 use Rattle.edi_statuses.specs.Sessions.{BootSteps, HoldsSession, session_status}
 use Rattle.edi_statuses.specs.Explored.{ExploresText, IsTooLong, TakesAll, status_of_summary}
-use Rattle.edi_statuses.specs.Timelines.{Times}
+use Rattle.edi_statuses.specs.Accounts.{RunsWith}
 use Rattle.edi_statuses.specs.Decided.{IsTold, OneRefusal, OneStatus, is_decided, is_refusal}
 use Rattle.edi_statuses.proofs.Walked.{walked_same}
 use Rattle.edi_statuses.proofs.StepLemmas.{IsOne, TextsAreOne, ready_one, then_one, tests_one, fetches_one, choices_one, accepts_one, mounts_one}
@@ -109,12 +109,12 @@ runs_same before after behind is_told after_told behind_told program bound choic
     h.ran k.ran in
     (h.status_is ∙ ap status_of same.ending ∙ sym k.status_is, same.shown_, same.used)
 
--- so does one with a timeline
-times_same : (before after behind : Outside) → IsTold before → IsTold after → IsTold behind → (program : Runnable) (bound : ℕ) (choices : Choices)
-    (out : List ℕ) (record_file : Option (List ℕ)) (s t : Status) (shown bytes : List ℕ) (kernel other : Lent)
-    → Times program bound choices out record_file s before after shown kernel → Times program bound choices out record_file t before behind bytes other
+-- so does one with an account
+runs_with_same : (before after behind : Outside) → IsTold before → IsTold after → IsTold behind → (program : Runnable) (bound : ℕ) (choices : Choices)
+    (account : Account) (record_file : Option (List ℕ)) (s t : Status) (shown bytes : List ℕ) (kernel other : Lent)
+    → RunsWith program bound choices account record_file s before after shown kernel → RunsWith program bound choices account record_file t before behind bytes other
     → (s ≡ t) × (shown ≡ bytes) × (kernel.after.used ≡ other.after.used)
-times_same before after behind is_told after_told behind_told program bound choices out record_file s t shown bytes kernel other h k =
+runs_with_same before after behind is_told after_told behind_told program bound choices account record_file s t shown bytes kernel other h k =
     let same = ended_same before after behind is_told after_told behind_told program bound choices h.0 k.0 h.2.drawn k.2.drawn shown bytes kernel other
     h.2.ran k.2.ran in
     (h.1 ∙ ap status_of same.ending ∙ sym k.1, same.shown_, same.used)
@@ -145,10 +145,10 @@ module _ (each : TextsAreOne) (before after behind : Outside) (is_told : IsTold 
       kernel other h.ran k.ran in
       (h.status_is ∙ ap status_of same.ending ∙ sym k.status_is, same.shown_)
 
-  times_one : (program : Runnable) (bound : ℕ) (choices : Choices) (out : List ℕ) (record_file : Option (List ℕ))
-      → IsOneEffect before after behind (Times program bound choices out record_file)
-  times_one program bound choices out record_file s t shown bytes kernel other h k =
-      let same = times_same before after behind is_told after_told behind_told program bound choices out record_file s t shown bytes kernel other h k in
+  runs_with_one : (program : Runnable) (bound : ℕ) (choices : Choices) (account : Account) (record_file : Option (List ℕ))
+      → IsOneEffect before after behind (RunsWith program bound choices account record_file)
+  runs_with_one program bound choices account record_file s t shown bytes kernel other h k =
+      let same = runs_with_same before after behind is_told after_told behind_told program bound choices account record_file s t shown bytes kernel other h k in
       (same.0, same.1)
 
   -- a program on its own that has one end, and then the line of a demonstration
@@ -168,11 +168,11 @@ module _ (each : TextsAreOne) (before after behind : Outside) (is_told : IsTold 
       size_one n (Runs (text (demo_text n)) bound choices record_file) (λ b a c is_b is_a is_c. runs_same b a c is_b is_a is_c
       (text (demo_text n)) bound choices record_file)
 
-  timed_demo_one : (n bound : ℕ) (choices : Choices) (out : List ℕ) (record_file : Option (List ℕ))
-      → IsOneEffect before after behind (DemonstratesTimed n bound choices out record_file)
-  timed_demo_one n bound choices out record_file =
-      size_one n (Times (text (demo_text n)) bound choices out record_file) (λ b a c is_b is_a is_c. times_same b a c is_b is_a is_c
-      (text (demo_text n)) bound choices out record_file)
+  demo_with_one : (n bound : ℕ) (choices : Choices) (account : Account) (record_file : Option (List ℕ))
+      → IsOneEffect before after behind (DemonstratesWith n bound choices account record_file)
+  demo_with_one n bound choices account record_file =
+      size_one n (RunsWith (text (demo_text n)) bound choices account record_file) (λ b a c is_b is_a is_c. runs_with_same b a c is_b is_a is_c
+      (text (demo_text n)) bound choices account record_file)
 
   blocks_one : (P : List (List ℕ) → List (List ℕ) → Type 0) → IsOneEffect before after behind (IsDone (OnlyBlocks P))
   blocks_one P s t shown bytes kernel other h k = (h.0 ∙ sym k.0, h.1.shown_ ∙ sym k.1.shown_)
@@ -299,13 +299,13 @@ module _ (each : TextsAreOne) (before after behind : Outside) (is_told : IsTold 
   comes_one (words.watch file points_file out o) decided = does_one before after behind (WatchSteps before file points_file o.choices)
       (λ a. Watches a.0 a.2 o.turns a.1 out o.record_file) (watch_steps file points_file o.choices)
       (λ a went. watches_one a.0 a.2 o.turns a.1 out o.record_file)
-  comes_one (words.time file out o) decided = does_one before after behind (RunSteps before file o.choices)
-      (λ a. Times (text a.0) o.turns a.1 out o.record_file) (text_steps file o.choices) (λ a went. times_one (text a.0) o.turns a.1 out o.record_file)
-  comes_one (words.time_code file out o) decided = does_one before after behind (ExecSteps before file o.choices)
-      (λ a. Times (code a.0) o.turns a.1 out o.record_file) (code_steps file o.choices) (λ a went. times_one (code a.0) o.turns a.1 out o.record_file)
-  comes_one (words.time_demo n out o) decided = does_one before after behind (DemoSteps before o.choices)
-      (λ choices. DemonstratesTimed n o.turns choices out o.record_file) (demo_steps o.choices)
-      (λ choices went. timed_demo_one n o.turns choices out o.record_file)
+  comes_one (words.run_with file account o) decided = does_one before after behind (RunSteps before file o.choices)
+      (λ a. RunsWith (text a.0) o.turns a.1 account o.record_file) (text_steps file o.choices) (λ a went. runs_with_one (text a.0) o.turns a.1 account o.record_file)
+  comes_one (words.exec_with file account o) decided = does_one before after behind (ExecSteps before file o.choices)
+      (λ a. RunsWith (code a.0) o.turns a.1 account o.record_file) (code_steps file o.choices) (λ a went. runs_with_one (code a.0) o.turns a.1 account o.record_file)
+  comes_one (words.demo_with n account o) decided = does_one before after behind (DemoSteps before o.choices)
+      (λ choices. DemonstratesWith n o.turns choices account o.record_file) (demo_steps o.choices)
+      (λ choices went. demo_with_one n o.turns choices account o.record_file)
 
   -- ---- refusals
 

@@ -70,9 +70,9 @@ wants_any (Some (words.explain file)) o kernel = nothing_seen o kernel
 wants_any (Some (words.walk file choices turns)) o kernel = inl (nothing_seen o kernel)
 wants_any (Some (words.watch file points_file out options)) o kernel = inl (nothing_seen o kernel)
 wants_any (Some (words.explore file options)) o kernel = inl (nothing_seen o kernel)
-wants_any (Some (words.time file out options)) o kernel = inl (nothing_seen o kernel)
-wants_any (Some (words.time_code file out options)) o kernel = inl (nothing_seen o kernel)
-wants_any (Some (words.time_demo n out options)) o kernel = inl (nothing_seen o kernel)
+wants_any (Some (words.run_with file account options)) o kernel = inl (nothing_seen o kernel)
+wants_any (Some (words.exec_with file account options)) o kernel = inl (nothing_seen o kernel)
+wants_any (Some (words.demo_with n account options)) o kernel = inl (nothing_seen o kernel)
 
 pub wants : (s : Status) (due : Bool) (c : Option Command) (o : Outside) (kernel : KernelLeft) → s ≡ status.NoMemory → due ≡ false
     → Came s due c o o (idle kernel)

@@ -12,7 +12,7 @@ pub mod Sessions
 pub mod Walks
 pub mod Plain
 pub mod Programs
-pub mod Timelines
+pub mod Accounts
 pub mod Demonstrations
 pub mod Puts
 pub mod OldDisks

@@ -72,9 +72,9 @@ StepsOf P (words.explain file) before = P _ (Fetches before file)
 StepsOf P (words.walk file choices turns) before = P _ (RunSteps before file (words.file choices))
 StepsOf P (words.watch file points_file out o) before = P _ (WatchSteps before file points_file o.choices)
 StepsOf P (words.explore file o) before = P _ (TextSteps before file)
-StepsOf P (words.time file out o) before = P _ (RunSteps before file o.choices)
-StepsOf P (words.time_code file out o) before = P _ (ExecSteps before file o.choices)
-StepsOf P (words.time_demo n out o) before = P _ (DemoSteps before o.choices)
+StepsOf P (words.run_with file account o) before = P _ (RunSteps before file o.choices)
+StepsOf P (words.exec_with file account o) before = P _ (ExecSteps before file o.choices)
+StepsOf P (words.demo_with n account o) before = P _ (DemoSteps before o.choices)
 
 -- all of them have gone on
 abbrev pub StepsGo : Command → Outside → Type 0
@@ -101,7 +101,7 @@ SomeStep = (c : Command) (files : Contents) (d : Devices) (kernel : KernelLeft) 
 abbrev pub IsInRange : Command → Type 0
 IsInRange (words.newdisk blocks old) = (64 ≤ blocks) × (blocks ≤ 4096)
 IsInRange (words.demo n o) = (1 ≤ n) × (n ≤ 1000)
-IsInRange (words.time_demo n out o) = (1 ≤ n) × (n ≤ 1000)
+IsInRange (words.demo_with n account o) = (1 ≤ n) × (n ≤ 1000)
 IsInRange (words.put file title) = is_title title ≡ true
 IsInRange c = ⊤
 

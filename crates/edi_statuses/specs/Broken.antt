@@ -9,14 +9,14 @@ use Rattle.edi_unit.specs.Tree.{ProgramUnit}
 use Rattle.edi_debug.specs.stops.Stops.{Watched}
 use Rattle.edi_disjoint.specs.Report.{IsReport}
 use Rattle.edi_utils.specs.Demo.{demo_text}
-use Rattle.edi_words.specs.Words.{ChoicesFrom}
+use Rattle.edi_words.specs.Words.{Account, ChoicesFrom}
 use Rattle.edi_statuses.specs.declared.status.Status.{Status}
 use Rattle.edi_statuses.specs.declared.status.Status.TheVariants as status
 use Rattle.edi_statuses.specs.Fronts.{IsFront}
 use Rattle.edi_statuses.specs.Outside.{Outside, Keeps, SameBut, SameFiles, SameInput, SamePrinted, IsAsBefore, Lent, with_kept, without_names}
 use Rattle.edi_statuses.specs.Steps.{AfterStep, goes, ◌>>=◌, Fetches, ReadsChoices, Accepts, Loads}
 use Rattle.edi_statuses.specs.Executions.{Runnable, text, Ran, BrokeRun}
-use Rattle.edi_statuses.specs.Timelines.{Times}
+use Rattle.edi_statuses.specs.Accounts.{RunsWith}
 use Rattle.edi_statuses.specs.Commands.{CommandEffect, Runs, OnItsOwn, IsLog, IsShownOf, PointSteps, released, put_in, size_line}
 
 -- ---- memory ran out
@@ -133,12 +133,12 @@ BrokeDemo n bound choices record_file before after shown kernel =
     OnItsOwn (λ b a. SameFiles b a × BrokeRun status.OutputFault kernel.failed (text (demo_text n)) bound choices b a shown) before after
     ⊎ CutsDemo n bound choices record_file before after shown kernel
 
--- so of one with a timeline, of which no file was kept; or its line was not shown
-abbrev pub BrokeTimedDemo : (n bound : ℕ) → Choices → (out : List ℕ) → (record_file : Option (List ℕ)) → Outside → Outside → (shown : List ℕ) → Lent
+-- so of one with an account, of which no file was kept; or its line was not shown
+abbrev pub BrokeDemoWith : (n bound : ℕ) → Choices → Account → (record_file : Option (List ℕ)) → Outside → Outside → (shown : List ℕ) → Lent
     → Type 0
-BrokeTimedDemo n bound choices out record_file before after shown kernel =
+BrokeDemoWith n bound choices account record_file before after shown kernel =
     OnItsOwn (λ b a. SameFiles b a × BrokeRun status.OutputFault kernel.failed (text (demo_text n)) bound choices b a shown) before after
-    ⊎ CutsSize n (Times (text (demo_text n)) bound choices out record_file) before after shown kernel
+    ⊎ CutsSize n (RunsWith (text (demo_text n)) bound choices account record_file) before after shown kernel
 
 -- the steps of a command went on, and it was broken off there
 abbrev pub HasBegun : {A : Type 0} → (AfterStep A → Type 0) → (A → Type 0) → Type 0

@@ -30,7 +30,7 @@ use Rattle.edi_texts.specs.Run.{IsCodeFor}
 use Rattle.edi_texts.specs.Texts.{IsRefused, IsUnit}
 use Rattle.edi_explain.specs.told.Explained.{IsExplained, accepted_text}
 use Rattle.edi_words.specs.Words as words
-use Rattle.edi_words.specs.Words.{ChoicesFrom, Command}
+use Rattle.edi_words.specs.Words.{Account, ChoicesFrom, Command}
 use Rattle.edi_statuses.specs.declared.status.Status.{Status}
 use Rattle.edi_statuses.specs.declared.status.Status.TheVariants as status
 use Rattle.edi_statuses.specs.Lines.{line_end}
@@ -42,7 +42,7 @@ use Rattle.edi_statuses.specs.Executions.{Runnable, text, code, status_of, Ran, 
 use Rattle.edi_statuses.specs.Sessions.{BootSteps, HoldsSession}
 use Rattle.edi_statuses.specs.Walked.{Walks}
 use Rattle.edi_statuses.specs.Explored.{ExploresText}
-use Rattle.edi_statuses.specs.Timelines.{Times}
+use Rattle.edi_statuses.specs.Accounts.{RunsWith}
 
 -- ---- the steps of each command
 
@@ -244,9 +244,9 @@ pub record ShowsSize (n : ℕ) (effect : CommandEffect) (s : Status) (before aft
 abbrev pub Demonstrates : (n bound : ℕ) → Choices → (record_file : Option (List ℕ)) → CommandEffect
 Demonstrates n bound choices record_file = ShowsSize n (Runs (text (demo_text n)) bound choices record_file)
 
--- and its timeline is kept too, before its line is shown
-abbrev pub DemonstratesTimed : (n bound : ℕ) → Choices → (out : List ℕ) → (record_file : Option (List ℕ)) → CommandEffect
-DemonstratesTimed n bound choices out record_file = ShowsSize n (Times (text (demo_text n)) bound choices out record_file)
+-- and an account of the run is kept too, before its line is shown
+abbrev pub DemonstratesWith : (n bound : ℕ) → Choices → Account → (record_file : Option (List ℕ)) → CommandEffect
+DemonstratesWith n bound choices account record_file = ShowsSize n (RunsWith (text (demo_text n)) bound choices account record_file)
 
 -- ---- what the drive holds behind `newdisk` and `put`
 
@@ -306,9 +306,9 @@ Comes (words.watch file points_file out o) s before after shown kernel =
     Does (WatchSteps before file points_file o.choices) (λ a. Watches a.0 a.2 o.turns a.1 out o.record_file) s before after shown kernel
 Comes (words.explore file o) s before after shown kernel =
     Does (TextSteps before file) (λ a. ExploresText a.0 a.1 o) s before after shown kernel
-Comes (words.time file out o) s before after shown kernel =
-    Does (RunSteps before file o.choices) (λ a. Times (text a.0) o.turns a.1 out o.record_file) s before after shown kernel
-Comes (words.time_code file out o) s before after shown kernel =
-    Does (ExecSteps before file o.choices) (λ a. Times (code a.0) o.turns a.1 out o.record_file) s before after shown kernel
-Comes (words.time_demo n out o) s before after shown kernel =
-    Does (DemoSteps before o.choices) (λ choices. DemonstratesTimed n o.turns choices out o.record_file) s before after shown kernel
+Comes (words.run_with file account o) s before after shown kernel =
+    Does (RunSteps before file o.choices) (λ a. RunsWith (text a.0) o.turns a.1 account o.record_file) s before after shown kernel
+Comes (words.exec_with file account o) s before after shown kernel =
+    Does (ExecSteps before file o.choices) (λ a. RunsWith (code a.0) o.turns a.1 account o.record_file) s before after shown kernel
+Comes (words.demo_with n account o) s before after shown kernel =
+    Does (DemoSteps before o.choices) (λ choices. DemonstratesWith n o.turns choices account o.record_file) s before after shown kernel

@@ -5,7 +5,7 @@ use Rattle.edi_calls.specs.Choice.{Choices}
 use Rattle.edi_utils.specs.Demo.{demo_text}
 use Rattle.edi_utils.specs.Listing.{listing_of}
 use Rattle.edi_words.specs.Words as words
-use Rattle.edi_words.specs.Words.{ChoicesFrom, Command}
+use Rattle.edi_words.specs.Words.{Account, ChoicesFrom, Command}
 use Rattle.edi_statuses.specs.declared.status.Status.{Status}
 use Rattle.edi_statuses.specs.declared.status.Status.TheVariants as status
 use Rattle.edi_statuses.specs.Outside.{Outside, Lent}
@@ -13,12 +13,12 @@ use Rattle.edi_statuses.specs.Steps.{AfterStep, ◌>>=◌, Fetches, ReadsChoices
 use Rattle.edi_statuses.specs.Executions.{Runnable, text, code, BrokeRun}
 use Rattle.edi_statuses.specs.Sessions.{BootSteps, BrokeSession, EndedUnkept, EndedWhole}
 use Rattle.edi_statuses.specs.Commands.{IsNothing, OnItsOwn, RunSteps, ExecSteps, WatchSteps, TextSteps, OldSteps, PutSteps, GetSteps, ListSteps, DemoSteps}
-use Rattle.edi_statuses.specs.Broken.{RanWhole, RanUnkept, AtRecord, HasNotBegun, ChangesDrive, ArePutInPart, IsOpen, BrokeDemo, BrokeTimedDemo}
+use Rattle.edi_statuses.specs.Broken.{RanWhole, RanUnkept, AtRecord, HasNotBegun, ChangesDrive, ArePutInPart, IsOpen, BrokeDemo, BrokeDemoWith}
 use Rattle.edi_statuses.specs.Broken.{ShowsFront, ShowsReportFront, ExplainsFront}
 use Rattle.edi_statuses.specs.Broken.{HasBegun, WentOn, RunAsks, ExecAsks, WatchAsks, WatchedLost, WatchedUnkept}
 use Rattle.edi_statuses.specs.Walked.{BrokeWalk, FailedWalk}
 use Rattle.edi_statuses.specs.Explored.{ExploredFront, ExploredInPart, ExploredThen, FailsIn, LosesNext, OnlyAccepts, names_of_records}
-use Rattle.edi_statuses.specs.Timelines.{TimedInPart, TimedLost, timeline_names}
+use Rattle.edi_statuses.specs.Accounts.{AccountInPart, AccountLost, account_names, is_dump}
 
 -- ---- facts
 
@@ -44,6 +44,8 @@ pub record Facts : Type 1 where
   -- Contents decide how it ends, unless an object fails or memory runs out. They do not where memory may run out at single lines of a session, or in
   -- a search that then tells what it has found.
   pub decided : Bool
+  -- It keeps a dump. Contents do not decide which one: it tells a process that was stopped by the bound on the turns behind its last instruction or before it.
+  pub dumps : Bool
   -- It shows nothing but the line of its status.
   pub silent : Bool
   -- It sees the terminal and the printer.
@@ -76,6 +78,7 @@ never before after shown kernel = ⊥
 abbrev pub plain : Facts
 plain = record {
   decided = true;
+  dumps = false;
   silent = true;
   devices = false;
   kernel = false;
@@ -129,16 +132,18 @@ program_run file asks steps program choices bound record_file =
       output_failed = broken status.OutputFault;
     }
 
--- One that runs the program of a file and keeps a timeline of it, after the record. Memory runs out before the first effect, or when a file is to be kept.
-abbrev pub timed_run : {A : Type 0} → (file : List ℕ) → (asks : Outside → Type 0) → (steps : Outside → AfterStep A → Type 0)
-    → (program : A → Runnable) → (choices : A → Choices) → (bound : ℕ) → (out : List ℕ) → (record_file : Option (List ℕ)) → Facts
-timed_run file asks steps program choices bound out record_file = record (program_run file asks steps program choices bound record_file) {
-  keeps = timeline_names out;
+-- One that runs the program of a file and keeps an account of the run, after the record. Memory runs out before the first effect, or when a file is to be
+-- kept.
+abbrev pub account_run : {A : Type 0} → (file : List ℕ) → (asks : Outside → Type 0) → (steps : Outside → AfterStep A → Type 0)
+    → (program : A → Runnable) → (choices : A → Choices) → (bound : ℕ) → Account → (record_file : Option (List ℕ)) → Facts
+account_run file asks steps program choices bound account record_file = record (program_run file asks steps program choices bound record_file) {
+  dumps = is_dump account;
+  keeps = account_names account;
   no_memory = λ before after shown kernel.
       IsNothing before after shown kernel
-      ⊎ HasBegun (steps before) (λ a. TimedInPart (program a) bound (choices a) out record_file before after shown kernel);
+      ⊎ HasBegun (steps before) (λ a. AccountInPart (program a) bound (choices a) account record_file before after shown kernel);
   files_failed = λ before after shown kernel.
-      HasBegun (steps before) (λ a. TimedLost (program a) bound (choices a) out record_file before after shown kernel);
+      HasBegun (steps before) (λ a. AccountLost (program a) bound (choices a) account record_file before after shown kernel);
 }
 
 -- ---- rows by the operand that may be there
@@ -268,19 +273,20 @@ facts_of (words.explore file o) = record plain {
   input_failed = λ before after shown kernel. HasBegun (TextSteps before file) (λ a. OnlyAccepts FailsIn a.1 before after shown kernel);
   output_failed = λ before after shown kernel. HasBegun (TextSteps before file) (λ a. ExploredFront a.0 a.1 o before after shown);
 }
-facts_of (words.time file out o) =
-    timed_run file (λ before. RunAsks before file o.choices) (λ before. RunSteps before file o.choices) (λ a. text a.0) (λ a. a.1) o.turns out o.record_file
-facts_of (words.time_code file out o) =
-    timed_run file (λ before. ExecAsks before file o.choices) (λ before. ExecSteps before file o.choices) (λ a. code a.0) (λ a. a.1) o.turns out o.record_file
-facts_of (words.time_demo n out o) = record (alone o) {
-  keeps = timeline_names out;
+facts_of (words.run_with file account o) =
+    account_run file (λ before. RunAsks before file o.choices) (λ before. RunSteps before file o.choices) (λ a. text a.0) (λ a. a.1) o.turns account o.record_file
+facts_of (words.exec_with file account o) =
+    account_run file (λ before. ExecAsks before file o.choices) (λ before. ExecSteps before file o.choices) (λ a. code a.0) (λ a. a.1) o.turns account o.record_file
+facts_of (words.demo_with n account o) = record (alone o) {
+  dumps = is_dump account;
+  keeps = account_names account;
   no_memory = λ before after shown kernel.
       IsNothing before after shown kernel
       ⊎ HasBegun (DemoSteps before o.choices)
-      (λ choices. OnItsOwn (λ b a. TimedInPart (text (demo_text n)) o.turns choices out o.record_file b a shown kernel) before after);
+      (λ choices. OnItsOwn (λ b a. AccountInPart (text (demo_text n)) o.turns choices account o.record_file b a shown kernel) before after);
   files_failed = λ before after shown kernel.
       HasBegun (DemoSteps before o.choices)
-      (λ choices. OnItsOwn (λ b a. TimedLost (text (demo_text n)) o.turns choices out o.record_file b a shown kernel) before after);
+      (λ choices. OnItsOwn (λ b a. AccountLost (text (demo_text n)) o.turns choices account o.record_file b a shown kernel) before after);
   output_failed = λ before after shown kernel.
-      HasBegun (DemoSteps before o.choices) (λ choices. BrokeTimedDemo n o.turns choices out o.record_file before after shown kernel);
+      HasBegun (DemoSteps before o.choices) (λ choices. BrokeDemoWith n o.turns choices account o.record_file before after shown kernel);
 }

@@ -17,6 +17,6 @@ pub mod OnFiles
 pub mod Rows
 pub mod Walked
 pub mod Explored
-pub mod Timelines
+pub mod Accounts
 pub mod Always
 pub mod OneEnd

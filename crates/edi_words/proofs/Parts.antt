@@ -41,6 +41,7 @@ pub data Name : Type 0 where
   states : Name
   shown : Name
   timeline : Name
+  dump : Name
 
 pub data Id : Type 0 where
   words : Id
@@ -55,6 +56,7 @@ bare_name from = codes "from"
 bare_name states = codes "states"
 bare_name shown = codes "shown"
 bare_name timeline = codes "timeline"
+bare_name dump = codes "dump"
 
 abbrev pub name_of : Name → Text
 name_of name = 45 ∷ 45 ∷ bare_name name
@@ -154,6 +156,7 @@ settle_passes_at rows (Some (of from, v)) = refl
 settle_passes_at rows (Some (of states, v)) = refl
 settle_passes_at rows (Some (of shown, v)) = refl
 settle_passes_at rows (Some (of timeline, v)) = refl
+settle_passes_at rows (Some (of dump, v)) = refl
 
 abbrev added : Id → Pending → List Text
 added k None = []
@@ -170,6 +173,7 @@ settle_gives k (Some (of from, v)) rows = with_gives (text_of k) (text_of (of fr
 settle_gives k (Some (of states, v)) rows = with_gives (text_of k) (text_of (of states)) _ (v ∷ []) rows
 settle_gives k (Some (of shown, v)) rows = with_gives (text_of k) (text_of (of shown)) _ (v ∷ []) rows
 settle_gives k (Some (of timeline, v)) rows = with_gives (text_of k) (text_of (of timeline)) _ (v ∷ []) rows
+settle_gives k (Some (of dump, v)) rows = with_gives (text_of k) (text_of (of dump)) _ (v ∷ []) rows
 
 -- ---- one word of the walk
 
@@ -226,7 +230,9 @@ name_step states rows p false = refl
 name_step shown rows p true = refl
 name_step shown rows p false = refl
 name_step timeline rows p true = refl
+name_step dump rows p true = refl
 name_step timeline rows p false = refl
+name_step dump rows p false = refl
 
 name_passes : (name : Name) (rows : List Row) (p : Option (Text × List Text)) (word : Bool)
     → settle_passes rules shape.args_override_self (held_at rows p) ≡ true → turn_passes shape [] (stands rows p word) (name_of name) ≡ true
@@ -246,7 +252,9 @@ name_passes states rows p false s = rw s refl
 name_passes shown rows p true s = rw s refl
 name_passes shown rows p false s = rw s refl
 name_passes timeline rows p true s = rw s refl
+name_passes dump rows p true s = rw s refl
 name_passes timeline rows p false s = rw s refl
+name_passes dump rows p false s = rw s refl
 
 value_walked : (name : Name) (v : Text) → is_plain v ≡ true → (rows : List Row)
     → (walked rules [] (opened name rows) v ≡ stands rows (Some (bare_name name, v ∷ [])) false) × (turn_passes shape [] (opened name rows) v ≡ true)
@@ -275,6 +283,7 @@ of_word (of from) w parts = refl
 of_word (of states) w parts = refl
 of_word (of shown) w parts = refl
 of_word (of timeline) w parts = refl
+of_word (of dump) w parts = refl
 
 joins : (k : Id) (p : Pending) (rows : List Row) (rest : List Text)
     → vals (text_of k) (settle p rows) ++ rest ≡ vals (text_of k) rows ++ (added k p ++ rest)
@@ -327,6 +336,7 @@ of_option words from v parts = refl
 of_option words states v parts = refl
 of_option words shown v parts = refl
 of_option words timeline v parts = refl
+of_option words dump v parts = refl
 of_option (of wanted) name v parts = joined (bytes_eq (bare_name name) (bare_name wanted)) v (values_of (name_of wanted) parts)
 
 after_option : (name : Name) (v : Text) (ws : List Text) (parts : List Part) (rows : List Row) (p : Pending) → is_plain v ≡ true
@@ -369,7 +379,10 @@ name_found word e = elim (or_cases _ _ e) [
               | inl h ↦ (shown, (bytes_eq-Decides word _).0 h)
               | inr more ↦ elim (or_cases _ _ more) [
                 | inl h ↦ (timeline, (bytes_eq-Decides word _).0 h)
-                | inr h ↦ absurd (true≢false (sym h))
+                | inr more ↦ elim (or_cases _ _ more) [
+                  | inl h ↦ (dump, (bytes_eq-Decides word _).0 h)
+                  | inr h ↦ absurd (true≢false (sym h))
+                ]
               ]
             ]
           ]
@@ -477,6 +490,7 @@ given_is ws parts e = λ i. record {
   states = matches_parts ws parts e (of states) i;
   shown = matches_parts ws parts e (of shown) i;
   timelines = matches_parts ws parts e (of timeline) i;
+  dumps = matches_parts ws parts e (of dump) i;
 }
 
 -- and the command in their matches is that of the words

@@ -29,9 +29,9 @@ abbrev pub bare : App
 bare = on_top (λ s. record s { disable_help_flag = true; no_binary_name = true }) (new_app (codes "edison"))
 
 abbrev pub app : App
-app = with_rule (with_rule (with_rule (with_rule (with_rule (with_rule (with_rule (with_rule (with_rule bare
+app = with_rule (with_rule (with_rule (with_rule (with_rule (with_rule (with_rule (with_rule (with_rule (with_rule bare
     (option_rule (codes "turns"))) (option_rule (codes "choices"))) (option_rule (codes "seed"))) (option_rule (codes "record")))
-    (option_rule (codes "from"))) (option_rule (codes "states"))) (option_rule (codes "shown"))) (option_rule (codes "timeline"))) word_rule
+    (option_rule (codes "from"))) (option_rule (codes "states"))) (option_rule (codes "shown"))) (option_rule (codes "timeline"))) (option_rule (codes "dump"))) word_rule
 
 -- ---- the matches
 
@@ -50,6 +50,7 @@ given_in rows = record {
   states = values_in rows (codes "states");
   shown = values_in rows (codes "shown");
   timelines = values_in rows (codes "timeline");
+  dumps = values_in rows (codes "dump");
 }
 
 -- the same behind the references of the code
@@ -64,4 +65,5 @@ given_view g = record {
   states = texts g.states.now;
   shown = texts g.shown.now;
   timelines = texts g.timelines.now;
+  dumps = texts g.dumps.now;
 }

@@ -1,6 +1,6 @@
--- Computed rows. Words of the command `explore`, and the options that are its own. And the words of a run with a timeline.
+-- Computed rows. Words of the command `explore`, and the options that are its own. And the words of a run with a timeline or a dump.
 use Rattle.std.specs.Prelude.{◌≡◌, [], ◌∷◌, Some, None, codes, refl}
-use Rattle.edi_words.specs.Words.{command_of, explore, file, nowhere, run, seed, time, time_code, time_demo}
+use Rattle.edi_words.specs.Words.{command_of, demo_with, dump, exec_with, explore, file, nowhere, run, run_with, seed, timeline}
 
 pub what_is_not_given : command_of (codes "explore" ∷ codes "p" ∷ []) ≡ Some (explore (codes "p") (record {
   states = 1000000;
@@ -74,19 +74,19 @@ others_are_taken = refl
 
 -- the place of the option among the words does not matter
 pub timed_run : command_of (codes "--timeline" ∷ codes "t" ∷ codes "run" ∷ codes "p" ∷ codes "--record" ∷ codes "r" ∷ [])
-    ≡ Some (time (codes "p") (codes "t") (record { turns = 1000000; choices = nowhere; record_file = Some (codes "r") }))
+    ≡ Some (run_with (codes "p") (timeline (codes "t")) (record { turns = 1000000; choices = nowhere; record_file = Some (codes "r") }))
 timed_run = refl
 
 pub timed_replay : command_of (codes "replay" ∷ codes "p" ∷ codes "c" ∷ codes "--timeline" ∷ codes "t" ∷ codes "--turns" ∷ codes "9" ∷ [])
-    ≡ Some (time (codes "p") (codes "t") (record { turns = 9; choices = file (codes "c"); record_file = None }))
+    ≡ Some (run_with (codes "p") (timeline (codes "t")) (record { turns = 9; choices = file (codes "c"); record_file = None }))
 timed_replay = refl
 
 pub timed_code : command_of (codes "exec" ∷ codes "p" ∷ codes "--timeline" ∷ codes "t" ∷ [])
-    ≡ Some (time_code (codes "p") (codes "t") (record { turns = 1000000; choices = nowhere; record_file = None }))
+    ≡ Some (exec_with (codes "p") (timeline (codes "t")) (record { turns = 1000000; choices = nowhere; record_file = None }))
 timed_code = refl
 
 pub timed_demo : command_of (codes "demo" ∷ codes "5" ∷ codes "--timeline" ∷ codes "t" ∷ codes "--seed" ∷ codes "3" ∷ [])
-    ≡ Some (time_demo 5 (codes "t") (record { turns = 1000000; choices = seed 3; record_file = None }))
+    ≡ Some (demo_with 5 (timeline (codes "t")) (record { turns = 1000000; choices = seed 3; record_file = None }))
 timed_demo = refl
 
 -- its number is in the same range
@@ -116,3 +116,42 @@ not_walk = refl
 
 pub not_boot : command_of (codes "boot" ∷ codes "--timeline" ∷ codes "t" ∷ []) ≡ None
 not_boot = refl
+
+-- ---- a dump
+
+-- it comes where a timeline does
+pub dumped_run : command_of (codes "run" ∷ codes "--dump" ∷ codes "d" ∷ codes "p" ∷ [])
+    ≡ Some (run_with (codes "p") (dump (codes "d")) (record { turns = 1000000; choices = nowhere; record_file = None }))
+dumped_run = refl
+
+pub dumped_replay : command_of (codes "replay" ∷ codes "p" ∷ codes "c" ∷ codes "--dump" ∷ codes "d" ∷ [])
+    ≡ Some (run_with (codes "p") (dump (codes "d")) (record { turns = 1000000; choices = file (codes "c"); record_file = None }))
+dumped_replay = refl
+
+pub dumped_code : command_of (codes "exec" ∷ codes "p" ∷ codes "--dump" ∷ codes "d" ∷ codes "--record" ∷ codes "r" ∷ [])
+    ≡ Some (exec_with (codes "p") (dump (codes "d")) (record { turns = 1000000; choices = nowhere; record_file = Some (codes "r") }))
+dumped_code = refl
+
+pub dumped_demo : command_of (codes "demo" ∷ codes "5" ∷ codes "--dump" ∷ codes "d" ∷ [])
+    ≡ Some (demo_with 5 (dump (codes "d")) (record { turns = 1000000; choices = nowhere; record_file = None }))
+dumped_demo = refl
+
+-- it is given once, with a name, and not beside a timeline
+pub two_dumps : command_of (codes "run" ∷ codes "p" ∷ codes "--dump" ∷ codes "d" ∷ codes "--dump" ∷ codes "d" ∷ []) ≡ None
+two_dumps = refl
+
+pub no_dump : command_of (codes "run" ∷ codes "p" ∷ codes "--dump" ∷ []) ≡ None
+no_dump = refl
+
+pub not_both : command_of (codes "run" ∷ codes "p" ∷ codes "--dump" ∷ codes "d" ∷ codes "--timeline" ∷ codes "t" ∷ []) ≡ None
+not_both = refl
+
+-- no other command takes it
+pub no_dump_of_explore : command_of (codes "explore" ∷ codes "p" ∷ codes "--dump" ∷ codes "d" ∷ []) ≡ None
+no_dump_of_explore = refl
+
+pub no_dump_of_watch : command_of (codes "watch" ∷ codes "p" ∷ codes "s" ∷ codes "l" ∷ codes "--dump" ∷ codes "d" ∷ []) ≡ None
+no_dump_of_watch = refl
+
+pub no_dump_of_boot : command_of (codes "boot" ∷ codes "--dump" ∷ codes "d" ∷ []) ≡ None
+no_dump_of_boot = refl

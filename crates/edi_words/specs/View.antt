@@ -7,6 +7,8 @@ use Rattle.edi_words.specs.Words.{Text}
 use Rattle.edi_words.specs.declared.commands.ChoicesFrom.{ChoicesFrom}
 use Rattle.edi_words.specs.declared.commands.ChoicesFrom.TheVariants as source
 use Rattle.edi_words.specs.declared.commands.Options.{Options}
+use Rattle.edi_words.specs.declared.commands.Account.{Account}
+use Rattle.edi_words.specs.declared.commands.Account.TheVariants as account
 use Rattle.edi_words.specs.declared.commands.ExploreOptions.{ExploreOptions}
 use Rattle.edi_words.specs.declared.commands.Command.{Command}
 use Rattle.edi_words.specs.declared.commands.Command.TheVariants as command
@@ -26,6 +28,10 @@ options_of o = record {
   choices = choices_from o.choices;
   record_file = option_map (λ name. name.now) o.record_file;
 }
+
+abbrev pub account_of : Account → words.Account
+account_of (account.Timeline out) = words.timeline out.now
+account_of (account.Dump out) = words.dump out.now
 
 abbrev pub exploring_of : ExploreOptions → words.ExploreOptions
 exploring_of o = record {
@@ -51,9 +57,9 @@ view (command.Explain file) = words.explain file.now
 view (command.Walk file choices turns) = words.walk file.now choices.now turns
 view (command.Watch file stops out options) = words.watch file.now stops.now out.now (options_of options)
 view (command.Explore file options) = words.explore file.now (exploring_of options)
-view (command.Time file out options) = words.time file.now out.now (options_of options)
-view (command.TimeCode file out options) = words.time_code file.now out.now (options_of options)
-view (command.TimeDemo n out options) = words.time_demo n out.now (options_of options)
+view (command.RunWith file account options) = words.run_with file.now (account_of account) (options_of options)
+view (command.ExecWith file account options) = words.exec_with file.now (account_of account) (options_of options)
+view (command.DemoWith n account options) = words.demo_with n (account_of account) (options_of options)
 
 -- Titles are titles, and numbers are in their ranges.
 abbrev pub IsInRange : Command → Type 0
@@ -61,5 +67,5 @@ IsInRange (command.NewDisk blocks old) = (64 ≤ blocks) × (blocks ≤ 4096)
 IsInRange (command.Put file title) = is_title title.now ≡ true
 IsInRange (command.Get title file) = is_title title.now ≡ true
 IsInRange (command.Demo n options) = (1 ≤ n) × (n ≤ 1000)
-IsInRange (command.TimeDemo n out options) = (1 ≤ n) × (n ≤ 1000)
+IsInRange (command.DemoWith n account options) = (1 ≤ n) × (n ≤ 1000)
 IsInRange _ = ⊤

@@ -24,6 +24,11 @@ pub record Options : Type 0 where
   pub choices : ChoicesFrom
   pub record_file : Option (List ℕ)
 
+-- what is kept of a run beside its record: a timeline of its stints, or a dump, which tells who stands where at its end; and under which name
+pub data Account : Type 0 where
+  timeline : (out : List ℕ) → Account
+  dump : (out : List ℕ) → Account
+
 -- how an exploration is to go: how many states are kept, how many turns a stint may have, and the name of the files that are to keep the choices
 -- of its endings; and how many endings are told, if those with other output are others
 pub record ExploreOptions : Type 0 where
@@ -48,11 +53,10 @@ pub data Command : Type 0 where
   walk : (file choices : List ℕ) → (turns : ℕ) → Command
   watch : (file stops out : List ℕ) → Options → Command
   explore : (file : List ℕ) → ExploreOptions → Command
-  -- a run with a timeline: `run FILE --timeline OUT` and `replay FILE CHOICES --timeline OUT`, and `exec CODEFILE --timeline OUT`
-  time : (file out : List ℕ) → Options → Command
-  time_code : (file out : List ℕ) → Options → Command
-  -- and `demo N --timeline OUT`
-  time_demo : (n : ℕ) → (out : List ℕ) → Options → Command
+  -- a run with an account (`--timeline OUT` or `--dump OUT`): `run FILE` and `replay FILE CHOICES`, `exec CODEFILE`, and `demo N`
+  run_with : (file : List ℕ) → Account → Options → Command
+  exec_with : (file : List ℕ) → Account → Options → Command
+  demo_with : (n : ℕ) → Account → Options → Command
 
 -- ---- operands and options
 
@@ -69,7 +73,7 @@ is_plain (b ∷ more) = not (b == 45)
 abbrev pub option_names : List Text
 option_names =
     codes "--turns" ∷ codes "--choices" ∷ codes "--seed" ∷ codes "--record" ∷ codes "--from" ∷ codes "--states" ∷ codes "--shown"
-    ∷ codes "--timeline" ∷ []
+    ∷ codes "--timeline" ∷ codes "--dump" ∷ []
 
 abbrev pub is_option_name : Text → Bool
 is_option_name word = list_any (bytes_eq word) option_names
@@ -111,6 +115,7 @@ pub record Given : Type 0 where
   pub states : List (List ℕ)
   pub shown : List (List ℕ)
   pub timelines : List (List ℕ)
+  pub dumps : List (List ℕ)
 
 abbrev pub given_of : List Part → Given
 given_of parts = record {
@@ -123,12 +128,13 @@ given_of parts = record {
   states = values_of (codes "--states") parts;
   shown = values_of (codes "--shown") parts;
   timelines = values_of (codes "--timeline") parts;
+  dumps = values_of (codes "--dump") parts;
 }
 
 abbrev pub at_most : ℕ → List Text → Bool
 at_most n values = nat_le (length values) n
 
--- The options but for `--states`, `--shown` and `--timeline` are only those that a command takes: `--turns` at most so many times, `--choices`,
+-- The options but for `--states`, `--shown`, `--timeline` and `--dump` are only those that a command takes: `--turns` at most so many times, `--choices`,
 -- `--seed` and `--record` each at most so many times, and `--from` at most so many times. No command takes one twice.
 abbrev pub takes : (turns others from : ℕ) → Given → Bool
 takes turns others from g =
@@ -323,27 +329,33 @@ named name operands g =
     if bytes_eq name (codes "explore") then option_map (λ p. explore p.0 p.1) (explored_file operands g)
     else (if has_no_exploring g then named_plain name operands g else None)
 
--- The command with a timeline of this name. Only runs of one program have one; a replay is then a run with the choices of its file.
-abbrev pub timed : (out : Text) → Command → Option Command
-timed out (run file_ o) = Some (time file_ out o)
-timed out (replay file_ choices turns) = Some (time file_ out (record { turns = turns; choices = file choices; record_file = None }))
-timed out (exec file_ o) = Some (time_code file_ out o)
-timed out (demo n o) = Some (time_demo n out o)
-timed out c = None
+-- The command with this account. Only runs of one program have one; a replay is then a run with the choices of its file.
+abbrev pub accounted : Account → Command → Option Command
+accounted account (run file_ o) = Some (run_with file_ account o)
+accounted account (replay file_ choices turns) = Some (run_with file_ account (record { turns = turns; choices = file choices; record_file = None }))
+accounted account (exec file_ o) = Some (exec_with file_ account o)
+accounted account (demo n o) = Some (demo_with n account o)
+accounted account c = None
 
-abbrev pub named_timed : (out name : Text) → List Text → Given → Option Command
-named_timed out name operands g = option_and_then (timed out) (named name operands g)
+abbrev pub named_with : Account → (name : Text) → List Text → Given → Option Command
+named_with account name operands g = option_and_then (accounted account) (named name operands g)
 
--- `--timeline` is not given
-abbrev pub has_no_timeline : Given → Bool
-has_no_timeline g = at_most 0 g.timelines
+-- neither `--timeline` nor `--dump` is given
+abbrev pub has_no_account : Given → Bool
+has_no_account g = at_most 0 g.timelines && at_most 0 g.dumps
 
--- The first operand names the command, the others are its own. `--timeline` is given at most once.
+-- the account, where just one is asked for
+abbrev pub account_by : (timelines dumps : List Text) → Option Account
+account_by [] dumps = option_map dump (one_operand dumps)
+account_by (out ∷ more) [] = option_map timeline (one_operand (out ∷ more))
+account_by (out ∷ more) (other ∷ others) = None
+
+-- The first operand names the command, the others are its own. `--timeline` and `--dump` exclude each other, and are given at most once.
 abbrev pub command_by : List Text → Given → Option Command
 command_by [] g = None
 command_by (name ∷ operands) g =
-    if has_no_timeline g then named name operands g
-    else option_and_then (λ out. named_timed out name operands g) (one_operand g.timelines)
+    if has_no_account g then named name operands g
+    else option_and_then (λ account. named_with account name operands g) (account_by g.timelines g.dumps)
 
 abbrev pub command_in : Given → Option Command
 command_in g = command_by g.operands g

@@ -22,6 +22,15 @@ pub struct Options<'a> {
     pub record_file: Option<&'a str>,
 }
 
+/// What is kept of a run beside its record, and under which name.
+#[derive(Clone, Copy, PartialEq, Eq)]
+pub enum Account<'a> {
+    /// A timeline of its stints, as lines and as a picture.
+    Timeline(&'a str),
+    /// A dump: who stands where at its end.
+    Dump(&'a str),
+}
+
 /// How an exploration is to go.
 #[derive(Clone, Copy, PartialEq, Eq)]
 pub struct ExploreOptions<'a> {
@@ -113,22 +122,22 @@ pub enum Command<'a> {
         file: &'a str,
         options: ExploreOptions<'a>,
     },
-    /// `run FILE --timeline OUT` and `replay FILE CHOICES --timeline OUT`: runs the program of a text and keeps a timeline.
-    Time {
+    /// `run FILE` and `replay FILE CHOICES` with `--timeline OUT` or `--dump OUT`: runs the program of a text and keeps an account of the run.
+    RunWith {
         file: &'a str,
-        out: &'a str,
+        account: Account<'a>,
         options: Options<'a>,
     },
-    /// `exec CODEFILE --timeline OUT`: runs the program of a code file and keeps a timeline.
-    TimeCode {
+    /// `exec CODEFILE` with one of these: runs the program of a code file and keeps an account of the run.
+    ExecWith {
         file: &'a str,
-        out: &'a str,
+        account: Account<'a>,
         options: Options<'a>,
     },
-    /// `demo N --timeline OUT`: runs a text of this number of procedures, 1 to 1000, and keeps a timeline.
-    TimeDemo {
+    /// `demo N` with one of these: runs a text of this number of procedures, 1 to 1000, and keeps an account of the run.
+    DemoWith {
         n: u16,
-        out: &'a str,
+        account: Account<'a>,
         options: Options<'a>,
     },
 }

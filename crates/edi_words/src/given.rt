@@ -2,10 +2,11 @@
 
 ghost use Rattle.std.specs.Prelude.{◌≡◌, ◌≤◌, IfSome, option_map};
 ghost use Rattle.edi_words.specs.Words as words;
-ghost use Rattle.edi_words.specs.View.{choices_from, exploring_of, options_of, texts};
+ghost use Rattle.edi_words.specs.View.{account_of, choices_from, exploring_of, options_of, texts};
 ghost use Rattle.edi_words.specs.Inside.{given_view};
 
-use crate::commands::{ChoicesFrom, ExploreOptions, Options};
+use crate::commands::{Account, ChoicesFrom, ExploreOptions, Options};
+use crate::operands::one_operand;
 
 /// The operands, and the values of each option, in the order of the words.
 #[derive(Clone, Copy)]
@@ -19,6 +20,7 @@ pub(crate) struct Given<'m, 'a> {
     pub(crate) states: &'m [&'a str],
     pub(crate) shown: &'m [&'a str],
     pub(crate) timelines: &'m [&'a str],
+    pub(crate) dumps: &'m [&'a str],
 }
 
 fn are_digits(word: &[u8]) -> bool
@@ -107,8 +109,8 @@ fn at_most(most: usize, values: &[&str]) -> bool
 }
 
 impl<'m, 'a> Given<'m, 'a> {
-    /// Whether of the options but for `--states`, `--shown` and `--timeline` only these are given, each at most so many times: `--turns`;
-    /// `--choices`, `--seed` and `--record`; and `--from`.
+    /// Whether of the options but for `--states`, `--shown`, `--timeline` and `--dump` only these are given, each at most so many times:
+    /// `--turns`; `--choices`, `--seed` and `--record`; and `--from`.
     pub(crate) fn takes(&self, turns: usize, others: usize, from: usize) -> bool
         ensures { result ≡ words.takes turns others from (given_view self.now) }
     {
@@ -126,11 +128,26 @@ impl<'m, 'a> Given<'m, 'a> {
         at_most(0, self.states) && at_most(0, self.shown)
     }
 
-    /// Whether `--timeline` is not given.
-    pub(crate) fn has_no_timeline(&self) -> bool
-        ensures { result ≡ words.has_no_timeline (given_view self.now) }
+    /// Whether neither `--timeline` nor `--dump` is given.
+    pub(crate) fn has_no_account(&self) -> bool
+        ensures { result ≡ words.has_no_account (given_view self.now) }
     {
-        at_most(0, self.timelines)
+        at_most(0, self.timelines) && at_most(0, self.dumps)
+    }
+
+    /// The account, where just one is asked for.
+    pub(crate) fn account(&self) -> Option<Account<'a>>
+        ensures { option_map account_of result ≡ words.account_by (texts self.now.timelines.now) (texts self.now.dumps.now) }
+    {
+        if self.timelines.is_empty() {
+            let out = one_operand(self.dumps)?;
+            return Some(Account::Dump(out));
+        }
+        if !self.dumps.is_empty() {
+            return None;
+        }
+        let out = one_operand(self.timelines)?;
+        Some(Account::Timeline(out))
     }
 
     /// Whether only `--states`, `--shown`, `--turns` and `--record` are given, each at most once.

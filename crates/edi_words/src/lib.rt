@@ -8,5 +8,5 @@ mod parser;
 mod rows;
 mod table;
 
-pub use commands::{ChoicesFrom, Command, ExploreOptions, Options};
+pub use commands::{Account, ChoicesFrom, Command, ExploreOptions, Options};
 pub use parser::command;

@@ -37,6 +37,7 @@ fn is_option_name(word: &str) -> bool
         || word == "--states"
         || word == "--shown"
         || word == "--timeline"
+        || word == "--dump"
 }
 
 /// Whether the words are operands and options, each with its value.
@@ -90,6 +91,7 @@ fn parser<'a>(alloc: Global) -> Result<clap::Command<'a>, AllocError>
         .arg(option_of(alloc, "states"))?
         .arg(option_of(alloc, "shown"))?
         .arg(option_of(alloc, "timeline"))?
+        .arg(option_of(alloc, "dump"))?
         .arg(operands_of(alloc))
 }
 
@@ -115,6 +117,7 @@ fn given<'m, 'a>(matches: &'m ArgMatches<'a>, none: &'m [&'a str]) -> Given<'m, 
         states: values(matches, none, "states"),
         shown: values(matches, none, "shown"),
         timelines: values(matches, none, "timeline"),
+        dumps: values(matches, none, "dump"),
     }
 }
 

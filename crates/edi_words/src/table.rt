@@ -2,12 +2,11 @@
 
 ghost use Rattle.std.specs.Prelude.{◌≡◌, IfSome, option_map};
 ghost use Rattle.edi_words.specs.Words as words;
-ghost use Rattle.edi_words.specs.View.{texts, view, IsInRange};
+ghost use Rattle.edi_words.specs.View.{account_of, texts, view, IsInRange};
 ghost use Rattle.edi_words.specs.Inside.{given_view};
 
-use crate::commands::{ChoicesFrom, Command, Options};
+use crate::commands::{Account, ChoicesFrom, Command, Options};
 use crate::given::Given;
-use crate::operands::one_operand;
 use crate::rows::{
     bare_run, explored_file, file_run, get_file, guided_run, new_disk, only_file, only_files,
     put_file, sized_run, watched_run,
@@ -233,45 +232,57 @@ fn named<'a>(name: &str, operands: &[&'a str], given: &Given<'_, 'a>) -> Option<
     named_plain(name, operands, given)
 }
 
-/// The command with a timeline of this name, if it runs one program.
-fn timed<'a>(out: &'a str, command: Command<'a>) -> Option<Command<'a>>
+/// The command with this account, if it runs one program.
+fn accounted<'a>(account: Account<'a>, command: Command<'a>) -> Option<Command<'a>>
     requires range { IsInRange command }
-    ensures exact { option_map view result ≡ words.timed out.entry.now (view command.entry) }
+    ensures exact { option_map view result ≡ words.accounted (account_of account.entry) (view command.entry) }
     ensures range { IfSome result IsInRange }
 {
     match command {
-        Command::Run { file, options } => Some(Command::Time { file, out, options }),
+        Command::Run { file, options } => Some(Command::RunWith {
+            file,
+            account,
+            options,
+        }),
         Command::Replay {
             file,
             choices,
             turns,
-        } => Some(Command::Time {
+        } => Some(Command::RunWith {
             file,
-            out,
+            account,
             options: Options {
                 turns,
                 choices: ChoicesFrom::File(choices),
                 record_file: None,
             },
         }),
-        Command::Exec { file, options } => Some(Command::TimeCode { file, out, options }),
-        Command::Demo { n, options } => Some(Command::TimeDemo { n, out, options }),
+        Command::Exec { file, options } => Some(Command::ExecWith {
+            file,
+            account,
+            options,
+        }),
+        Command::Demo { n, options } => Some(Command::DemoWith {
+            n,
+            account,
+            options,
+        }),
         _ => None,
     }
 }
 
-/// The command of this name with a timeline.
-fn named_timed<'a>(
-    out: &'a str,
+/// The command of this name with this account.
+fn named_with<'a>(
+    account: Account<'a>,
     name: &str,
     operands: &[&'a str],
     given: &Given<'_, 'a>,
 ) -> Option<Command<'a>>
-    ensures exact { option_map view result ≡ words.named_timed out.entry.now name.now (texts operands.now) (given_view given.now) }
+    ensures exact { option_map view result ≡ words.named_with (account_of account.entry) name.now (texts operands.now) (given_view given.now) }
     ensures range { IfSome result IsInRange }
 {
     let command = named(name, operands, given)?;
-    timed(out, command)
+    accounted(account, command)
 }
 
 /// The command that the operands and options are: the first operand is its name.
@@ -280,9 +291,9 @@ pub(crate) fn command_in<'a>(given: &Given<'_, 'a>) -> Option<Command<'a>>
     ensures range { IfSome result IsInRange }
 {
     let (name, operands) = given.operands.split_first()?;
-    if given.has_no_timeline() {
+    if given.has_no_account() {
         return named(name, operands, given);
     }
-    let out = one_operand(given.timelines)?;
-    named_timed(out, name, operands, given)
+    let account = given.account()?;
+    named_with(account, name, operands, given)
 }

@@ -9,16 +9,16 @@ use std::io::IsTerminal;
 const USAGES: [(&str, &str); 15] = [
     (
         "run",
-        "run FILE [--turns N] [--choices FILE | --seed N] [--record FILE] [--timeline NAME]",
+        "run FILE [--turns N] [--choices FILE | --seed N] [--record FILE] [--timeline NAME | --dump NAME]",
     ),
     (
         "replay",
-        "replay FILE CHOICES [--turns N] [--timeline NAME]",
+        "replay FILE CHOICES [--turns N] [--timeline NAME | --dump NAME]",
     ),
     ("compile", "compile FILE OUT"),
     (
         "exec",
-        "exec CODEFILE [--turns N] [--choices FILE | --seed N] [--record FILE] [--timeline NAME]",
+        "exec CODEFILE [--turns N] [--choices FILE | --seed N] [--record FILE] [--timeline NAME | --dump NAME]",
     ),
     ("list", "list CODEFILE"),
     ("check", "check FILE"),
@@ -37,7 +37,7 @@ const USAGES: [(&str, &str); 15] = [
     ("get", "get TITLE FILE"),
     (
         "demo",
-        "demo N [--turns N] [--choices FILE | --seed N] [--record FILE] [--timeline NAME]",
+        "demo N [--turns N] [--choices FILE | --seed N] [--record FILE] [--timeline NAME | --dump NAME]",
     ),
     (
         "boot",
@@ -113,13 +113,15 @@ fn has_source(asked: Asked<'_>) -> bool {
     asked.command == "run" || asked.command == "replay"
 }
 
-/// Shows which command tells who waits where after a run that stands still.
-fn show_explore(rt: &HostRuntime, asked: Asked<'_>) {
+/// Shows what tells more of a run that stands still: of one that has its source also a command.
+fn show_standstill(rt: &HostRuntime, asked: Asked<'_>) {
     let file = asked.file;
     if has_source(asked) {
         let _ = eprintln!(rt;
-            "edison explore {file} says who waits where; --timeline NAME keeps a picture of the run"
+            "--dump NAME keeps who waits where, with all variables, --timeline NAME a picture; edison explore {file} shows all endings"
         );
+    } else if asked.command == "exec" {
+        let _ = eprintln!(rt; "--dump NAME keeps who waits where, --timeline NAME a picture");
     }
 }
 
@@ -150,7 +152,7 @@ fn show_watch(rt: &HostRuntime, asked: Asked<'_>, more: &str) {
     let file = asked.file;
     if has_source(asked) {
         let _ = eprintln!(rt;
-            "--timeline NAME keeps a picture of the run; edison watch {file} STOPS OUT logs what variables hold{more}"
+            "--dump NAME keeps the calls and variables at the end, --timeline NAME a picture; edison watch {file} STOPS OUT logs variables{more}"
         );
     }
 }
@@ -178,7 +180,7 @@ pub(crate) fn show(rt: &HostRuntime, words: &[String], status: Status) {
         }
         Status::Stopped(Cause::Halt, _) => {}
         Status::Stopped(_, _) => show_watch(rt, asked, ""),
-        Status::Standstill => show_explore(rt, asked),
+        Status::Standstill => show_standstill(rt, asked),
         Status::Absent => show_absent(rt, asked),
         Status::BadCode(_) => show_code(rt, asked),
         Status::Turns => show_turns(rt, asked),

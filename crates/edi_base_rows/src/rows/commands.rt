@@ -1,6 +1,6 @@
 //! Words that the code reads.
 
-use edi_words::{ChoicesFrom, Command, Options, command};
+use edi_words::{Account, ChoicesFrom, Command, Options, command};
 use std::alloc::{AllocError, Global};
 use std::process::Abort;
 
@@ -20,7 +20,7 @@ fn is_refused(alloc: Global, line: &str) -> Option<bool> {
     Some(found.is_none())
 }
 
-const REFUSED: [&str; 15] = [
+const REFUSED: [&str; 17] = [
     "run",
     "--version",
     "run a --turns=5",
@@ -36,6 +36,8 @@ const REFUSED: [&str; 15] = [
     "watch a b c --timeline d",
     "explore a --timeline b",
     "demo 0 --timeline a",
+    "run a --dump b --timeline c",
+    "boot --dump a",
 ];
 
 fn are_refused(rt: &impl Abort, alloc: Global, table: &[&str]) {
@@ -75,9 +77,9 @@ fn a_timeline(rt: HostRuntime) {
         choices: ChoicesFrom::File("c"),
         record_file: None,
     };
-    let expected = Command::Time {
+    let expected = Command::RunWith {
         file: "a",
-        out: "t",
+        account: Account::Timeline("t"),
         options,
     };
     let line = "replay a --timeline t c --turns 9";
@@ -85,18 +87,18 @@ fn a_timeline(rt: HostRuntime) {
 }
 
 #[test]
-fn a_timeline_of_a_demonstration(rt: HostRuntime) {
+fn a_dump_of_a_demonstration(rt: HostRuntime) {
     let options = Options {
         turns: 1_000_000,
         choices: ChoicesFrom::Seed(3),
         record_file: Some("r"),
     };
-    let expected = Command::TimeDemo {
+    let expected = Command::DemoWith {
         n: 1000,
-        out: "t",
+        account: Account::Dump("d"),
         options,
     };
-    let line = "demo 1000 --record r --timeline t --seed 3";
+    let line = "demo 1000 --record r --dump d --seed 3";
     assert!(rt; is_command(rt.alloc(), line, expected) == Some(true));
 }
 

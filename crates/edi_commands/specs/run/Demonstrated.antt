@@ -3,28 +3,25 @@ use Rattle.std.specs.Prelude.{◌≡◌, ℕ, Bool, true, false, List, [], Optio
 use Rattle.edi_host.specs.Contents.{Contents}
 use Rattle.edi_calls.specs.Choice.{Choices}
 use Rattle.edi_lex.specs.Symbols.{symbols_of}
-use Rattle.edi_target.specs.Check.{CodeParts}
-use Rattle.edi_timed.specs.on.Timelines.{IsOf}
 use Rattle.edi_utils.specs.Demo.{demo_text}
 use Rattle.edi_words.specs.Words as words
-use Rattle.edi_words.specs.Words.{Command, Options}
+use Rattle.edi_words.specs.Words.{Account, Command, Options}
 use Rattle.edi_statuses.specs.declared.status.Status.{Status}
 use Rattle.edi_statuses.specs.declared.status.Status.TheVariants as status
 use Rattle.edi_statuses.specs.Counts.{HasCause, counts_with}
 use Rattle.edi_statuses.specs.Outside.{Lent, outside_with}
 use Rattle.edi_statuses.specs.Commands.{count_in}
 use Rattle.edi_statuses.specs.Decided.{Came}
-use Rattle.edi_statuses.specs.Executions.{text}
-use Rattle.edi_statuses.specs.Timelines.{timable}
-use Rattle.edi_commands.specs.run.OnTimed.{RanWith}
+use Rattle.edi_statuses.specs.Executions.{Runnable, text}
+use Rattle.edi_commands.specs.run.OnAccounts.{IsGiven, RanWith}
 use Rattle.edi_commands.specs.declared.run.demonstration.Demo.{Demo}
 
 -- ---- for callers
 
--- with a timeline, or without one
-abbrev pub demo_with : (n : ℕ) → (timeline : Option (List ℕ)) → Options → Command
+-- with an account, or without one
+abbrev pub demo_with : (n : ℕ) → (account : Option Account) → Options → Command
 demo_with n None o = words.demo n o
-demo_with n (Some out) o = words.time_demo n out o
+demo_with n (Some account) o = words.demo_with n account o
 
 -- A command that leaves the drive and the input alone came to this status, whatever these are.
 abbrev pub CameAlone : Command → Status → (due : Bool) → (old new : Option Contents) → (taken takes printed prints : Option (List ℕ)) → Lent → Type 0
@@ -45,13 +42,13 @@ is_ok s = false
 
 -- the code of the demonstration and the number of its symbols; its text is never refused, but memory may be wanting
 abbrev pub DemoStep : (n : ℕ) → Result Demo Status → Type 0
-DemoStep n (Ok demo) = IsOf (timable (text (demo_text n))) demo.code × (demo.symbols ≡ count_in (symbols_of (demo_text n)))
+DemoStep n (Ok demo) = IsGiven (Some demo.text.items) demo.code (text (demo_text n)) × (demo.symbols ≡ count_in (symbols_of (demo_text n)))
 DemoStep n (Err s) = s ≡ status.NoMemory
 
 -- The code was run without a disk and on an empty input of its own.
-pub record RanAlone (timeline : Option (List ℕ)) (parts : CodeParts) (bound : ℕ) (choices : Choices) (name : Option (List ℕ)) (s : Status) (due : Bool)
+pub record RanAlone (account : Option Account) (IsIt : Runnable → Type 0) (bound : ℕ) (choices : Choices) (name : Option (List ℕ)) (s : Status) (due : Bool)
     (old new : Option Contents) (taken takes printed prints : Option (List ℕ)) (kernel : Lent) : Type 0 where
   pub disk : List (List ℕ)
   pub left : List ℕ
-  pub ran : RanWith timeline parts bound choices name s due (outside_with old (Some []) (Some []) taken printed)
+  pub ran : RanWith account IsIt bound choices name s due (outside_with old (Some []) (Some []) taken printed)
       (outside_with new (Some disk) (Some left) takes prints) kernel

@@ -9,7 +9,7 @@ use Rattle.edi_unit.specs.Tree.{ProgramUnit}
 use Rattle.edi_unit.specs.View.{unit_of}
 use Rattle.edi_unit.specs.declared.units.Unit.{Unit}
 use Rattle.edi_words.specs.Words as words
-use Rattle.edi_words.specs.Words.{Command, Options}
+use Rattle.edi_words.specs.Words.{Account, Command, Options}
 use Rattle.edi_statuses.specs.declared.status.Status.{Status}
 use Rattle.edi_statuses.specs.declared.status.Status.TheVariants as status
 use Rattle.edi_statuses.specs.Steps.{Accepts, stops}
@@ -24,20 +24,25 @@ abbrev pub command_with : Form → (file : List ℕ) → Options → Command
 command_with form.Text file o = words.run file o
 command_with form.Code file o = words.exec file o
 
--- so where the timeline is kept
-abbrev pub timed_with : Form → (file out : List ℕ) → Options → Command
-timed_with form.Text file out o = words.time file out o
-timed_with form.Code file out o = words.time_code file out o
+-- so where an account of the run is kept
+abbrev pub account_with : Form → (file : List ℕ) → Account → Options → Command
+account_with form.Text file account o = words.run_with file account o
+account_with form.Code file account o = words.exec_with file account o
 
--- with a name for the timeline, or without one
-abbrev pub command_for : Form → (timeline : Option (List ℕ)) → (file : List ℕ) → Options → Command
+-- with an account, or without one
+abbrev pub command_for : Form → (account : Option Account) → (file : List ℕ) → Options → Command
 command_for f None file o = command_with f file o
-command_for f (Some out) file o = timed_with f file out o
+command_for f (Some account) file o = account_with f file account o
 
 -- as many bytes as decide what the file is
 abbrev pub limit_of : Form → ℕ
 limit_of form.Text = texts.most_fetched
 limit_of form.Code = codes.most_fetched
+
+-- the text of a file, if it has one
+abbrev pub text_given : Form → (bytes : List ℕ) → Option (List ℕ)
+text_given form.Text bytes = Some bytes
+text_given form.Code bytes = None
 
 -- ---- the steps
 

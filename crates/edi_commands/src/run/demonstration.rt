@@ -1,21 +1,22 @@
-//! `demo N`: the program of the demonstration, with a timeline or without one.
+//! `demo N`: the program of the demonstration, with an account of the run or without one.
 
-ghost use Rattle.std.specs.Prelude.{◌≡◌, ◌≤◌, ◌++◌, IfOk, ⊤, None, false, true, option_map};
+ghost use Rattle.std.specs.Prelude.{◌≡◌, ◌≤◌, ◌++◌, IfOk, ⊤, None, Some, false, true, option_map};
 ghost use Rattle.edi_told.specs.Faults.{CountRose};
 ghost use Rattle.edi_told.specs.Told.{WhereTold};
 ghost use Rattle.edi_lex.specs.Symbols.{symbols_of};
 ghost use Rattle.edi_utils.specs.Demo.{demo_line};
-ghost use Rattle.edi_words.specs.View.{options_of};
+ghost use Rattle.edi_words.specs.View.{account_of, options_of};
 ghost use Rattle.edi_statuses.specs.Commands.{count_in};
 ghost use Rattle.edi_statuses.specs.Lines.{feed};
 ghost use Rattle.edi_statuses.specs.EachObject.{is_before_drive, uses_files};
 ghost use Rattle.edi_statuses.specs.Outside.{lent};
 ghost use Rattle.edi_statuses.specs.Showing.{ShowsBytes};
 ghost use Rattle.edi_commands.specs.run.Blaming.{Blaming};
+ghost use Rattle.edi_commands.specs.run.OnAccounts.{IsGiven};
 ghost use Rattle.edi_commands.specs.run.Demonstrated.{CameAlone, DemoStep, HasCauseAlone, RanAlone, demo_with, is_ok};
 
+use crate::run::accounts::run_with;
 use crate::run::texts::code_of_text;
-use crate::run::timing::run_with;
 use crate::steps::{read_from, stopped};
 use arrayvec::ArrayString;
 use edi_host::{Files, Sink, SteadyDrive, SteadySource};
@@ -25,14 +26,15 @@ use edi_statuses::{Ended, Status, show_bytes};
 use edi_target::Code;
 use edi_trace::Choices;
 use edi_utils::demo;
-use edi_words::Options;
+use edi_words::{Account, Options};
 use itoa::Buffer;
 use std::alloc::{AllocError, Global};
 
-/// The code of the demonstration, and the number of the symbols of its text.
+/// The code of the demonstration, its text, and the number of the symbols of that.
 #[derive(Drop)]
 pub(crate) struct Demo {
     pub(crate) code: Code,
+    pub(crate) text: Vec<u8>,
     pub(crate) symbols: usize,
 }
 
@@ -57,19 +59,25 @@ fn demo_code(alloc: Global, n: u32) -> Result<Demo, Status>
 {
     let text = demo(alloc, n)?;
     let symbols = count_symbols(alloc, &text)?;
-    match code_of_text(alloc, &text) {
-        Ok(code) => Ok(Demo { code, symbols }),
-        Err(status) => Err(status),
-    }
+    let code = match code_of_text(alloc, &text) {
+        Ok(code) => code,
+        Err(status) => return Err(status),
+    };
+    Ok(Demo {
+        code,
+        text,
+        symbols,
+    })
 }
 
-/// Runs the code without a disk and on an empty input of its own, and keeps the record of the choices that it drew and its timeline, each if
+/// Runs the code of this text without a disk and on an empty input of its own, and keeps the record of the choices that it drew and an account of the run, each if
 /// there is to be one.
 fn run_alone<F: Files, T: Sink, P: Sink>(
     alloc: Global,
     code: &Code,
+    text: &[u8],
     turns: u32,
-    timeline: Option<&str>,
+    account: Option<Account<'_>>,
     record_file: Option<&str>,
     choices: &mut Choices,
     files: &mut F,
@@ -79,7 +87,7 @@ fn run_alone<F: Files, T: Sink, P: Sink>(
 ) -> Ended
     requires none_drawn { choices.old.drawn ≡ 0 }
     ensures ran { Blaming result.status (T.faults terminal.old) (T.faults terminal.new) (P.faults printer.old) (P.faults printer.new)
-        (RanAlone (option_map (λ name. name.now) timeline.entry) code.now turns choices.old.source
+        (RanAlone (option_map account_of account.entry) (IsGiven (Some text.now) code.now) turns choices.old.source
         (option_map (λ name. name.now) record_file.entry) result.status result.due
         (F.contents files.old) (F.contents files.new) (T.taken terminal.old) (T.taken terminal.new) (P.taken printer.old) (P.taken printer.new))
         (lent kernel.old.store kernel.old.used kernel.new.store kernel.new.used) }
@@ -89,7 +97,7 @@ fn run_alone<F: Files, T: Sink, P: Sink>(
     ensures later_files { F.faults files.old ≤ F.faults files.new }
     ensures later_terminal { T.faults terminal.old ≤ T.faults terminal.new }
     ensures later_printer { P.faults printer.old ≤ P.faults printer.new }
-    ensures untouched { timeline.entry ≡ None → record_file.entry ≡ None → files.new ≡ files.old }
+    ensures untouched { account.entry ≡ None → record_file.entry ≡ None → files.new ≡ files.old }
     ensures asked { is_before_drive result.status ≡ false }
 {
     let Ok(mut disk) = SteadyDrive::new(alloc, &[]) else {
@@ -101,8 +109,9 @@ fn run_alone<F: Files, T: Sink, P: Sink>(
     run_with(
         alloc,
         code,
+        Some(text),
         turns,
-        timeline,
+        account,
         record_file,
         choices,
         files,
@@ -154,14 +163,14 @@ fn is_ok(status: Status) -> bool
 }
 
 /// `demo N`: reads the choices, compiles the text of the demonstration with `n` procedures, 1 to 1000, runs it without a disk and on
-/// an empty input, keeps the record, and, where the program has come to its end, shows the line `demo N symbols S turns T`. With a name for it
-/// the timeline is kept too, after the record and before the line is shown.
+/// an empty input, keeps the record, and, where the program has come to its end, shows the line `demo N symbols S turns T`. If one is
+/// asked for, an account of the run is kept too, after the record and before the line is shown.
 ///
 /// The drive and the input are left alone, whatever they are. All else is as for `run`.
 pub fn demonstrate<F: Files, T: Sink, P: Sink>(
     alloc: Global,
     n: u32,
-    timeline: Option<&str>,
+    account: Option<Account<'_>>,
     options: Options<'_>,
     files: &mut F,
     terminal: &mut T,
@@ -171,7 +180,7 @@ pub fn demonstrate<F: Files, T: Sink, P: Sink>(
     requires some { 1 ≤ n }
     requires many { n ≤ 1000 }
     ensures came { Blaming result.status (T.faults terminal.old) (T.faults terminal.new) (P.faults printer.old) (P.faults printer.new)
-        (CameAlone (demo_with n (option_map (λ name. name.now) timeline.entry) (options_of options.entry)) result.status result.due
+        (CameAlone (demo_with n (option_map account_of account.entry) (options_of options.entry)) result.status result.due
         (F.contents files.old) (F.contents files.new) (T.taken terminal.old) (T.taken terminal.new) (P.taken printer.old) (P.taken printer.new))
         (lent kernel.old.store kernel.old.used kernel.new.store kernel.new.used) }
     ensures cause { HasCauseAlone result.status (F.faults files.old) (F.faults files.new) (T.faults terminal.old) (T.faults terminal.new)
@@ -180,7 +189,7 @@ pub fn demonstrate<F: Files, T: Sink, P: Sink>(
     ensures later_terminal { T.faults terminal.old ≤ T.faults terminal.new }
     ensures later_printer { P.faults printer.old ≤ P.faults printer.new }
     // Where no file is named, the files are left alone.
-    ensures no_files { uses_files (demo_with n (option_map (λ name. name.now) timeline.entry) (options_of options.entry)) ≡ false
+    ensures no_files { uses_files (demo_with n (option_map account_of account.entry) (options_of options.entry)) ≡ false
         → files.new ≡ files.old }
     // Where the command stops before it runs anything, no object but the files is touched.
     ensures early { is_before_drive result.status ≡ true
@@ -197,8 +206,9 @@ pub fn demonstrate<F: Files, T: Sink, P: Sink>(
     let ended = run_alone(
         alloc,
         &made.code,
+        &made.text,
         options.turns,
-        timeline,
+        account,
         options.record_file,
         &mut choices,
         files,

@@ -1,22 +1,23 @@
-//! The commands that run the program of a file: `run`, and `replay`, that of a text, `exec` that of a code file; and the same with a timeline.
+//! The commands that run the program of a file: `run`, and `replay`, that of a text, `exec` that of a code file; and the same with an account of the
+//! run.
 
 ghost use Rattle.std.specs.Prelude.{◌≡◌, true, Some, option_map};
-ghost use Rattle.edi_words.specs.View.{options_of};
+ghost use Rattle.edi_words.specs.View.{account_of, options_of};
 ghost use Rattle.edi_statuses.specs.EachObject.{DevicesStay, FitsCount, RunStays, handed, is_at_drive, is_before_drive};
 ghost use Rattle.edi_statuses.specs.Outside.{lent, outside_of};
 ghost use Rattle.edi_statuses.specs.Counts.{counts_of, HasCause, NoneFalls};
 ghost use Rattle.edi_statuses.specs.Decided.{Came};
 ghost use Rattle.edi_commands.specs.run.Blaming.{Blaming};
-ghost use Rattle.edi_commands.specs.run.FileSteps.{CodeStep, command_for, command_with, limit_of, timed_with};
+ghost use Rattle.edi_commands.specs.run.FileSteps.{CodeStep, command_for, command_with, limit_of, account_with, text_given};
 
+use crate::run::accounts::run_with;
 use crate::run::texts::code_of_text;
-use crate::run::timing::run_with;
 use crate::steps::{load_code, open_program, stopped};
 use edi_host::{Drive, Files, Sink, Source};
 use edi_kernel::Kernel;
 use edi_statuses::{Ended, Status};
 use edi_target::Code;
-use edi_words::Options;
+use edi_words::{Account, Options};
 use std::alloc::Global;
 
 /// The form in which a file has its program.
@@ -48,13 +49,23 @@ fn code_of(alloc: Global, form: Form, bytes: &[u8]) -> Result<Code, Status>
     }
 }
 
-/// Runs the program of a file, and keeps its timeline if there is a name for that: fetches the file, reads the choices, compiles the text or loads the
-/// code, mounts the drive, runs, and keeps the record and the timeline, in this order.
+/// The text of a file, if it has one.
+fn text_given(form: Form, bytes: &[u8]) -> Option<&[u8]>
+    ensures exact { option_map (λ text. text.now) result ≡ text_given form bytes.now }
+{
+    match form {
+        Form::Text => Some(bytes),
+        Form::Code => None,
+    }
+}
+
+/// Runs the program of a file, and keeps an account of the run if one is asked for: fetches the file, reads the choices, compiles the text or loads the
+/// code, mounts the drive, runs, and keeps the record and the account, in this order.
 fn run_form<F: Files, D: Drive, S: Source, T: Sink, P: Sink>(
     alloc: Global,
     form: Form,
     file: &str,
-    timeline: Option<&str>,
+    account: Option<Account<'_>>,
     options: Options<'_>,
     files: &mut F,
     drive: &mut D,
@@ -64,7 +75,7 @@ fn run_form<F: Files, D: Drive, S: Source, T: Sink, P: Sink>(
     kernel: &mut Kernel,
 ) -> Ended
     ensures came { Blaming result.status (T.faults terminal.old) (T.faults terminal.new) (P.faults printer.old) (P.faults printer.new)
-        (Came result.status result.due (Some (command_for form (option_map (λ name. name.now) timeline.entry) file.now (options_of options.entry)))
+        (Came result.status result.due (Some (command_for form (option_map account_of account.entry) file.now (options_of options.entry)))
         (outside_of F.contents D.contents S.left T.taken P.taken files.old drive.old input.old terminal.old printer.old)
         (outside_of F.contents D.contents S.left T.taken P.taken files.new drive.new input.new terminal.new printer.new))
         (lent kernel.old.store kernel.old.used kernel.new.store kernel.new.used) }
@@ -94,8 +105,9 @@ fn run_form<F: Files, D: Drive, S: Source, T: Sink, P: Sink>(
     run_with(
         alloc,
         &code,
+        text_given(form, &opened.bytes),
         options.turns,
-        timeline,
+        account,
         options.record_file,
         &mut opened.choices,
         files,
@@ -154,15 +166,16 @@ pub fn run_file<F: Files, D: Drive, S: Source, T: Sink, P: Sink>(
     )
 }
 
-/// `run FILE --timeline OUT`, or `exec CODEFILE --timeline OUT` where the file has code: as `run_file`, and then keeps the timeline of the run, as lines
-/// under the name `OUT.txt` and as a picture under the name `OUT.svg`. The record is kept before them.
+/// `run FILE` with `--timeline OUT` or `--dump OUT`, or `exec CODEFILE` with one of these where the file has code: as `run_file`, and then keeps the
+/// account of the run: the timeline, as lines under the name `OUT.txt` and as a picture under the name `OUT.svg`; or the dump under the name `OUT`. The
+/// record is kept before it.
 ///
 /// Want of memory comes only before the first effect, or where a file is to be kept; no file is kept where an object has failed.
-pub fn time_file<F: Files, D: Drive, S: Source, T: Sink, P: Sink>(
+pub fn run_file_with<F: Files, D: Drive, S: Source, T: Sink, P: Sink>(
     alloc: Global,
     form: Form,
     file: &str,
-    out: &str,
+    account: Account<'_>,
     options: Options<'_>,
     files: &mut F,
     drive: &mut D,
@@ -172,7 +185,7 @@ pub fn time_file<F: Files, D: Drive, S: Source, T: Sink, P: Sink>(
     kernel: &mut Kernel,
 ) -> Ended
     ensures came { Blaming result.status (T.faults terminal.old) (T.faults terminal.new) (P.faults printer.old) (P.faults printer.new)
-        (Came result.status result.due (Some (timed_with form file.now out.now (options_of options.entry)))
+        (Came result.status result.due (Some (account_with form file.now (account_of account.entry) (options_of options.entry)))
         (outside_of F.contents D.contents S.left T.taken P.taken files.old drive.old input.old terminal.old printer.old)
         (outside_of F.contents D.contents S.left T.taken P.taken files.new drive.new input.new terminal.new printer.new))
         (lent kernel.old.store kernel.old.used kernel.new.store kernel.new.used) }
@@ -195,7 +208,7 @@ pub fn time_file<F: Files, D: Drive, S: Source, T: Sink, P: Sink>(
         alloc,
         form,
         file,
-        Some(out),
+        Some(account),
         options,
         files,
         drive,

@@ -1,4 +1,4 @@
-//! Keeping the files of a run with a timeline.
+//! Keeping the record of a run, and then the files of its timeline.
 
 ghost use Rattle.std.specs.Prelude.{◌≡◌, ◌≤◌, ◌++◌, false, min, IfOk, codes, option_map};
 ghost use Rattle.std.specs.String.{string_bytes};
@@ -13,8 +13,8 @@ ghost use Rattle.edi_timeline.specs.Text.{text_of};
 ghost use Rattle.edi_trace.specs.Drawn.{most_kept};
 ghost use Rattle.edi_trace.specs.Lines.{written};
 ghost use Rattle.edi_statuses.specs.Executions.{record_of};
-ghost use Rattle.edi_statuses.specs.Timelines.{timed_files};
-ghost use Rattle.edi_commands.specs.run.OnTimed.{timed_status};
+ghost use Rattle.edi_statuses.specs.Accounts.{timeline_files};
+ghost use Rattle.edi_commands.specs.run.OnAccounts.{kept_status};
 
 use edi_host::{Files, KeepEnd};
 use edi_statuses::Status;
@@ -45,7 +45,7 @@ fn keep_choices<F: Files>(alloc: Global, files: &mut F, name: &str, choices: &Ch
 }
 
 /// Keeps the record of the choices, if there is to be one.
-fn keep_record<F: Files>(
+pub(crate) fn keep_record<F: Files>(
     alloc: Global,
     files: &mut F,
     name: Option<&str>,
@@ -95,7 +95,7 @@ fn keep_picture<F: Files>(alloc: Global, files: &mut F, out: &str, timeline: &Ti
 }
 
 /// Whether a file was kept.
-fn is_kept(end: KeepEnd) -> bool
+pub(crate) fn is_kept(end: KeepEnd) -> bool
     ensures { result ≡ keeping.is_kept end }
 {
     match end {
@@ -115,7 +115,8 @@ pub(crate) fn keep_timed<F: Files>(
     timeline: &Timeline,
 ) -> KeepEnd
     ensures keeps { WhereTold (F.contents files.old) (F.contents files.new)
-        (KeepsInTurn result (timed_files (option_map (λ text. text.now) record_file.entry) choices.now.source choices.now.drawn out.now timeline.now)) }
+        (KeepsInTurn result (record_of (option_map (λ text. text.now) record_file.entry) choices.now.source choices.now.drawn
+        ++ timeline_files out.now timeline.now)) }
     ensures later { F.faults files.old ≤ F.faults files.new }
     ensures cause { result ≡ KeepEnd.Failed → CountRose (F.faults files.old) (F.faults files.new) }
 {
@@ -131,8 +132,8 @@ pub(crate) fn keep_timed<F: Files>(
 }
 
 /// The status of a command that came to this one, and whose files were kept then, or were not.
-pub(crate) fn timed_status(end: KeepEnd, came: Status) -> Status
-    ensures exact { result ≡ timed_status end came }
+pub(crate) fn kept_status(end: KeepEnd, came: Status) -> Status
+    ensures exact { result ≡ kept_status end came }
 {
     match end {
         KeepEnd::Ok => came,

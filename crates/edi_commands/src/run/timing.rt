@@ -1,16 +1,17 @@
-//! A run with a timeline, and a run with one or without.
+//! A run with a timeline.
 
-ghost use Rattle.std.specs.Prelude.{◌≡◌, ⊤, None, true, option_map};
+ghost use Rattle.std.specs.Prelude.{◌≡◌, ⊤, true, option_map};
 ghost use Rattle.edi_told.specs.Told.{WhereTold};
+ghost use Rattle.edi_words.specs.Words as words;
 ghost use Rattle.edi_statuses.specs.Outside.{lent, outside_of};
 ghost use Rattle.edi_statuses.specs.Counts.{counts_of, HasCause, NoneFalls};
 ghost use Rattle.edi_statuses.specs.EachObject.{RunStays, handed, is_at_drive};
 ghost use Rattle.edi_commands.specs.run.Blaming.{Blaming};
 ghost use Rattle.edi_commands.specs.run.OnMounted.{DriveAsked};
-ghost use Rattle.edi_commands.specs.run.OnTimed.{RanTimed, RanWith};
+ghost use Rattle.edi_commands.specs.run.OnAccounts.{IsCodeOf, RanAccount};
 
-use crate::run::code::{ending_status, object_status, run_code};
-use crate::run::timelines::{keep_timed, timed_status};
+use crate::run::code::{ending_status, object_status};
+use crate::run::timelines::{keep_timed, kept_status};
 use crate::steps::{mount_status, stopped};
 use edi_host::{Drive, Files, Sink, Source};
 use edi_kernel::Kernel;
@@ -23,7 +24,7 @@ use std::alloc::Global;
 
 /// Mounts the drive, runs the code on it, on an input, a terminal and a printer, and keeps the record of the choices that it drew, if there is to be
 /// one, and then its timeline: after each ending, unless an object has failed.
-fn time_code<F: Files, D: Drive, S: Source, T: Sink, P: Sink>(
+pub(crate) fn time_code<F: Files, D: Drive, S: Source, T: Sink, P: Sink>(
     alloc: Global,
     code: &Code,
     turns: u32,
@@ -39,7 +40,8 @@ fn time_code<F: Files, D: Drive, S: Source, T: Sink, P: Sink>(
 ) -> Ended
     requires none_drawn { choices.old.drawn ≡ 0 }
     ensures ran { Blaming result.status (T.faults terminal.old) (T.faults terminal.new) (P.faults printer.old) (P.faults printer.new)
-        (RanTimed code.now turns choices.old.source out.now (option_map (λ name. name.now) record_file.entry) result.status result.due
+        (RanAccount (IsCodeOf code.now) turns choices.old.source
+        (words.timeline out.now) (option_map (λ name. name.now) record_file.entry) result.status result.due
         (outside_of F.contents D.contents S.left T.taken P.taken files.old drive.old input.old terminal.old printer.old)
         (outside_of F.contents D.contents S.left T.taken P.taken files.new drive.new input.new terminal.new printer.new))
         (lent kernel.old.store kernel.old.used kernel.new.store kernel.new.used) }
@@ -83,74 +85,7 @@ fn time_code<F: Files, D: Drive, S: Source, T: Sink, P: Sink>(
     let came = ending_status(ran.ending);
     let end = keep_timed(alloc, files, out, record_file, choices, &timeline);
     Ended {
-        status: timed_status(end, came),
+        status: kept_status(end, came),
         due: ran.due,
-    }
-}
-
-/// Runs the code as `run_code` does; or as `time_code` does, if there is a name for its timeline.
-pub(crate) fn run_with<F: Files, D: Drive, S: Source, T: Sink, P: Sink>(
-    alloc: Global,
-    code: &Code,
-    turns: u32,
-    timeline: Option<&str>,
-    record_file: Option<&str>,
-    choices: &mut Choices,
-    files: &mut F,
-    drive: &mut D,
-    input: &mut S,
-    terminal: &mut T,
-    printer: &mut P,
-    kernel: &mut Kernel,
-) -> Ended
-    requires none_drawn { choices.old.drawn ≡ 0 }
-    ensures ran { Blaming result.status (T.faults terminal.old) (T.faults terminal.new) (P.faults printer.old) (P.faults printer.new)
-        (RanWith (option_map (λ name. name.now) timeline.entry) code.now turns choices.old.source
-        (option_map (λ name. name.now) record_file.entry) result.status result.due
-        (outside_of F.contents D.contents S.left T.taken P.taken files.old drive.old input.old terminal.old printer.old)
-        (outside_of F.contents D.contents S.left T.taken P.taken files.new drive.new input.new terminal.new printer.new))
-        (lent kernel.old.store kernel.old.used kernel.new.store kernel.new.used) }
-    ensures tells { WhereTold (F.contents files.old) (F.contents files.new) (λ old new. ⊤) }
-    ensures cause { HasCause result.status
-        (counts_of F.faults D.faults S.faults T.faults P.faults files.old drive.old input.old terminal.old printer.old)
-        (counts_of F.faults D.faults S.faults T.faults P.faults files.new drive.new input.new terminal.new printer.new) }
-    ensures later { NoneFalls
-        (counts_of F.faults D.faults S.faults T.faults P.faults files.old drive.old input.old terminal.old printer.old)
-        (counts_of F.faults D.faults S.faults T.faults P.faults files.new drive.new input.new terminal.new printer.new) }
-    ensures untouched { timeline.entry ≡ None → record_file.entry ≡ None → files.new ≡ files.old }
-    ensures size { D.count drive.new ≡ D.count drive.old }
-    ensures asked { DriveAsked result.status (D.count drive.old) }
-    ensures unmounted { is_at_drive result.status ≡ true
-        → RunStays (handed files.old drive.old input.old terminal.old printer.old kernel.old)
-        (handed files.new drive.new input.new terminal.new printer.new kernel.new) }
-{
-    match timeline {
-        None => run_code(
-            alloc,
-            code,
-            turns,
-            record_file,
-            choices,
-            files,
-            drive,
-            input,
-            terminal,
-            printer,
-            kernel,
-        ),
-        Some(out) => time_code(
-            alloc,
-            code,
-            turns,
-            out,
-            record_file,
-            choices,
-            files,
-            drive,
-            input,
-            terminal,
-            printer,
-            kernel,
-        ),
     }
 }

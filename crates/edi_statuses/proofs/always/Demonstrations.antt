@@ -2,22 +2,20 @@
 use Rattle.std.proofs.Common.{◌≤◌, ℕ, List, [], ◌++◌, Option, refl}
 use Rattle.edi_calls.specs.Choice.{Choices}
 use Rattle.edi_host.specs.Contents.{Contents}
-use Rattle.edi_timed.specs.on.Timelines.{AreStints}
-use Rattle.edi_timeline.specs.Stints.{Stint}
 use Rattle.edi_utils.specs.Demo.{demo_text}
 use Rattle.edi_utils.proofs.demonstrated.Accepted.{demonstrations_are_accepted}
 use Rattle.edi_words.specs.Words as words
-use Rattle.edi_words.specs.Words.{Command, Options}
-use Rattle.edi_statuses.specs.Outside.{Devices, KernelLeft, system_on, with_kept}
+use Rattle.edi_words.specs.Words.{Account, Command, Options}
+use Rattle.edi_statuses.specs.Outside.{Devices, KernelLeft, with_kept}
 use Rattle.edi_statuses.specs.Executions.{Runnable, text, record_of, status_of}
-use Rattle.edi_statuses.specs.Commands.{CommandEffect, Demonstrates, DemonstratesTimed, DemoSteps, Runs, ShowsSize, size_shown}
-use Rattle.edi_statuses.specs.Timelines.{Times, timable}
+use Rattle.edi_statuses.specs.Commands.{CommandEffect, Demonstrates, DemonstratesWith, DemoSteps, Runs, ShowsSize, size_shown}
+use Rattle.edi_statuses.specs.Accounts.{RunsWith}
 use Rattle.edi_statuses.specs.Always.{MayCome, MayEnd, lent_from, told_outside}
 use Rattle.edi_statuses.proofs.always.Steps.{choices_some}
 use Rattle.edi_statuses.proofs.always.Ends.{does_some, of_table}
 use Rattle.edi_statuses.proofs.always.Executions.{IsRun, devices_at, grows_at, shown_by_then, text_runs}
 use Rattle.edi_statuses.proofs.always.Programs.{decisive}
-use Rattle.edi_statuses.proofs.always.Timelines.{files_then, stints_of_text, times_so}
+use Rattle.edi_statuses.proofs.always.Accounts.{CanBeMade, files_then, made_of_text, runs_with_so}
 
 module _ (c : Command) (files : Contents) (d : Devices) (kernel : KernelLeft) where
   -- it has no disk and an empty input of its own
@@ -73,11 +71,11 @@ module _ (c : Command) (files : Contents) (d : Devices) (kernel : KernelLeft) wh
           keeps = refl;
         })
 
-    timed_demo_some : (xs : List Stint) × AreStints (timable program) (system_on own) bound choices xs → (out : List ℕ) (record_file : Option (List ℕ))
-        → MayCome c (DemonstratesTimed n bound choices out record_file) files d kernel
-    timed_demo_some stints out record_file =
-        size_some (Times program bound choices out record_file) (files_then c files own kernel program bound choices run stints out record_file)
-        (times_so c files own kernel program bound choices run stints out record_file (d.shown ++ all_shown))
+    demo_with_some : (account : Account) → CanBeMade account program bound choices own → (record_file : Option (List ℕ))
+        → MayCome c (DemonstratesWith n bound choices account record_file) files d kernel
+    demo_with_some account can record_file =
+        size_some (RunsWith program bound choices account record_file) (files_then c files own kernel program bound choices run account can record_file)
+        (runs_with_so c files own kernel program bound choices run account can record_file (d.shown ++ all_shown))
 
 -- ---- the commands
 
@@ -92,13 +90,13 @@ module _ (files : Contents) (d : Devices) (kernel : KernelLeft) (n : ℕ) (o : O
       (text_runs (demo_text n) accepted.unit accepted.unit_is o.turns choices (own (words.demo n o) files d kernel) refl refl) o.record_file))
       (λ s after shown k h. h)
 
-  pub time_demo_may : (out : List ℕ) → MayEnd (words.time_demo n out o) files d kernel
-  time_demo_may out =
-      of_table (words.time_demo n out o) files d kernel _
-      (does_some (words.time_demo n out o) files d kernel (DemoSteps (told_outside files d) o.choices)
-      (λ choices. DemonstratesTimed n o.turns choices out o.record_file) (choices_some files d o.choices)
+  pub demo_with_may : (account : Account) → MayEnd (words.demo_with n account o) files d kernel
+  demo_with_may account =
+      of_table (words.demo_with n account o) files d kernel _
+      (does_some (words.demo_with n account o) files d kernel (DemoSteps (told_outside files d) o.choices)
+      (λ choices. DemonstratesWith n o.turns choices account o.record_file) (choices_some files d o.choices)
       (λ choices went. let accepted = demonstrations_are_accepted n least most in
-      let alone : Devices = own (words.time_demo n out o) files d kernel in
-      timed_demo_some (words.time_demo n out o) files d kernel n o.turns choices
+      let alone : Devices = own (words.demo_with n account o) files d kernel in
+      demo_with_some (words.demo_with n account o) files d kernel n o.turns choices
       (text_runs (demo_text n) accepted.unit accepted.unit_is o.turns choices alone refl refl)
-      (stints_of_text alone o.turns choices (demo_text n) accepted.unit accepted.unit_is) out o.record_file)) (λ s after shown k h. h)
+      account (made_of_text alone o.turns choices (demo_text n) accepted.unit accepted.unit_is account) o.record_file)) (λ s after shown k h. h)

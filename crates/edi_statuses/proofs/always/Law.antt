@@ -16,8 +16,8 @@ use Rattle.edi_statuses.proofs.always.Steps.{ComesTo, boot_some, choices_some, e
 use Rattle.edi_statuses.proofs.always.Steps.{text_some, watch_some}
 use Rattle.edi_statuses.proofs.always.Plain.{compile_may, explore_may, get_may, list_may, new_disk_may}
 use Rattle.edi_statuses.proofs.always.Programs.{exec_may, replay_may, run_may, walk_may, watch_may}
-use Rattle.edi_statuses.proofs.always.Demonstrations.{demo_may, time_demo_may}
-use Rattle.edi_statuses.proofs.always.Timelines.{time_code_may, time_may}
+use Rattle.edi_statuses.proofs.always.Demonstrations.{demo_may, demo_with_may}
+use Rattle.edi_statuses.proofs.always.Accounts.{exec_with_may, run_with_may}
 use Rattle.edi_statuses.proofs.always.OldDisks.{old_disk_may}
 use Rattle.edi_statuses.proofs.always.Puts.{put_may}
 use Rattle.edi_statuses.proofs.always.Sessions.{boot_may}
@@ -68,12 +68,12 @@ module _ (files : Contents) (d : Devices) (kernel : KernelLeft) where
       step_of (words.watch file points_file out o) (WatchSteps (told_outside files d) file points_file o.choices) (watch_some files d file points_file o.choices) (λ s h. (h, inl (h, nothing)))
   some_of (words.explore file o) =
       step_of (words.explore file o) (TextSteps (told_outside files d) file) (text_some files d file) (λ s h. (h, inl (h, nothing)))
-  some_of (words.time file out o) =
-      step_of (words.time file out o) (RunSteps (told_outside files d) file o.choices) (run_some files d file o.choices) (λ s h. (h, inl (h, nothing)))
-  some_of (words.time_code file out o) =
-      step_of (words.time_code file out o) (ExecSteps (told_outside files d) file o.choices) (exec_some files d file o.choices) (λ s h. (h, inl (h, nothing)))
-  some_of (words.time_demo n out o) =
-      step_of (words.time_demo n out o) (DemoSteps (told_outside files d) o.choices) (choices_some files d o.choices) (λ s h. (h, inl (h, nothing)))
+  some_of (words.run_with file account o) =
+      step_of (words.run_with file account o) (RunSteps (told_outside files d) file o.choices) (run_some files d file o.choices) (λ s h. (h, inl (h, nothing)))
+  some_of (words.exec_with file account o) =
+      step_of (words.exec_with file account o) (ExecSteps (told_outside files d) file o.choices) (exec_some files d file o.choices) (λ s h. (h, inl (h, nothing)))
+  some_of (words.demo_with n account o) =
+      step_of (words.demo_with n account o) (DemoSteps (told_outside files d) o.choices) (choices_some files d o.choices) (λ s h. (h, inl (h, nothing)))
 
   open_of : (c : Command) → is_open c ≡ true → IsInRange c → HasBlocks d → MayEnd c files d kernel
   open_of (words.run file o) is range sized = run_may files d kernel sized file o
@@ -92,9 +92,9 @@ module _ (files : Contents) (d : Devices) (kernel : KernelLeft) where
   open_of (words.walk file choices turns) is range sized = walk_may files d kernel sized file choices turns
   open_of (words.watch file points_file out o) is range sized = watch_may files d kernel sized file points_file out o
   open_of (words.explore file o) is range sized = explore_may files d kernel file o
-  open_of (words.time file out o) is range sized = time_may files d kernel sized file out o
-  open_of (words.time_code file out o) is range sized = time_code_may files d kernel sized file out o
-  open_of (words.time_demo n out o) is range sized = time_demo_may files d kernel n o range.0 range.1 out
+  open_of (words.run_with file account o) is range sized = run_with_may files d kernel sized file account o
+  open_of (words.exec_with file account o) is range sized = exec_with_may files d kernel sized file account o
+  open_of (words.demo_with n account o) is range sized = demo_with_may files d kernel n o range.0 range.1 account
 
 -- THE LAWS
 pub some_step : SomeStep

@@ -105,6 +105,7 @@ finds_nothing bytes input unit states turns shown is = record {
     unit_is = is;
     below = λ bound choices ending end turns drawn order e few. absurd (omega (arith, few));
   };
+  shortest = λ one h. absurd (omega (arith, h.1));
   full = tt;
   bounded = omega arith;
   many = tt;

@@ -6,9 +6,9 @@ use Rattle.std.specs.Str.{bytes_eq}
 use Rattle.std.proofs.lemmas.Bool.{and_parts, leb-true}
 use Rattle.edi_calls.specs.State.{is_title}
 use Rattle.edi_words.specs.Words as words
-use Rattle.edi_words.specs.Words.{Command, Given, Options, Text, bare_run, command_by, command_in, command_of, explored_file, file_run, get_file, given_of}
-use Rattle.edi_words.specs.Words.{guided_run, has_no_exploring, has_no_timeline, in_range, named, named_more, named_plain, named_timed, new_disk, number_in}
-use Rattle.edi_words.specs.Words.{one_operand, only_file, only_files, timed}
+use Rattle.edi_words.specs.Words.{Account, Command, Given, Options, Text, bare_run, command_by, command_in, command_of, explored_file, file_run, get_file, given_of}
+use Rattle.edi_words.specs.Words.{guided_run, has_no_exploring, has_no_account, in_range, named, named_more, named_plain, named_with, new_disk, number_in}
+use Rattle.edi_words.specs.Words.{account_by, accounted, one_operand, only_file, only_files}
 use Rattle.edi_words.specs.Words.{options_in, parts_of, put_file, sized_run, spelled, takes, two_operands, watched_run, with_options, with_title, first_of}
 use Rattle.edi_statuses.specs.Always.{IsInRange, WordsGiveRanges}
 
@@ -101,39 +101,39 @@ module _ (c : Command) where
       (chosen (has_no_exploring g) _ _ (plain_is name operands g) none_is)
 
 module _ (c : Command) where
-  -- a command with a timeline has the number of the one without it, and no title
-  timed_is : (out : Text) (plain : Command) → IsInRange plain → timed out plain ≡ Some c → IsInRange c
-  timed_is out (words.run file o) range h = subst IsInRange (ap (λ x. unwrap_or x (words.time file out o)) h) tt
-  timed_is out (words.exec file o) range h = subst IsInRange (ap (λ x. unwrap_or x (words.time_code file out o)) h) tt
-  timed_is out (words.replay file choices turns) range h =
+  -- a command with an account has the number of the one without it, and no title
+  accounted_is : (account : Account) (plain : Command) → IsInRange plain → accounted account plain ≡ Some c → IsInRange c
+  accounted_is account (words.run file o) range h = subst IsInRange (ap (λ x. unwrap_or x (words.run_with file account o)) h) tt
+  accounted_is account (words.exec file o) range h = subst IsInRange (ap (λ x. unwrap_or x (words.exec_with file account o)) h) tt
+  accounted_is account (words.replay file choices turns) range h =
       let o : Options = record { turns = turns; choices = words.file choices; record_file = None } in
-      subst IsInRange (ap (λ x. unwrap_or x (words.time file out o)) h) tt
-  timed_is out (words.demo n o) range h = subst IsInRange (ap (λ x. unwrap_or x (words.time_demo n out o)) h) range
-  timed_is out (words.boot o) range h = none_is c h
-  timed_is out (words.compile file other) range h = none_is c h
-  timed_is out (words.newdisk blocks old) range h = none_is c h
-  timed_is out (words.put file title) range h = none_is c h
-  timed_is out (words.get title file) range h = none_is c h
-  timed_is out (words.list file) range h = none_is c h
-  timed_is out (words.check file) range h = none_is c h
-  timed_is out (words.explain file) range h = none_is c h
-  timed_is out (words.walk file choices turns) range h = none_is c h
-  timed_is out (words.watch file stops log o) range h = none_is c h
-  timed_is out (words.explore file o) range h = none_is c h
-  timed_is out (words.time file other o) range h = none_is c h
-  timed_is out (words.time_code file other o) range h = none_is c h
-  timed_is out (words.time_demo n other o) range h = none_is c h
+      subst IsInRange (ap (λ x. unwrap_or x (words.run_with file account o)) h) tt
+  accounted_is account (words.demo n o) range h = subst IsInRange (ap (λ x. unwrap_or x (words.demo_with n account o)) h) range
+  accounted_is account (words.boot o) range h = none_is c h
+  accounted_is account (words.compile file other) range h = none_is c h
+  accounted_is account (words.newdisk blocks old) range h = none_is c h
+  accounted_is account (words.put file title) range h = none_is c h
+  accounted_is account (words.get title file) range h = none_is c h
+  accounted_is account (words.list file) range h = none_is c h
+  accounted_is account (words.check file) range h = none_is c h
+  accounted_is account (words.explain file) range h = none_is c h
+  accounted_is account (words.walk file choices turns) range h = none_is c h
+  accounted_is account (words.watch file stops log o) range h = none_is c h
+  accounted_is account (words.explore file o) range h = none_is c h
+  accounted_is account (words.run_with file other o) range h = none_is c h
+  accounted_is account (words.exec_with file other o) range h = none_is c h
+  accounted_is account (words.demo_with n other o) range h = none_is c h
 
-  named_timed_is : (name : Text) (operands : List Text) (g : Given)
-      → option_and_then (λ out. named_timed out name operands g) (one_operand g.timelines) ≡ Some c → IsInRange c
-  named_timed_is name operands g h =
-      let out = then_some (λ out. named_timed out name operands g) (one_operand g.timelines) c h in
-      let plain = then_some (timed out.0) (named name operands g) c out.2 in
-      timed_is out.0 plain.0 (named_is plain.0 name operands g plain.1) plain.2
+  named_with_is : (name : Text) (operands : List Text) (g : Given)
+      → option_and_then (λ account. named_with account name operands g) (account_by g.timelines g.dumps) ≡ Some c → IsInRange c
+  named_with_is name operands g h =
+      let account = then_some (λ account. named_with account name operands g) (account_by g.timelines g.dumps) c h in
+      let plain = then_some (accounted account.0) (named name operands g) c account.2 in
+      accounted_is account.0 plain.0 (named_is plain.0 name operands g plain.1) plain.2
 
   by_operands : (operands : List Text) (g : Given) → command_by operands g ≡ Some c → IsInRange c
   by_operands [] g h = none_is c h
-  by_operands (name ∷ operands) g h = chosen c (has_no_timeline g) _ _ (named_is c name operands g) (named_timed_is name operands g) h
+  by_operands (name ∷ operands) g h = chosen c (has_no_account g) _ _ (named_is c name operands g) (named_with_is name operands g) h
 
 pub words_give_ranges : WordsGiveRanges
 words_give_ranges given c h =

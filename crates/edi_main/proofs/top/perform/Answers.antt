@@ -1,6 +1,6 @@
 use Rattle.std.proofs.Common.{◌∙◌, Some, ap, false, option_map, refl, rules, sym, true≢false}
 use Rattle.edi_words.specs.Words as words
-use Rattle.edi_words.specs.View.{exploring_of, options_of, view}
+use Rattle.edi_words.specs.View.{account_of, exploring_of, options_of, view}
 use Rattle.edi_words.specs.declared.commands.Command.{Command}
 use Rattle.edi_words.specs.declared.commands.Command.TheVariants as command
 use Rattle.edi_statuses.specs.EachObject.{command_does, uses_devices}
@@ -9,7 +9,7 @@ use Rattle.edi_statuses.specs.Outside.{kernel_of}
 use Rattle.edi_statuses.proofs.EachLeft.{same_valid, untouched, untouched_alone, untouched_but_input, untouched_but_kernel, untouched_drive}
 use Rattle.edi_statuses.proofs.Silent.{on_files}
 use Rattle.edi_statuses.proofs.Told.{told_so}
-use Rattle.edi_main.proofs.Obeyed.{counts_so, obeyed, obeyed_demo, obeyed_replay, obeyed_so, obeyed_timed_demo, on_disk, unmounted_last, unmounted_never}
+use Rattle.edi_main.proofs.Obeyed.{counts_so, obeyed, obeyed_demo, obeyed_replay, obeyed_so, obeyed_demo_with, on_disk, unmounted_last, unmounted_never}
 use Rattle.edi_main.proofs.Obeyed.{came_else, came_run, never_on_disk, never_on_files, run_so, terminal_rose, unmounted_so, untouched_so}
 use Rattle.edi_main.proofs.top.perform.Goals as goal
 
@@ -129,29 +129,29 @@ returns-in-Exec-clause-untouched g c =
     (untouched _ _ (words.exec c.in-Exec.file.now (options_of c.in-Exec.options)) c.run_file-in-Exec.result.status refl refl refl refl (λ e. e)
     (λ none. absurd (true≢false none)) c.run_file-in-Exec.ensures.early)
 
-pub returns-in-Time-clause-size : goal.returns-in-Time-clause-size
-returns-in-Time-clause-size g c =
-    counts_so c.args.command (command.Time c.in-Time.file c.in-Time.out c.in-Time.options) c.time_file.result.status c.time_file.result.status _ _ _ _
-    c.in-Time.is refl (c.time_file.ensures.size, c.time_file.ensures.fits)
+pub returns-in-RunWith-clause-size : goal.returns-in-RunWith-clause-size
+returns-in-RunWith-clause-size g c =
+    counts_so c.args.command (command.RunWith c.in-RunWith.file c.in-RunWith.account c.in-RunWith.options) c.run_file_with.result.status c.run_file_with.result.status _ _ _ _
+    c.in-RunWith.is refl (c.run_file_with.ensures.size, c.run_file_with.ensures.fits)
 
-pub returns-in-Time-clause-untouched : goal.returns-in-Time-clause-untouched
-returns-in-Time-clause-untouched g c =
-    untouched_so c.args.command (command.Time c.in-Time.file c.in-Time.out c.in-Time.options) c.time_file.result.status c.time_file.result.status _ _
-    c.in-Time.is refl
-    (untouched _ _ (words.time c.in-Time.file.now c.in-Time.out.now (options_of c.in-Time.options)) c.time_file.result.status refl refl refl refl (λ e. e)
-    (λ none. absurd (true≢false none)) c.time_file.ensures.early)
+pub returns-in-RunWith-clause-untouched : goal.returns-in-RunWith-clause-untouched
+returns-in-RunWith-clause-untouched g c =
+    untouched_so c.args.command (command.RunWith c.in-RunWith.file c.in-RunWith.account c.in-RunWith.options) c.run_file_with.result.status c.run_file_with.result.status _ _
+    c.in-RunWith.is refl
+    (untouched _ _ (words.run_with c.in-RunWith.file.now (account_of c.in-RunWith.account) (options_of c.in-RunWith.options)) c.run_file_with.result.status refl refl refl refl (λ e. e)
+    (λ none. absurd (true≢false none)) c.run_file_with.ensures.early)
 
-pub returns-in-TimeCode-clause-size : goal.returns-in-TimeCode-clause-size
-returns-in-TimeCode-clause-size g c =
-    counts_so c.args.command (command.TimeCode c.in-TimeCode.file c.in-TimeCode.out c.in-TimeCode.options) c.time_file-in-TimeCode.result.status c.time_file-in-TimeCode.result.status _ _ _ _
-    c.in-TimeCode.is refl (c.time_file-in-TimeCode.ensures.size, c.time_file-in-TimeCode.ensures.fits)
+pub returns-in-ExecWith-clause-size : goal.returns-in-ExecWith-clause-size
+returns-in-ExecWith-clause-size g c =
+    counts_so c.args.command (command.ExecWith c.in-ExecWith.file c.in-ExecWith.account c.in-ExecWith.options) c.run_file_with-in-ExecWith.result.status c.run_file_with-in-ExecWith.result.status _ _ _ _
+    c.in-ExecWith.is refl (c.run_file_with-in-ExecWith.ensures.size, c.run_file_with-in-ExecWith.ensures.fits)
 
-pub returns-in-TimeCode-clause-untouched : goal.returns-in-TimeCode-clause-untouched
-returns-in-TimeCode-clause-untouched g c =
-    untouched_so c.args.command (command.TimeCode c.in-TimeCode.file c.in-TimeCode.out c.in-TimeCode.options) c.time_file-in-TimeCode.result.status c.time_file-in-TimeCode.result.status _ _
-    c.in-TimeCode.is refl
-    (untouched _ _ (words.time_code c.in-TimeCode.file.now c.in-TimeCode.out.now (options_of c.in-TimeCode.options)) c.time_file-in-TimeCode.result.status refl refl refl refl (λ e. e)
-    (λ none. absurd (true≢false none)) c.time_file-in-TimeCode.ensures.early)
+pub returns-in-ExecWith-clause-untouched : goal.returns-in-ExecWith-clause-untouched
+returns-in-ExecWith-clause-untouched g c =
+    untouched_so c.args.command (command.ExecWith c.in-ExecWith.file c.in-ExecWith.account c.in-ExecWith.options) c.run_file_with-in-ExecWith.result.status c.run_file_with-in-ExecWith.result.status _ _
+    c.in-ExecWith.is refl
+    (untouched _ _ (words.exec_with c.in-ExecWith.file.now (account_of c.in-ExecWith.account) (options_of c.in-ExecWith.options)) c.run_file_with-in-ExecWith.result.status refl refl refl refl (λ e. e)
+    (λ none. absurd (true≢false none)) c.run_file_with-in-ExecWith.ensures.early)
 
 pub returns-in-Watch-clause-size : goal.returns-in-Watch-clause-size
 returns-in-Watch-clause-size g c =
@@ -357,45 +357,45 @@ returns-in-NewDisk-clause-unmounted g c =
     _ _ c.in-NewDisk.is c.silent-in-NewDisk.ensures.status
     (unmounted_never (words.newdisk c.in-NewDisk.blocks (option_map (λ name. name.now) c.in-NewDisk.old)) c.new_by.result _ _ refl refl)
 
-pub returns-in-Time-clause-unmounted : goal.returns-in-Time-clause-unmounted
-returns-in-Time-clause-unmounted g c =
-    unmounted_so c.args.command (command.Time c.in-Time.file c.in-Time.out c.in-Time.options) c.time_file.result.status c.time_file.result.status _ _ c.in-Time.is refl
-    (unmounted_last (words.time c.in-Time.file.now c.in-Time.out.now (options_of c.in-Time.options)) c.time_file.result.status _ _ refl c.time_file.ensures.unmounted)
+pub returns-in-RunWith-clause-unmounted : goal.returns-in-RunWith-clause-unmounted
+returns-in-RunWith-clause-unmounted g c =
+    unmounted_so c.args.command (command.RunWith c.in-RunWith.file c.in-RunWith.account c.in-RunWith.options) c.run_file_with.result.status c.run_file_with.result.status _ _ c.in-RunWith.is refl
+    (unmounted_last (words.run_with c.in-RunWith.file.now (account_of c.in-RunWith.account) (options_of c.in-RunWith.options)) c.run_file_with.result.status _ _ refl c.run_file_with.ensures.unmounted)
 
-pub returns-in-TimeCode-clause-unmounted : goal.returns-in-TimeCode-clause-unmounted
-returns-in-TimeCode-clause-unmounted g c =
-    unmounted_so c.args.command (command.TimeCode c.in-TimeCode.file c.in-TimeCode.out c.in-TimeCode.options) c.time_file-in-TimeCode.result.status c.time_file-in-TimeCode.result.status _ _ c.in-TimeCode.is refl
-    (unmounted_last (words.time_code c.in-TimeCode.file.now c.in-TimeCode.out.now (options_of c.in-TimeCode.options)) c.time_file-in-TimeCode.result.status _ _ refl c.time_file-in-TimeCode.ensures.unmounted)
+pub returns-in-ExecWith-clause-unmounted : goal.returns-in-ExecWith-clause-unmounted
+returns-in-ExecWith-clause-unmounted g c =
+    unmounted_so c.args.command (command.ExecWith c.in-ExecWith.file c.in-ExecWith.account c.in-ExecWith.options) c.run_file_with-in-ExecWith.result.status c.run_file_with-in-ExecWith.result.status _ _ c.in-ExecWith.is refl
+    (unmounted_last (words.exec_with c.in-ExecWith.file.now (account_of c.in-ExecWith.account) (options_of c.in-ExecWith.options)) c.run_file_with-in-ExecWith.result.status _ _ refl c.run_file_with-in-ExecWith.ensures.unmounted)
 
-pub returns-in-TimeDemo-clause-came : goal.returns-in-TimeDemo-clause-came
-returns-in-TimeDemo-clause-came g c =
-    let came = c.demonstrate-in-TimeDemo.ensures.came in
-    came_run (Some (view c.args.command)) c.demonstrate-in-TimeDemo.result.status c.demonstrate-in-TimeDemo.result.due _ _ _ _ _ _
-    (ap (λ x. command_does uses_devices (Some (view x))) c.in-TimeDemo.is)
-    (c.demonstrate-in-TimeDemo.ensures.cause (g.D.Drive.faults c.args.drive.now) (g.S.Source.faults c.args.input.now)) came.0 came.1
-    (obeyed_timed_demo c.args.command c.in-TimeDemo.n c.from-in-TimeDemo.result c.in-TimeDemo.out c.in-TimeDemo.options
-    c.demonstrate-in-TimeDemo.result.status c.demonstrate-in-TimeDemo.result.due _ _ _ c.in-TimeDemo.is c.from-in-TimeDemo.ensures
+pub returns-in-DemoWith-clause-came : goal.returns-in-DemoWith-clause-came
+returns-in-DemoWith-clause-came g c =
+    let came = c.demonstrate-in-DemoWith.ensures.came in
+    came_run (Some (view c.args.command)) c.demonstrate-in-DemoWith.result.status c.demonstrate-in-DemoWith.result.due _ _ _ _ _ _
+    (ap (λ x. command_does uses_devices (Some (view x))) c.in-DemoWith.is)
+    (c.demonstrate-in-DemoWith.ensures.cause (g.D.Drive.faults c.args.drive.now) (g.S.Source.faults c.args.input.now)) came.0 came.1
+    (obeyed_demo_with c.args.command c.in-DemoWith.n c.from-in-DemoWith.result c.in-DemoWith.account c.in-DemoWith.options
+    c.demonstrate-in-DemoWith.result.status c.demonstrate-in-DemoWith.result.due _ _ _ c.in-DemoWith.is c.from-in-DemoWith.ensures
     (came.2 (g.D.Drive.contents c.args.drive.now) (g.S.Source.left c.args.input.now)))
 
-pub returns-in-TimeDemo-clause-cause : goal.returns-in-TimeDemo-clause-cause
-returns-in-TimeDemo-clause-cause g c =
-    c.demonstrate-in-TimeDemo.ensures.cause (g.D.Drive.faults c.args.drive.now) (g.S.Source.faults c.args.input.now)
+pub returns-in-DemoWith-clause-cause : goal.returns-in-DemoWith-clause-cause
+returns-in-DemoWith-clause-cause g c =
+    c.demonstrate-in-DemoWith.ensures.cause (g.D.Drive.faults c.args.drive.now) (g.S.Source.faults c.args.input.now)
 
-pub returns-in-TimeDemo-clause-untouched : goal.returns-in-TimeDemo-clause-untouched
-returns-in-TimeDemo-clause-untouched g c =
-    let s = c.demonstrate-in-TimeDemo.result.status in
-    let named : Command = command.TimeDemo c.in-TimeDemo.n c.in-TimeDemo.out c.in-TimeDemo.options in
-    untouched_so c.args.command named s s _ _ c.in-TimeDemo.is refl
-    (untouched_alone _ _ (view named) s refl refl (λ e. e) c.demonstrate-in-TimeDemo.ensures.no_files refl refl
+pub returns-in-DemoWith-clause-untouched : goal.returns-in-DemoWith-clause-untouched
+returns-in-DemoWith-clause-untouched g c =
+    let s = c.demonstrate-in-DemoWith.result.status in
+    let named : Command = command.DemoWith c.in-DemoWith.n c.in-DemoWith.account c.in-DemoWith.options in
+    untouched_so c.args.command named s s _ _ c.in-DemoWith.is refl
+    (untouched_alone _ _ (view named) s refl refl (λ e. e) c.demonstrate-in-DemoWith.ensures.no_files refl refl
     (λ early.
-    let none = c.demonstrate-in-TimeDemo.ensures.early early in
+    let none = c.demonstrate-in-DemoWith.ensures.early early in
     record { drive = refl; input = refl; terminal = none.0; printer = none.1; kernel = none.2 }))
 
-pub returns-in-TimeDemo-clause-unmounted : goal.returns-in-TimeDemo-clause-unmounted
-returns-in-TimeDemo-clause-unmounted g c =
-    let s = c.demonstrate-in-TimeDemo.result.status in
-    let named : Command = command.TimeDemo c.in-TimeDemo.n c.in-TimeDemo.out c.in-TimeDemo.options in
-    unmounted_so c.args.command named s s _ _ c.in-TimeDemo.is refl (unmounted_never (view named) s _ _ refl refl)
+pub returns-in-DemoWith-clause-unmounted : goal.returns-in-DemoWith-clause-unmounted
+returns-in-DemoWith-clause-unmounted g c =
+    let s = c.demonstrate-in-DemoWith.result.status in
+    let named : Command = command.DemoWith c.in-DemoWith.n c.in-DemoWith.account c.in-DemoWith.options in
+    unmounted_so c.args.command named s s _ _ c.in-DemoWith.is refl (unmounted_never (view named) s _ _ refl refl)
 
 pub returns-in-Run-clause-came : goal.returns-in-Run-clause-came
 returns-in-Run-clause-came g c =
@@ -412,15 +412,15 @@ returns-in-Watch-clause-came g c =
     run_so c.args.command (command.Watch c.in-Watch.file c.in-Watch.stops c.in-Watch.out c.in-Watch.options) c.watch_file.result.status c.watch_file.result.due _ _ _ _ _ _
     c.in-Watch.is refl c.watch_file.ensures.cause c.watch_file.ensures.came
 
-pub returns-in-Time-clause-came : goal.returns-in-Time-clause-came
-returns-in-Time-clause-came g c =
-    run_so c.args.command (command.Time c.in-Time.file c.in-Time.out c.in-Time.options) c.time_file.result.status c.time_file.result.due _ _ _ _ _ _
-    c.in-Time.is refl c.time_file.ensures.cause c.time_file.ensures.came
+pub returns-in-RunWith-clause-came : goal.returns-in-RunWith-clause-came
+returns-in-RunWith-clause-came g c =
+    run_so c.args.command (command.RunWith c.in-RunWith.file c.in-RunWith.account c.in-RunWith.options) c.run_file_with.result.status c.run_file_with.result.due _ _ _ _ _ _
+    c.in-RunWith.is refl c.run_file_with.ensures.cause c.run_file_with.ensures.came
 
-pub returns-in-TimeCode-clause-came : goal.returns-in-TimeCode-clause-came
-returns-in-TimeCode-clause-came g c =
-    run_so c.args.command (command.TimeCode c.in-TimeCode.file c.in-TimeCode.out c.in-TimeCode.options) c.time_file-in-TimeCode.result.status c.time_file-in-TimeCode.result.due _ _ _ _ _ _
-    c.in-TimeCode.is refl c.time_file-in-TimeCode.ensures.cause c.time_file-in-TimeCode.ensures.came
+pub returns-in-ExecWith-clause-came : goal.returns-in-ExecWith-clause-came
+returns-in-ExecWith-clause-came g c =
+    run_so c.args.command (command.ExecWith c.in-ExecWith.file c.in-ExecWith.account c.in-ExecWith.options) c.run_file_with-in-ExecWith.result.status c.run_file_with-in-ExecWith.result.due _ _ _ _ _ _
+    c.in-ExecWith.is refl c.run_file_with-in-ExecWith.ensures.cause c.run_file_with-in-ExecWith.ensures.came
 
 pub returns-in-Boot-clause-came : goal.returns-in-Boot-clause-came
 returns-in-Boot-clause-came g c =

@@ -18,4 +18,5 @@ returns c =
     let six = c.in_ok-arg-6.ensures.shape c.option_of-6.ensures.local ∙ ap₂ with_rule five c.option_of-6.ensures.rule in
     let seven = c.in_ok-arg-7.ensures.shape c.option_of-7.ensures.local ∙ ap₂ with_rule six c.option_of-7.ensures.rule in
     let eight = c.in_ok-arg-8.ensures.shape c.option_of-8.ensures.local ∙ ap₂ with_rule seven c.option_of-8.ensures.rule in
-    IfOk-weaker c.arg-9.result _ _ (λ r h. h.shape c.operands_of.ensures.local ∙ ap₂ with_rule eight c.operands_of.ensures.rule) c.arg-9.ensures
+    let nine = c.in_ok-arg-9.ensures.shape c.option_of-9.ensures.local ∙ ap₂ with_rule eight c.option_of-9.ensures.rule in
+    IfOk-weaker c.arg-10.result _ _ (λ r h. h.shape c.operands_of.ensures.local ∙ ap₂ with_rule nine c.operands_of.ensures.rule) c.arg-10.ensures

@@ -1,10 +1,10 @@
 -- The exits of a command that runs the program of a file.
-use Rattle.std.proofs.Common.{◌∙◌, ℕ, List, Option, None, option_map, refl, ap, take}
-use Rattle.edi_words.specs.Words.{Options}
-use Rattle.edi_words.specs.View.{choices_from, options_of}
+use Rattle.std.proofs.Common.{◌∙◌, ℕ, List, Option, None, option_map, refl, sym, ap, take}
+use Rattle.edi_words.specs.Words.{Account, Options}
+use Rattle.edi_words.specs.View.{account_of, choices_from, options_of}
 use Rattle.edi_statuses.specs.Outside.{Outside, Lent, blaming, outside_of, lent, still_told}
 use Rattle.edi_commands.specs.steps.OnFiles.{files_only}
-use Rattle.edi_commands.specs.run.FileSteps.{command_for}
+use Rattle.edi_commands.specs.run.FileSteps.{command_for, text_given}
 use Rattle.edi_commands.proofs.run.Asked.{never_early}
 use Rattle.edi_commands.proofs.run.OfFiles.{Steps, file_ran, stops_as, third, unread, unread_all}
 use Rattle.edi_commands.proofs.run.Stopping.{opening_came, opening_cause, opening_fits, unread_came, unread_cause, unread_fits}
@@ -18,7 +18,7 @@ returns-in-Err-clause-came g c =
     let new = g.F.Files.contents c.open_program.new.files in
     let f = c.args.form in
     let o : Options = options_of c.args.options in
-    let t : Option (List ℕ) = option_map (λ name. name.now) c.args.timeline in
+    let t : Option Account = option_map account_of c.args.account in
     let by = stops_as f t c.args.file.now o in (
       None,
       tt,
@@ -33,7 +33,7 @@ returns-in-Err-code_of-clause-came g c =
     let new = g.F.Files.contents c.open_program.new.files in
     let f = c.args.form in
     let o : Options = options_of c.args.options in
-    let t : Option (List ℕ) = option_map (λ name. name.now) c.args.timeline in
+    let t : Option Account = option_map account_of c.args.account in
     let by = stops_as f t c.args.file.now o in
     let read = c.in-Ok.ensures.opened in (
       None,
@@ -57,9 +57,10 @@ returns-clause-came g c =
     let read = c.in-Ok.ensures.opened in (
       c.run_with.ensures.ran.0,
       c.run_with.ensures.ran.1,
-      file_ran (option_map (λ name. name.now) c.args.timeline) c.args.file.now o before kernel read.0.0 new c.in-Ok.opened.choices.source read.0.1 read.2
-          c.in-Ok.ensures.only.unchanged after c.run_with.ensures.tells c.run_with.result.status c.run_with.result.due c.in-Ok-code_of.code
-          c.run_with.ensures.ran.2 c.args.form c.deref.result.now
+      file_ran (option_map account_of c.args.account) c.args.file.now o before kernel read.0.0 new c.in-Ok.opened.choices.source read.0.1 read.2
+          c.in-Ok.ensures.only.unchanged after c.run_with.ensures.tells c.run_with.result.status c.run_with.result.due c.args.form c.deref.result.now
+          (option_map (λ bytes. bytes.now) c.text_given.result) c.in-Ok-code_of.code
+          (c.text_given.ensures.exact ∙ ap (text_given c.args.form) (c.deref-2.ensures.value ∙ sym c.deref.ensures.value)) c.run_with.ensures.ran.2
           (c.deref.ensures.value ∙ (read.0.2 ∙ ap (λ n. take n read.0.0) c.limit_of.ensures.exact)) c.in-Ok-code_of.ensures.gives,
     )
 

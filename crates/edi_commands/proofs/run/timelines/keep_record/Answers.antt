@@ -7,7 +7,7 @@ use Rattle.edi_runs.specs.explore.Keeping.{KeepsInTurn}
 use Rattle.edi_trace.specs.Drawn.{most_kept}
 use Rattle.edi_trace.specs.Lines.{written}
 use Rattle.edi_statuses.specs.Executions.{record_of}
-use Rattle.edi_commands.proofs.run.TimedKept.{one_told}
+use Rattle.edi_commands.proofs.run.AccountKept.{one_told}
 use Rattle.edi_commands.proofs.run.timelines.keep_record.Goals as goal
 
 pub returns-clause-keeps : goal.returns-clause-keeps

@@ -6,8 +6,8 @@ use Rattle.edi_timeline.specs.Picture.{picture_of}
 use Rattle.edi_timeline.specs.Text.{text_of}
 use Rattle.edi_statuses.specs.Executions.{record_of}
 use Rattle.edi_statuses.specs.Outside.{Kept}
-use Rattle.edi_statuses.specs.Timelines.{timeline_files}
-use Rattle.edi_commands.proofs.run.TimedKept.{one_told, stops_told, then_told}
+use Rattle.edi_statuses.specs.Accounts.{timeline_files}
+use Rattle.edi_commands.proofs.run.AccountKept.{one_told, stops_told, then_told}
 use Rattle.edi_commands.proofs.run.timelines.keep_timed.Goals as goal
 
 pub returns-then-not-is_kept-clause-keeps : goal.returns-then-not-is_kept-clause-keeps

@@ -3,10 +3,12 @@ use Rattle.std.proofs.Common.{rules, ◌≡◌, ◌∙◌, ◌+◌, ◌<◌, ◌
 use Rattle.edi_kernel.specs.declared.ends.Ending.TheVariants as ending
 use Rattle.edi_statuses.specs.Counts.{Counts, HasCause, counts_of}
 use Rattle.edi_statuses.specs.Executions.{object_status, status_of}
-use Rattle.edi_statuses.specs.Timelines.{timable}
+use Rattle.edi_words.specs.Words.{timeline}
+use Rattle.edi_statuses.specs.Accounts.{timable, timeline_files}
 use Rattle.edi_statuses.specs.declared.status.Status.TheVariants as status
 use Rattle.edi_statuses.specs.Outside.{Outside, kernel_of, outside_of}
 use Rattle.edi_statuses.proofs.Silent.{nothing_seen}
+use Rattle.edi_commands.specs.run.OnAccounts.{IsCodeOf}
 use Rattle.edi_commands.specs.steps.NotMounted.{mount_status}
 use Rattle.edi_execute.specs.Objects.{objects}
 use Rattle.edi_commands.proofs.run.Blamed.{blamed_by}
@@ -16,7 +18,7 @@ use Rattle.edi_commands.proofs.run.Counted.{none_falls}
 use Rattle.edi_commands.proofs.run.Endings.{ended_cause, status_is}
 use Rattle.edi_commands.proofs.run.Mounting.{left_on}
 use Rattle.edi_commands.proofs.run.Past.{ended_past, failed_past, never_at, past_so}
-use Rattle.edi_commands.proofs.run.TimedEnds.{failed_so, no_timeline, not_mounted, timed_asked, timed_cause, timed_past, timed_so}
+use Rattle.edi_commands.proofs.run.AccountEnds.{account_so, failed_so, kept_asked, kept_cause, kept_past, no_account, not_mounted, timeline_are}
 use Rattle.edi_commands.proofs.run.timing.time_code.Goals as goal
 
 pub returns-in_default-clause-ran : goal.returns-in_default-clause-ran
@@ -25,7 +27,7 @@ returns-in_default-clause-ran g c =
     c.args.drive.now c.args.input.now c.args.terminal.now c.args.printer.now in (
       None,
       tt,
-      no_timeline c.args.code.now c.args.turns c.args.out.now (option_map (λ name. name.now) c.args.record_file) before before
+      no_account (IsCodeOf c.args.code.now) c.args.code.now (λ program is. is) c.args.turns (timeline c.args.out.now) (option_map (λ name. name.now) c.args.record_file) before before
           c.args.choices.now.source c.stopped.result.status c.stopped.result.due _ c.stopped.ensures.status_is c.stopped.ensures.due
           (nothing_seen before (kernel_of c.args.kernel.now.store c.args.kernel.now.used)),
     )
@@ -39,7 +41,7 @@ returns-in-Err-clause-ran g c =
     let n = c.in-Err.ensures.nothing_run in (
       None,
       tt,
-      not_mounted c.args.code.now c.args.turns c.args.out.now (option_map (λ name. name.now) c.args.record_file) _ _
+      not_mounted (IsCodeOf c.args.code.now) c.args.code.now (λ program is. is) c.args.turns (timeline c.args.out.now) (option_map (λ name. name.now) c.args.record_file) _ _
           c.args.choices.now.source c.stopped-in-Err.result.status c.stopped-in-Err.result.due _ c.in-Err.why
           (c.stopped-in-Err.ensures.status_is ∙ c.mount_status.ensures.exact) c.stopped-in-Err.ensures.due
           (record {
@@ -66,7 +68,7 @@ returns-in-Some-clause-ran g c =
           (objects c.args.drive.now c.args.input.now c.args.terminal.now c.args.printer.now)
           (objects c.time_on.new.drive c.time_on.new.input c.time_on.new.terminal c.time_on.new.printer) c.object_status.result c.in-Some.object _ c.in-Some.is
           c.in-Ok-time_on.ensures.blame,
-      failed_so c.args.code.now c.args.turns c.args.out.now (option_map (λ name. name.now) c.args.record_file) _ _ c.args.choices.now c.requires.none_drawn
+      failed_so (IsCodeOf c.args.code.now) c.args.code.now (λ program is. is) c.args.turns (timeline c.args.out.now) (option_map (λ name. name.now) c.args.record_file) _ _ c.args.choices.now c.requires.none_drawn
           c.in-Ok-time_on.ran.due (left_on _ _ _ c.in-Ok-time_on.ensures.mounted l.told l.due) c.object_status.result c.in-Some.object _
           refl c.object_status.ensures.exact refl (c.in-Ok-time_on.ensures.call c.in-Some.object c.in-Some.is few),
     )
@@ -78,16 +80,27 @@ returns-in-Some-clause-later g c =
 
 pub returns-clause-ran : goal.returns-clause-ran
 returns-clause-ran g c =
+    let before : Outside = outside_of g.F.Files.contents g.D.Drive.contents g.S.Source.left g.T.Sink.taken g.P.Sink.taken c.args.files.now
+    c.args.drive.now c.args.input.now c.args.terminal.now c.args.printer.now in
+    let after : Outside = outside_of g.F.Files.contents g.D.Drive.contents g.S.Source.left g.T.Sink.taken g.P.Sink.taken c.keep_timed-end.new.files
+    c.time_on.new.drive c.time_on.new.input c.time_on.new.terminal c.time_on.new.printer in
     let l = c.in-Ok-time_on.ensures.leaves in
     let few : c.args.choices.now.drawn + c.args.turns < 2 ^ 64 = omega (arith, c.requires.none_drawn) in
     let unfailed : c.in-Ok-time_on.ran.ending ≡ ending.Fault → ⊥ = search rules in (
       None,
       tt,
-      timed_so c.args.code.now c.args.turns c.args.out.now (option_map (λ name. name.now) c.args.record_file) _ _ c.args.choices.now c.requires.none_drawn
-          c.in-Ok-time_on.ran.due (left_on _ _ _ c.in-Ok-time_on.ensures.mounted l.told l.due) c.in-Ok-time_on.ran.ending unfailed c.time_on.new.choices
-          (omega (arith, c.time_on.ensures.drawn, c.requires.none_drawn)) _ c.in-Ok-time_on.ensures.used (l.runs few) c.time_on.new.timeline
-          (λ program is. c.in-Ok-time_on.ensures.stints unfailed c.requires.none_drawn (timable program) is) c.keep_timed-end.result c.ending_status-came.result
-          c.timed_status.result c.ending_status-came.ensures.exact c.timed_status.ensures.exact c.time_on.ensures.source c.keep_timed-end.ensures.keeps,
+      account_so (IsCodeOf c.args.code.now) c.args.code.now (λ program is. is) c.args.turns (timeline c.args.out.now) (option_map (λ name. name.now) c.args.record_file) before after c.args.choices.now c.requires.none_drawn
+          c.in-Ok-time_on.ran.due (left_on _ before after c.in-Ok-time_on.ensures.mounted l.told l.due) c.in-Ok-time_on.ran.ending unfailed c.time_on.new.choices
+          (omega (arith, c.time_on.ensures.drawn, c.requires.none_drawn)) _ c.in-Ok-time_on.ensures.used (l.runs few) c.keep_timed-end.result c.ending_status-came.result c.kept_status.result
+          c.ending_status-came.ensures.exact c.kept_status.ensures.exact c.time_on.ensures.source
+          (λ program is. (
+            timeline_files c.args.out.now c.time_on.new.timeline,
+            timeline_are (IsCodeOf c.args.code.now) c.args.code.now (λ p its. its) c.args.turns (timeline c.args.out.now) (option_map (λ name. name.now) c.args.record_file)
+                before after c.args.choices.now c.requires.none_drawn c.in-Ok-time_on.ran.due (left_on _ before after c.in-Ok-time_on.ensures.mounted l.told l.due)
+                c.time_on.new.timeline c.args.out.now
+                (λ p its. c.in-Ok-time_on.ensures.stints unfailed c.requires.none_drawn (timable p) its) program is,
+            c.keep_timed-end.ensures.keeps,
+          )),
     )
 
 pub returns-clause-later : goal.returns-clause-later
@@ -101,7 +114,7 @@ returns-clause-cause g c =
     c.args.drive.now c.args.input.now c.args.terminal.now c.args.printer.now in
     let has : Counts = counts_of g.F.Files.faults g.D.Drive.faults g.S.Source.faults g.T.Sink.faults g.P.Sink.faults c.keep_timed-end.new.files
     c.time_on.new.drive c.time_on.new.input c.time_on.new.terminal c.time_on.new.printer in
-    timed_cause had has c.keep_timed-end.result c.ending_status-came.result c.timed_status.result c.timed_status.ensures.exact
+    kept_cause had has c.keep_timed-end.result c.ending_status-came.result c.kept_status.result c.kept_status.ensures.exact
     (subst (λ s. HasCause s had has) (sym (status_is c.in-Ok-time_on.ran.ending c.ending_status-came.result c.ending_status-came.ensures.exact))
     (ended_cause (ending_of c.in-Ok-time_on.ran.ending) had has)) c.keep_timed-end.ensures.cause
 
@@ -117,7 +130,7 @@ returns-in-Some-clause-asked g c =
 
 pub returns-clause-asked : goal.returns-clause-asked
 returns-clause-asked g c =
-    timed_asked _ c.keep_timed-end.result c.ending_status-came.result c.timed_status.result c.timed_status.ensures.exact
+    kept_asked _ c.keep_timed-end.result c.ending_status-came.result c.kept_status.result c.kept_status.ensures.exact
     (asked_so (status_of (ending_of c.in-Ok-time_on.ran.ending)) c.ending_status-came.result _
     (status_is c.in-Ok-time_on.ran.ending c.ending_status-came.result c.ending_status-came.ensures.exact)
     (ended_asked _ (record { least = c.in-Ok-time_on.ensures.least; most = c.in-Ok-time_on.ensures.most }) (ending_of c.in-Ok-time_on.ran.ending)))
@@ -134,8 +147,8 @@ returns-in-Some-clause-unmounted g c = λ at.
 
 pub returns-clause-unmounted : goal.returns-clause-unmounted
 returns-clause-unmounted g c = λ at.
-    never_at c.timed_status.result
-    (timed_past c.keep_timed-end.result c.ending_status-came.result c.timed_status.result c.timed_status.ensures.exact
+    never_at c.kept_status.result
+    (kept_past c.keep_timed-end.result c.ending_status-came.result c.kept_status.result c.kept_status.ensures.exact
     (past_so (status_of (ending_of c.in-Ok-time_on.ran.ending)) c.ending_status-came.result
     (status_is c.in-Ok-time_on.ran.ending c.ending_status-came.result c.ending_status-came.ensures.exact)
     (ended_past (ending_of c.in-Ok-time_on.ran.ending)))) at

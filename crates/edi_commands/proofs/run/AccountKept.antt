@@ -1,4 +1,4 @@
--- The files of a run with a timeline, which are kept one after another.
+-- The files of a run with an account, which are kept one after another.
 use Rattle.std.specs.Prelude.{⊤}
 use Rattle.std.proofs.Common.{◌≡◌, ◌∙◌, ◌⊎◌, ◌<◌, ℕ, Bool, true, false, true≢false, List, [], ◌∷◌, ◌++◌, length, Option, Some, None, arith}
 use Rattle.std.proofs.Common.{refl, sym, ap, subst, inl, inr}
@@ -11,10 +11,11 @@ use Rattle.edi_host.specs.declared.files.KeepEnd.{KeepEnd}
 use Rattle.edi_host.specs.declared.files.KeepEnd.TheVariants as keep
 use Rattle.edi_runs.specs.explore.Keeping.{KeepsInTurn, is_kept}
 use Rattle.edi_system.proofs.Chained.{told_then}
-use Rattle.edi_timeline.specs.Timelines.{Told}
+use Rattle.edi_words.specs.Words.{Account, timeline, dump}
 use Rattle.edi_statuses.specs.Broken.{names_in}
-use Rattle.edi_statuses.specs.Outside.{Kept, with_kept, without_names}
-use Rattle.edi_statuses.specs.Timelines.{timed_files, timeline_names}
+use Rattle.edi_statuses.specs.Executions.{Runnable, record_of}
+use Rattle.edi_statuses.specs.Outside.{Kept, Outside, with_kept, without_names}
+use Rattle.edi_statuses.specs.Accounts.{AreOf, account_names}
 use Rattle.edi_statuses.proofs.Told.{told_so}
 use Rattle.edi_commands.proofs.run.Demonstrated.{kept_and_gone}
 use Rattle.edi_commands.proofs.run.LogKept.{in_either_order}
@@ -93,28 +94,60 @@ kept_among (one ∷ more) names old are =
     kept_among more names (map.insert old one.0 one.1) are.1
     ∙ gone_among one.0 names old (map.insert old one.0 one.1) are.0 (kept_and_gone old one.0 one.1)
 
--- ---- the files of a timeline
+among_front : (name : List ℕ) (xs ys : List (List ℕ)) → Among name xs → Among name (xs ++ ys)
+among_front name [] ys h = absurd h
+among_front name (x ∷ xs) ys (inl same) = inl same
+among_front name (x ∷ xs) ys (inr h) = inr (among_front name xs ys h)
 
-module _ (choices : Choices) (drawn : ℕ) (out : List ℕ) (told : Told) where
-  timed_among : (name : Option (List ℕ)) → AllAmong (timed_files name choices drawn out told) (timeline_names out ++ names_in name)
-  timed_among None = (inl refl, (inr (inl refl), tt))
-  timed_among (Some n) = (inr (inr (inl refl)), (inl refl, (inr (inl refl), tt)))
+among_last : (name : List ℕ) (xs : List (List ℕ)) → Among name (xs ++ name ∷ [])
+among_last name [] = inl refl
+among_last name (x ∷ xs) = inr (among_last name xs)
 
-  pub lost_timed : (name : Option (List ℕ)) (old new : Option Contents)
-      → WhereTold old new (KeepsInTurn keep.Failed (timed_files name choices drawn out told))
-      → WhereTold old new (λ a b. without_names (timeline_names out ++ names_in name) b ≡ without_names (timeline_names out ++ names_in name) a)
-  lost_timed name old new h =
-      told_so (KeepsInTurn keep.Failed (timed_files name choices drawn out told)) _ old new
-      (λ a b k. lost_among (timed_files name choices drawn out told) (timeline_names out ++ names_in name) a b (timed_among name) k) h
+all_front : (all : List Kept) (xs ys : List (List ℕ)) → AllAmong all xs → AllAmong all (xs ++ ys)
+all_front [] xs ys h = tt
+all_front (one ∷ more) xs ys h = (among_front one.0 xs ys h.0, all_front more xs ys h.1)
 
-  pub kept_timed : (name : Option (List ℕ)) (old new : Option Contents)
-      → WhereTold old new (λ a b. b ≡ with_kept (timed_files name choices drawn out told) a)
-      → WhereTold old new (λ a b. without_names (timeline_names out ++ names_in name) b ≡ without_names (timeline_names out ++ names_in name) a)
-  kept_timed name old new h =
-      let names : List (List ℕ) = timeline_names out ++ names_in name in
-      let all : List Kept = timed_files name choices drawn out told in
-      told_so (λ a b. b ≡ with_kept all a) _ old new (λ a b k. ap (without_names names) k ∙ kept_among all names a (timed_among name)) h
+-- ---- the files of an account
 
-  pub some_timed : (name : Option (List ℕ)) → 0 < length (timed_files name choices drawn out told)
-  some_timed None = omega arith
-  some_timed (Some n) = omega arith
+-- they have its names, and there is one
+record AreNamed (account : Account) (made : List Kept) : Type 0 where
+  among : AllAmong made (account_names account)
+  some : 0 < length made
+
+are_named : (account : Account) (program : Runnable) (bound : ℕ) (choices : Choices) (before after : Outside) (made : List Kept)
+    → AreOf account program bound choices before after made → AreNamed account made
+are_named (timeline out) program bound choices before after made h =
+    subst (AreNamed (timeline out)) (sym h.2) (record { among = (inl refl, (inr (inl refl), tt)); some = omega arith })
+are_named (dump out) program bound choices before after made h =
+    subst (AreNamed (dump out)) (sym h.2) (record { among = (inl refl, tt); some = omega arith })
+
+module _ (account : Account) (program : Runnable) (bound : ℕ) (choices : Choices) (before after : Outside) (made : List Kept)
+    (are : AreOf account program bound choices before after made) (drawn : ℕ) where
+  abbrev all_files : (name : Option (List ℕ)) → List Kept
+  all_files name = record_of name choices drawn ++ made
+
+  abbrev all_names : (name : Option (List ℕ)) → List (List ℕ)
+  all_names name = account_names account ++ names_in name
+
+  named : AreNamed account made
+  named = are_named account program bound choices before after made are
+
+  files_among : (name : Option (List ℕ)) → AllAmong (all_files name) (all_names name)
+  files_among None = all_front made (account_names account) [] named.among
+  files_among (Some n) = (among_last n (account_names account), all_front made (account_names account) (n ∷ []) named.among)
+
+  pub lost_account : (name : Option (List ℕ)) (old new : Option Contents) → WhereTold old new (KeepsInTurn keep.Failed (all_files name))
+      → WhereTold old new (λ a b. without_names (all_names name) b ≡ without_names (all_names name) a)
+  lost_account name old new h =
+      told_so (KeepsInTurn keep.Failed (all_files name)) _ old new (λ a b k. lost_among (all_files name) (all_names name) a b (files_among name) k) h
+
+  pub kept_account : (name : Option (List ℕ)) (old new : Option Contents) → WhereTold old new (λ a b. b ≡ with_kept (all_files name) a)
+      → WhereTold old new (λ a b. without_names (all_names name) b ≡ without_names (all_names name) a)
+  kept_account name old new h =
+      let names : List (List ℕ) = all_names name in
+      let all : List Kept = all_files name in
+      told_so (λ a b. b ≡ with_kept all a) _ old new (λ a b k. ap (without_names names) k ∙ kept_among all names a (files_among name)) h
+
+  pub some_account : (name : Option (List ℕ)) → 0 < length (all_files name)
+  some_account None = named.some
+  some_account (Some n) = omega (arith, named.some)
