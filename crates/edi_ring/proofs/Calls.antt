@@ -1,51 +1,40 @@
 -- What a call leaves behind, as its clauses say it.
-use Rattle.std.proofs.Common.{◌≡◌, ℕ, zero, suc, ◌+◌, ◌-◌, ◌<◌, ◌≤◌, inl, inr, cond, List, [], ◌∷◌, ◌++◌, length, refl, sym, ◌∙◌, ap, arith, subst, eqb}
-use Rattle.std.proofs.Common.{eq-eqb, get_or, set, get_or-set_same, get_or-set_other, length-set, add-one}
+use Rattle.std.proofs.Common.{◌≡◌, ℕ, zero, suc, ◌+◌, ◌<◌, ◌≤◌, inl, inr, cond, List, [], ◌∷◌, ◌++◌, length, refl, sym, ◌∙◌, ap, arith, subst, eqb}
+use Rattle.std.proofs.Common.{eq-eqb, get_or, set, get_or-set_same, get_or-set_other, length-set}
 use Rattle.std.specs.Prelude.{Option, Some, None, IsSome, slice_get}
 use Rattle.std.proofs.lemmas.Bool.{cases_eq, ne_eqb}
 use Rattle.std.proofs.lemmas.List.{length_push}
-use Rattle.edi_ring.specs.declared.Ends.{Ends}
+use Rattle.std.proofs.lemmas.Map.Steps.{length-le_from_distinct_below}
+use Rattle.edi_ring.specs.declared.Row.{Row}
 use Rattle.edi_ring.specs.Lists.{list_at, home_of, appended, without, IsSound}
-use Rattle.edi_ring.specs.Links.{lists_in, redirected, redirected_end, shortened, step, IsLinked, IsAmong, no_ends}
-use Rattle.edi_ring.proofs.Chain.{before_first}
-use Rattle.edi_ring.proofs.Arrays.{IsLinked-view, IsLinked-again, lists_in-IsLinked, first-Stands, last-Stands, next-slice_get, prev-slice_get}
-use Rattle.edi_ring.proofs.Homes.{IsSound-IsLinked, home_of-IsLinked, length-le-nodes}
+use Rattle.edi_ring.specs.Links.{lists_in, lengthened, rest_of, shortened, nodes_of, row_at, IsListed, IsShort, IsAmong, RowHolds}
+pub use Rattle.edi_ring.proofs.Chain.{among_at}
+use Rattle.edi_ring.proofs.Chain.{NoneTwice-push, among-push, minus, place_of}
+use Rattle.edi_ring.proofs.Arrays.{IsListed-view, IsListed-again, lists_in-IsListed}
+use Rattle.edi_ring.proofs.Homes.{IsDistinct-from_NoneTwice, IsSound-IsListed, among-from_has, home_of-IsListed}
 use Rattle.edi_ring.proofs.Moves as moves
 
 -- the arrays hold these lists, in which each node has this home
-pub record Leaves (nodes count : ℕ) (next prev home : List (Option ℕ)) (ends : List Ends) (lists : List (List ℕ)) (homes : ℕ → Option ℕ) : Type 0 where
-  pub still_linked : IsLinked next prev home ends (lists_in next ends)
-  pub exact : lists_in next ends ≡ lists
-  pub homes_are : (q : ℕ) → home_of (lists_in next ends) q ≡ homes q
-  pub sound : IsSound nodes count (lists_in next ends)
+pub record Leaves (nodes count : ℕ) (home : List (Option ℕ)) (rows : List Row) (lists : List (List ℕ)) (homes : ℕ → Option ℕ) : Type 0 where
+  pub still_listed : IsListed home rows (lists_in rows)
+  pub exact : lists_in rows ≡ lists
+  pub homes_are : (q : ℕ) → home_of (lists_in rows) q ≡ homes q
+  pub sound : IsSound nodes count (lists_in rows)
 
-leaves : (nodes count : ℕ) (next prev home : List (Option ℕ)) (ends : List Ends) (lists : List (List ℕ)) (homes : ℕ → Option ℕ)
-    → IsLinked next prev home ends lists → length home ≡ nodes → length ends ≡ count → ((q : ℕ) → get_or home q None ≡ homes q)
-    → Leaves nodes count next prev home ends lists homes
-leaves nodes count next prev home ends lists homes h wide many kept =
-    let again = IsLinked-again next prev home ends lists h in
+leaves : (nodes count : ℕ) (home : List (Option ℕ)) (rows : List Row) (lists : List (List ℕ)) (homes : ℕ → Option ℕ)
+    → IsListed home rows lists → length home ≡ nodes → length rows ≡ count → ((q : ℕ) → get_or home q None ≡ homes q)
+    → Leaves nodes count home rows lists homes
+leaves nodes count home rows lists homes h wide many kept =
+    let again = IsListed-again home rows lists h in
     record {
-      still_linked = again;
-      exact = lists_in-IsLinked next prev home ends lists h;
-      homes_are = λ q. home_of-IsLinked next prev home ends (lists_in next ends) again q ∙ kept q;
-      sound = IsSound-IsLinked nodes count next prev home ends (lists_in next ends) again wide many;
+      still_listed = again;
+      exact = lists_in-IsListed home rows lists h;
+      homes_are = λ q. home_of-IsListed home rows (lists_in rows) again q ∙ kept q;
+      sound = IsSound-IsListed nodes count home rows (lists_in rows) again wide many;
     }
 
-some_among : (n : ℕ) (xs : List ℕ) → IsAmong n xs → 1 ≤ length xs
-some_among n [] i = absurd i
-some_among n (x ∷ xs) i = omega arith
-
--- past a place that a list does not have it has none
-pub none_past : (xs : List ℕ) (k i : ℕ) → slice_get xs k ≡ None → k ≤ i → slice_get xs i ≡ None
-none_past [] k i none le = refl
-none_past (x ∷ xs) zero i none le = let end : Some x ≡ None = none in absurd (cc)
-none_past (x ∷ xs) (suc k) zero none le = absurd (omega arith)
-none_past (x ∷ xs) (suc k) (suc i) none le = none_past xs k i none (omega arith)
-
-pub among_at : (xs : List ℕ) (k n : ℕ) → slice_get xs k ≡ Some n → IsAmong n xs
-among_at [] k n at_k = let end : None ≡ Some n = at_k in absurd (cc)
-among_at (x ∷ xs) zero n at_k = inl (cc)
-among_at (x ∷ xs) (suc k) n at_k = inr (among_at xs k n at_k)
+pub some_is : {x y : ℕ} → Some x ≡ Some y → x ≡ y
+some_is e = cc
 
 -- one home written
 home-set : (home : List (Option ℕ)) (node q : ℕ) (v : Option ℕ) → node < length home → get_or (set home node v) q None ≡ cond (eqb q node) v
@@ -56,190 +45,122 @@ home-set home node q v lt =
       | inr other ↦ rw (ne_eqb q node other) (get_or-set_other home node q v None other)
     ]
 
-module _ (nodes count : ℕ) (next prev home : List (Option ℕ)) (ends : List Ends) (lists : List (List ℕ))
-    (still_linked : IsLinked next prev home ends (lists_in next ends)) (seen : lists_in next ends ≡ lists)
-    (many : length ends ≡ count) (wide_next : length next ≡ nodes) (wide_prev : length prev ≡ nodes) (wide_home : length home ≡ nodes) where
-  pub linked : IsLinked next prev home ends lists
-  linked = IsLinked-view next prev home ends lists still_linked seen
+module _ (nodes count : ℕ) (home : List (Option ℕ)) (rows : List Row) (lists : List (List ℕ))
+    (still_listed : IsListed home rows (lists_in rows)) (seen : lists_in rows ≡ lists)
+    (many : length rows ≡ count) (wide_home : length home ≡ nodes) where
+  pub listed : IsListed home rows lists
+  listed = IsListed-view home rows lists still_listed seen
+
+  pub bytes : nodes ≤ 256
+  bytes = let small = listed.bytes in omega (arith, small, wide_home)
 
   pub sound : IsSound nodes count lists
-  sound = IsSound-IsLinked nodes count next prev home ends lists linked wide_home many
+  sound = IsSound-IsListed nodes count home rows lists listed wide_home many
 
   pub home_is : (q : ℕ) → home_of lists q ≡ get_or home q None
-  home_is q = home_of-IsLinked next prev home ends lists linked q
+  home_is q = home_of-IsListed home rows lists listed q
 
-  pub first_index : (list : ℕ) → list < count → (get_or ends list no_ends).first ≡ slice_get (list_at lists list) 0
-  first_index list lt = first-Stands next prev (get_or ends list no_ends) (list_at lists list) (linked.stands list (omega (arith, many)))
+  pub short : (list : ℕ) → list < count → IsShort 256 (row_at rows list)
+  short list lt =
+      let s = (listed.stands list (omega (arith, many, lt))).short in
+      let few = listed.bytes in record { wide = s.wide; fits = let fits = s.fits in omega (arith, fits, few); ends = s.ends }
 
-  pub last_index : (list : ℕ) → list < count → 0 < length (list_at lists list)
-      → (get_or ends list no_ends).last ≡ slice_get (list_at lists list) (length (list_at lists list) - 1)
-  last_index list lt some = last-Stands next prev (get_or ends list no_ends) (list_at lists list) (linked.stands list (omega (arith, many))) some
+  pub is : (list : ℕ) → list < count → nodes_of (row_at rows list) ≡ list_at lists list
+  is list lt = (listed.stands list (omega (arith, many, lt))).is
 
-  pub counted : (list : ℕ) → list < count → (get_or ends list no_ends).len ≡ length (list_at lists list)
-  counted list lt = (linked.stands list (omega (arith, many))).counted
-
-  pub short : (list : ℕ) → list < count → (get_or ends list no_ends).len ≤ nodes
-  short list lt = rw (counted list lt) (length-le-nodes nodes count lists list sound)
+  pub counted : (list : ℕ) → list < count → (row_at rows list).len ≡ length (list_at lists list)
+  counted list lt = moves.counted home rows lists listed list (omega (arith, many, lt))
 
   pub index_within : (list k node : ℕ) → slice_get (list_at lists list) k ≡ Some node → node < nodes
   index_within list k node at_k =
-      moves.in_range next prev home ends lists linked nodes wide_next wide_prev wide_home list node (among_at (list_at lists list) k node at_k)
-
-  pub next_index : (list k node : ℕ) → list < count → slice_get (list_at lists list) k ≡ Some node → get_or next node None ≡ slice_get (list_at lists list)
-      (k + 1)
-  next_index list k node lt at_k =
-      rw add-one (next-slice_get next prev _ _ _ (list_at lists list) k node (linked.stands list (omega (arith, many))).runs at_k)
-
-  pub previous_index : (list k node : ℕ) → list < count → slice_get (list_at lists list) (suc k) ≡ Some node
-      → get_or prev node None ≡ slice_get (list_at lists list) k
-  previous_index list k node lt at_k = prev-slice_get next prev _ _ _ (list_at lists list) k node (linked.stands list (omega (arith, many))).runs at_k
+      let lt = moves.in_range home rows lists listed list node (among_at (list_at lists list) k node at_k) in omega (arith, lt, wide_home)
 
   module _ (list node : ℕ) (is_list : list < count) (is_node : node < nodes) (free : home_of lists node ≡ None) where
-    abbrev e : Ends
-    e = get_or ends list no_ends
-
-    listed : list < length ends
-    listed = omega (arith, many)
+    is_listed : list < length rows
+    is_listed = omega (arith, many, is_list)
 
     nowhere : get_or home node None ≡ None
     nowhere = sym (home_is node) ∙ free
 
-    pub last_within : (c : ℕ) → e.last ≡ Some c → c < nodes
-    last_within c k =
-        moves.in_range next prev home ends lists linked nodes wide_next wide_prev wide_home list c
-        (moves.last_in next prev home ends lists linked nodes wide_next wide_prev wide_home list node listed is_node nowhere c k)
+    -- the list with the node is no longer than there are nodes
+    pub room : (row_at rows list).len < nodes
+    room =
+        let xs : List ℕ = list_at lists list in
+        let absent : IsAmong node xs → ⊥ = λ i. let there = listed.homes list node i in let none : None ≡ Some list = sym nowhere ∙ there in absurd (cc) in
+        let more : length (xs ++ node ∷ []) ≤ nodes =
+        length-le_from_distinct_below (xs ++ node ∷ []) nodes
+        (IsDistinct-from_NoneTwice (xs ++ node ∷ []) (NoneTwice-push node xs (listed.once list) absent))
+        (λ q t. elim (among-push node q xs (among-from_has q (xs ++ node ∷ []) t)) [
+          | inl same ↦ omega (arith, is_node, same)
+          | inr i ↦ let lt = moves.in_range home rows lists listed list q i in omega (arith, lt, wide_home)
+        ]) in
+        omega (arith, more, length_push xs node, counted list is_list)
 
-    pub push_leaves : Leaves nodes count (redirected (set next node None) e.last (Some node)) (set prev node e.last) (set home node (Some list))
-        (set ends list (record { first = redirected_end e.first e.last (Some node); last = Some node; len = e.len + 1 }))
+    pub push_leaves : Leaves nodes count (set home node (Some list)) (set rows list (lengthened (row_at rows list) node))
         (appended lists list node) (λ q. cond (eqb q node) (Some list) (home_of lists q))
     push_leaves =
-        leaves nodes count _ _ _ _ _ _
-        (moves.IsLinked-push next prev home ends lists linked nodes wide_next wide_prev wide_home list node listed is_node nowhere)
+        leaves nodes count _ _ _ _
+        (moves.IsListed-push home rows lists listed list node is_listed (omega (arith, wide_home, is_node)) nowhere (omega (arith, wide_home, room)))
         (length-set home node (Some list) ∙ wide_home)
-        (length-set ends list _ ∙ many)
-        (λ q. home-set home node q (Some list) (omega (arith, wide_home)) ∙ ap (λ o. cond (eqb q node) (Some list) o) (sym (home_is q)))
-
-    -- the list with the node is no longer than there are nodes
-    pub room : e.len + 1 ≤ nodes
-    room =
-        let after = push_leaves in
-        let short = length-le-nodes nodes count (appended lists list node) list
-        (subst (λ (seen : List (List ℕ)). IsSound nodes count seen) after.exact after.sound) in
-        let many_lists = linked.as_many in
-        let index : list_at (appended lists list node) list ≡ list_at lists list ++ node ∷ [] = get_or-set_same lists list _ [] (omega arith) in
-        let counted = (linked.stands list listed).counted in
-        omega (arith, ap length index, length_push (list_at lists list) node)
-
-  module _ (node : ℕ) (is_node : node < nodes) (listed : IsSome (home_of lists node)) where
-    pub has_home : IsSome (get_or home node None)
-    has_home = rw (home_is node) at listed
-
-    module _ (list : ℕ) (its_home : get_or home node None ≡ Some list) where
-      abbrev here : Ends
-      here = get_or ends list no_ends
-
-      abbrev following : Option ℕ
-      following = get_or next node None
-
-      abbrev preceding : Option ℕ
-      preceding = get_or prev node None
-
-      pub is_list : list < count
-      is_list = let lt = moves.is_one next prev home ends lists linked nodes wide_next wide_prev wide_home list node its_home in omega (arith, many)
-
-      pub preceding_within : (c : ℕ) → preceding ≡ Some c → c < nodes
-      preceding_within c k =
-          moves.in_range next prev home ends lists linked nodes wide_next wide_prev wide_home list c
-          (moves.preceding_in next prev home ends lists linked nodes wide_next wide_prev wide_home list node its_home c k)
-
-      pub following_within : (c : ℕ) → following ≡ Some c → c < nodes
-      following_within c k =
-          moves.in_range next prev home ends lists linked nodes wide_next wide_prev wide_home list c
-          (moves.following_in next prev home ends lists linked nodes wide_next wide_prev wide_home list node its_home c k)
-
-      pub take_leaves : Leaves nodes count (redirected next preceding following) (redirected prev following preceding) (set home node None)
-          (set ends list (shortened here preceding following)) (without lists node) (λ q. cond (eqb q node) None (home_of lists q))
-      take_leaves =
-          leaves nodes count _ _ _ _ _ _
-          (moves.IsLinked-take next prev home ends lists linked nodes wide_next wide_prev wide_home list node its_home)
-          (length-set home node None ∙ wide_home)
-          (length-set ends list _ ∙ many)
-          (λ q. home-set home node q None (omega (arith, wide_home)) ∙ ap (λ o. cond (eqb q node) None o) (sym (home_is q)))
-
-      -- the list has a node
-      pub some_there : 1 ≤ here.len
-      some_there =
-          let counted = (linked.stands list (let lt = is_list in omega (arith, many))).counted in
-          let some = some_among node (list_at lists list) (linked.among_list list node its_home) in omega arith
+        (length-set rows list _ ∙ many)
+        (λ q. home-set home node q (Some list) (omega (arith, wide_home, is_node)) ∙ ap (λ o. cond (eqb q node) (Some list) o) (sym (home_is q)))
 
   -- the node at an index of a list
   module _ (list k node : ℕ) (is_list : list < count) (at_k : slice_get (list_at lists list) k ≡ Some node) where
-    home_at : get_or home node None ≡ Some list
-    home_at = linked.homes list node (among_at (list_at lists list) k node at_k)
+    in_rows : list < length rows
+    in_rows = omega (arith, many, is_list)
 
-    listed_at : IsSome (home_of lists node)
-    listed_at = rw (home_is node ∙ home_at) refl
+    pub inside : k < (row_at rows list).len
+    inside = moves.inside home rows lists listed list k node in_rows at_k
 
-    is_within : node < nodes
-    is_within = index_within list k node at_k
+    gone_leaves : (left : Row) → RowHolds (length home) left (minus node (list_at lists list))
+        → Leaves nodes count (set home node None) (set rows list left) (without lists node) (λ q. cond (eqb q node) None (home_of lists q))
+    gone_leaves left holds =
+        leaves nodes count _ _ _ _
+        (moves.IsListed-take home rows lists listed list k node in_rows at_k left holds)
+        (length-set home node None ∙ wide_home)
+        (length-set rows list left ∙ many)
+        (λ q. home-set home node q None (let lt = index_within list k node at_k in omega (arith, wide_home, lt))
+        ∙ ap (λ o. cond (eqb q node) None o) (sym (home_is q)))
 
-    pub before_within : (c : ℕ) → get_or prev node None ≡ Some c → c < nodes
-    before_within = preceding_within node is_within listed_at list home_at
-
-    pub after_within : (c : ℕ) → get_or next node None ≡ Some c → c < nodes
-    after_within = following_within node is_within listed_at list home_at
-
-    pub some_here : 1 ≤ (get_or ends list no_ends).len
-    some_here = some_there node is_within listed_at list home_at
-
-    pub place_leaves : Leaves nodes count (redirected next (get_or prev node None) (get_or next node None))
-        (redirected prev (get_or next node None) (get_or prev node None)) (set home node None)
-        (set ends list (shortened (get_or ends list no_ends) (get_or prev node None) (get_or next node None)))
+    pub take_leaves : Leaves nodes count (set home node None) (set rows list (shortened (row_at rows list) k))
         (without lists node) (λ q. cond (eqb q node) None (home_of lists q))
-    place_leaves = take_leaves node is_within listed_at list home_at
+    take_leaves = gone_leaves _ (moves.short_holds home rows lists listed list k node in_rows at_k)
 
-  -- the first node of a list
-  module _ (list node : ℕ) (is_list : list < count) (is_first : (get_or ends list no_ends).first ≡ Some node) where
-    abbrev front : Ends
-    front = get_or ends list no_ends
-
-    abbrev behind : Option ℕ
-    behind = get_or next node None
-
-    pub first : slice_get (list_at lists list) 0 ≡ Some node
-    first = sym (first_index list is_list) ∙ is_first
-
-    pub front_home : get_or home node None ≡ Some list
-    front_home = linked.homes list node (among_at (list_at lists list) 0 node first)
-
-    front_listed : IsSome (home_of lists node)
-    front_listed = rw (home_is node ∙ front_home) refl
-
-    pub front_within : node < nodes
-    front_within = index_within list 0 node first
-
-    pub behind_within : (c : ℕ) → behind ≡ Some c → c < nodes
-    behind_within = following_within node front_within front_listed list front_home
-
-    pub front_there : 1 ≤ front.len
-    front_there = some_there node front_within front_listed list front_home
-
-    none_before : get_or prev node None ≡ None
-    none_before =
-        before_first (step next front.first) (step prev front.last) None (list_at lists list) node (linked.stands list (omega (arith, many))).runs first
-
-    pub front_leaves : Leaves nodes count next (redirected prev behind None) (set home node None) (set ends list (shortened front None behind))
+    pub front_leaves : k ≡ 0 → Leaves nodes count (set home node None) (set rows list (rest_of (row_at rows list)))
         (without lists node) (λ q. cond (eqb q node) None (home_of lists q))
-    front_leaves =
-        subst
-        (λ (o : Option ℕ). Leaves nodes count (redirected next o behind) (redirected prev behind o) (set home node None)
-        (set ends list (shortened front o behind)) (without lists node) (λ q. cond (eqb q node) None (home_of lists q)))
-        none_before (take_leaves node front_within front_listed list front_home)
+    front_leaves first = gone_leaves _ (moves.rest_holds home rows lists listed list k node in_rows at_k first)
 
--- a list that is not empty has a first node
-pub some_first : (xs : List ℕ) → 0 < length xs → IsSome (slice_get xs 0)
-some_first [] lt = absurd (omega (arith, lt))
-some_first (x ∷ xs) lt = refl
+  -- a node that has a home
+  module _ (node : ℕ) (listed_in : IsSome (home_of lists node)) where
+    pub has_home : IsSome (get_or home node None)
+    has_home = rw (home_is node) at listed_in
+
+    module _ (list : ℕ) (its_home : get_or home node None ≡ Some list) where
+      pub is_list : list < count
+      is_list = let lt = moves.is_one home rows lists listed list node its_home in omega (arith, many, lt)
+
+      pub in_list : IsAmong node (list_at lists list)
+      in_list = listed.among_list list node its_home
+
+-- a node of a list is at an index of it
+pub never : (node : ℕ) (xs : List ℕ) → IsAmong node xs → ((k : ℕ) → k < length xs → slice_get xs k ≡ Some node → ⊥) → ⊥
+never node xs i none = let p : (k : ℕ) × (k < length xs) × (slice_get xs k ≡ Some node) = place_of node xs i in none p.0 p.1 p.2
+
+-- those up to an index, where another node is there
+pub none_up_to : (node other : ℕ) (xs : List ℕ) (i : ℕ) → ((k : ℕ) → k < i → slice_get xs k ≡ Some node → ⊥) → slice_get xs i ≡ Some other
+    → (other ≡ node → ⊥) → (k : ℕ) → k < i + 1 → slice_get xs k ≡ Some node → ⊥
+none_up_to node other xs i none here ne k lt at_k =
+    elim (cases_eq k i) [
+      | inl same ↦ ne (some_is (sym here ∙ ap (slice_get xs) (sym same) ∙ at_k))
+      | inr apart ↦ none k (omega (arith, lt, apart)) at_k
+    ]
+
+-- from its end on a list has no node
+pub past_end : (xs : List ℕ) (i : ℕ) → length xs ≤ i → slice_get xs i ≡ None
+past_end [] i le = refl
+past_end (x ∷ xs) zero le = absurd (omega (arith, le))
+past_end (x ∷ xs) (suc i) le = past_end xs i (omega (arith, le))
 
 -- at an index below its length a list has a node
 pub some_at : (xs : List ℕ) (k : ℕ) → k < length xs → IsSome (slice_get xs k)

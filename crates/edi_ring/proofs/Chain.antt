@@ -1,39 +1,22 @@
--- A chain of nodes between its two ends: what one node more or less at a place makes of it.
-use Rattle.std.proofs.Common.{◌≡◌, ℕ, ◌+◌, ◌⊎◌, inl, inr, not, List, [], ◌∷◌, ◌++◌, length, refl, sym, ◌∙◌, ap, arith, eqb, eq-eqb, subst}
+-- Nodes of a list: what one more or less makes of it.
+use Rattle.std.proofs.Common.{◌≡◌, ℕ, zero, suc, ◌+◌, ◌<◌, ◌⊎◌, inl, inr, not, List, [], ◌∷◌, ◌++◌, length, refl, sym, ◌∙◌, ap, arith, eqb}
+use Rattle.std.proofs.Common.{eq-eqb, subst}
+use Rattle.std.proofs.Common.{take, drop}
 use Rattle.std.proofs.lemmas.Bool.{ne_eqb, cases_eq}
-use Rattle.std.specs.Prelude.{Option, Some, None, filter, slice_get}
-use Rattle.edi_ring.specs.Links.{Runs, IsAmong, NoneTwice}
+use Rattle.std.specs.Prelude.{Some, None, filter, slice_get}
+use Rattle.edi_ring.specs.Links.{IsAmong, NoneTwice}
 
--- places that no node here has behave as before
-pub runs_same : (f g f' g' : Option ℕ → Option ℕ) (b : Option ℕ) (xs : List ℕ) → Runs f g b xs → f' b ≡ f b
-    → ((c : ℕ) → IsAmong c xs → f' (Some c) ≡ f (Some c)) → ((c : ℕ) → IsAmong c xs → g' (Some c) ≡ g (Some c)) → g' None ≡ g None → Runs f' g' b xs
-runs_same f g f' g' b [] r fb fs gs gn = (fb ∙ r.0, gn ∙ r.1)
-runs_same f g f' g' b (x ∷ xs) r fb fs gs gn =
-    (fb ∙ r.0, gs x (inl refl) ∙ r.1, runs_same f g f' g' (Some x) xs r.2 (fs x (inl refl)) (λ c i. fs c (inr i)) (λ c i. gs c (inr i)) gn)
+pub among_at : (xs : List ℕ) (k n : ℕ) → slice_get xs k ≡ Some n → IsAmong n xs
+among_at [] k n at_k = let end : None ≡ Some n = at_k in absurd (cc)
+among_at (x ∷ xs) zero n at_k = inl (cc)
+among_at (x ∷ xs) (suc k) n at_k = inr (among_at xs k n at_k)
 
--- what stands before a node of the chain
-pub prev_of : (f g : Option ℕ → Option ℕ) (b : Option ℕ) (xs : List ℕ) (n : ℕ) → Runs f g b xs → IsAmong n xs
-    → (g (Some n) ≡ b) ⊎ ((c : ℕ) × (g (Some n) ≡ Some c) × IsAmong c xs)
-prev_of f g b [] n r i = absurd i
-prev_of f g b (x ∷ xs) n r (inl e) = inl (cc)
-prev_of f g b (x ∷ xs) n r (inr i) = elim (prev_of f g (Some x) xs n r.2 i) [ inl h ↦ inr (x, h, inl refl) | inr h ↦ inr (h.0, h.1, inr h.2) ]
-
--- before the first node of the chain
-pub before_first : (f g : Option ℕ → Option ℕ) (b : Option ℕ) (xs : List ℕ) (n : ℕ) → Runs f g b xs → slice_get xs 0 ≡ Some n → g (Some n) ≡ b
-before_first f g b [] n r e = let end : None ≡ Some n = e in absurd (cc)
-before_first f g b (x ∷ xs) n r e = let same : x ≡ n = cc in subst (λ (y : ℕ). g (Some y) ≡ b) same r.1
-
--- what stands after a node of the chain
-pub next_of : (f g : Option ℕ → Option ℕ) (b : Option ℕ) (xs : List ℕ) (n a : ℕ) → Runs f g b xs → IsAmong n xs → f (Some n) ≡ Some a → IsAmong a xs
-next_of f g b [] n a r i e = absurd i
-next_of f g b (x ∷ []) n a r (inl i) e = let end : None ≡ Some a = cc in cc
-next_of f g b (x ∷ y ∷ ys) n a r (inl i) e = inr (inl (cc))
-next_of f g b (x ∷ xs) n a r (inr i) e = inr (next_of f g (Some x) xs n a r.2 i e)
-
--- the last place of a chain
-pub last_of : (f g : Option ℕ → Option ℕ) (x : ℕ) (xs : List ℕ) → Runs f g (Some x) xs → (c : ℕ) × (g None ≡ Some c) × IsAmong c (x ∷ xs)
-last_of f g x [] r = (x, r.1, inl refl)
-last_of f g x (y ∷ ys) r = let h = last_of f g y ys r.2 in (h.0, h.1, inr h.2)
+-- what is among the nodes stands at an index
+pub place_of : (n : ℕ) (xs : List ℕ) → IsAmong n xs → (k : ℕ) × (k < length xs) × (slice_get xs k ≡ Some n)
+place_of n [] i = absurd i
+place_of n (x ∷ xs) (inl e) = (0, omega arith, ap Some (sym e))
+place_of n (x ∷ xs) (inr i) =
+    let h : (k : ℕ) × (k < length xs) × (slice_get xs k ≡ Some n) = place_of n xs i in (suc h.0, omega (arith, h.1), h.2)
 
 -- the nodes without one of them
 abbrev pub minus : ℕ → List ℕ → List ℕ
@@ -117,48 +100,11 @@ NoneTwice-push n [] t free = (λ i. i, tt)
 NoneTwice-push n (x ∷ xs) t free =
     (λ i. elim (among-push n x xs i) [ inl e ↦ free (inl (sym e)) | inr j ↦ t.0 j ], NoneTwice-push n xs t.1 (λ i. free (inr i)))
 
--- a node taken out: the places beside it now lead to one another
-module _ (f g f' g' : Option ℕ → Option ℕ) (n : ℕ)
-    (leads : f' (g (Some n)) ≡ f (Some n)) (f_else : (q : Option ℕ) → (q ≡ g (Some n) → ⊥) → f' q ≡ f q)
-    (leads_back : g' (f (Some n)) ≡ g (Some n)) (g_else : (q : Option ℕ) → (q ≡ f (Some n) → ⊥) → g' q ≡ g q) where
-  pub runs_bridged : (b : Option ℕ) (x : ℕ) (xs : List ℕ) → n ≡ x → g (Some x) ≡ b → Runs f g (Some x) xs → NoneTwice xs
-      → ((c : ℕ) → b ≡ Some c → IsAmong c xs → ⊥) → Runs f' g' b xs
-  runs_bridged b x [] e gb r once far = (cc, cc)
-  runs_bridged b x (y ∷ ys) e gb r once far = (
-    cc,
-    cc,
-    runs_same f g f' g' (Some y) ys r.2
-        (f_else (Some y) (λ h. far y (cc) (inl refl)))
-        (λ c i. f_else (Some c) (λ h. far c (cc) (inr i)))
-        (λ c i. g_else (Some c) (λ h. let same : c ≡ y = cc in once.0 (subst (λ (k : ℕ). IsAmong k ys) same i)))
-        (g_else None (λ h. let same : None ≡ Some y = cc in cc)),
-  )
-
-  pub runs_unlinked : (b : Option ℕ) (xs : List ℕ) → Runs f g b xs → IsAmong n xs → NoneTwice xs
-      → ((c : ℕ) → b ≡ Some c → IsAmong c xs → ⊥) → Runs f' g' b (minus n xs)
-  runs_unlinked b [] r i once far = absurd i
-  runs_unlinked b (x ∷ xs) r (inl e) once far =
-      let gone : IsAmong n xs → ⊥ = λ i. once.0 (subst (λ (k : ℕ). IsAmong k xs) e i) in
-      subst (λ (ys : List ℕ). Runs f' g' b ys) (sym (minus_here n x xs e gone))
-      (runs_bridged b x xs e r.1 r.2 once.1 (λ c h i. far c h (inr i)))
-  runs_unlinked b (x ∷ xs) r (inr i) once far =
-      let other : n ≡ x → ⊥ = λ e. once.0 (subst (λ (k : ℕ). IsAmong k xs) e i) in
-      subst (λ (ys : List ℕ). Runs f' g' b ys) (sym (minus_there n x xs other)) (
-        f_else b (λ h. elim (prev_of f g (Some x) xs n r.2 i) [ inl k ↦ far x (h ∙ k) (inl refl) | inr k ↦ far k.0 (h ∙ k.1) (inr k.2) ]) ∙ r.0,
-        g_else (Some x) (λ h. once.0 (next_of f g (Some x) xs n x r.2 i (sym h))) ∙ r.1,
-        runs_unlinked (Some x) xs r.2 i once.1 (λ c h j. let same : x ≡ c = cc in once.0 (subst (λ (k : ℕ). IsAmong k xs) (sym same) j)),
-      )
-
--- a node put behind the last place: it leads back there, and ends the list
-module _ (f g f' g' : Option ℕ → Option ℕ) (n : ℕ)
-    (leads : f' (g None) ≡ Some n) (ends : f' (Some n) ≡ None) (f_else : (q : Option ℕ) → (q ≡ g None → ⊥) → (q ≡ Some n → ⊥) → f' q ≡ f q)
-    (is_last : g' None ≡ Some n) (leads_back : g' (Some n) ≡ g None) (g_else : (q : ℕ) → (q ≡ n → ⊥) → g' (Some q) ≡ g (Some q)) where
-  pub runs_pushed : (b : Option ℕ) (xs : List ℕ) → Runs f g b xs → NoneTwice xs → (b ≡ Some n → ⊥) → (IsAmong n xs → ⊥)
-      → ((c : ℕ) → b ≡ Some c → IsAmong c xs → ⊥) → Runs f' g' b (xs ++ n ∷ [])
-  runs_pushed b [] r once apart free far = (cc, cc, (ends, is_last))
-  runs_pushed b (x ∷ xs) r once apart free far = (
-    f_else b (λ h. let last = last_of f g x xs r.2 in far last.0 (h ∙ last.1) last.2) apart ∙ r.0,
-    g_else x (λ h. free (inl (sym h))) ∙ r.1,
-    runs_pushed (Some x) xs r.2 once.1 (λ h. let same : x ≡ n = cc in free (inl (sym same))) (λ i. free (inr i))
-        (λ c h i. let same : x ≡ c = cc in once.0 (subst (λ (k : ℕ). IsAmong k xs) (sym same) i)),
-  )
+-- the nodes without the one at an index
+pub minus_at : (n i : ℕ) (xs : List ℕ) → slice_get xs i ≡ Some n → NoneTwice xs → take i xs ++ drop (suc i) xs ≡ minus n xs
+minus_at n i [] h t = let end : None ≡ Some n = h in absurd (cc)
+minus_at n zero (x ∷ xs) h t =
+    let same : n ≡ x = cc in sym (minus_here n x xs same (λ i. t.0 (subst (λ (k : ℕ). IsAmong k xs) same i)))
+minus_at n (suc i) (x ∷ xs) h t =
+    sym (minus_there n x xs (λ e. t.0 (subst (λ (k : ℕ). IsAmong k xs) e (among_at xs i n h)))
+    ∙ ap (λ ys. x ∷ ys) (sym (minus_at n i xs h t.1)))

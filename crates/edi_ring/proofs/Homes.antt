@@ -1,14 +1,15 @@
 -- What callers learn of the lists: the home of each node, and that no node stands in two places.
-use Rattle.std.proofs.Common.{◌≡◌, ℕ, suc, zero, ◌+◌, ◌<◌, ◌≤◌, ◌⊎◌, inl, inr, Bool, true, false, List, [], ◌∷◌, length, refl, sym, ◌∙◌, ap, arith, eqb}
+use Rattle.std.proofs.Common.{◌≡◌, ℕ, suc, zero, ◌+◌, ◌<◌, ◌≤◌, ◌⊎◌, inl, inr, Bool, true, false, List, [], ◌∷◌, length, refl, sym, ◌∙◌, ap}
+use Rattle.std.proofs.Common.{arith, eqb}
 use Rattle.std.proofs.Common.{eq-eqb, get_or}
 use Rattle.std.specs.Prelude.{Option, Some, None}
 use Rattle.std.specs.List.{position_from, IsDistinct, AllByRecursion}
 use Rattle.std.proofs.lemmas.Bool.{ne_eqb, cases_eq, cases_lt}
 use Rattle.std.proofs.lemmas.List.{get_or_past}
 use Rattle.std.proofs.lemmas.Map.Steps.{length-le_from_distinct_below}
-use Rattle.edi_ring.specs.declared.Ends.{Ends}
+use Rattle.edi_ring.specs.declared.Row.{Row}
 use Rattle.edi_ring.specs.Lists.{list_at, has, home_of, IsSound}
-use Rattle.edi_ring.specs.Links.{IsLinked, IsAmong, NoneTwice}
+use Rattle.edi_ring.specs.Links.{IsListed, IsAmong, NoneTwice}
 
 -- the test for a node says whether it is among the nodes
 pub has-from_among : (n : ℕ) (xs : List ℕ) → IsAmong n xs → has xs n ≡ true
@@ -47,9 +48,9 @@ home_from q k (xs ∷ lists) h homes among_list =
           (λ m e. let f = among_list m e in further q k m xs lists f.0 none f.1 f.2))
     ]
 
-pub home_of-IsLinked : (next prev home : List (Option ℕ)) (ends : List Ends) (lists : List (List ℕ)) → IsLinked next prev home ends lists
+pub home_of-IsListed : (home : List (Option ℕ)) (rows : List Row) (lists : List (List ℕ)) → IsListed home rows lists
     → (q : ℕ) → home_of lists q ≡ get_or home q None
-home_of-IsLinked next prev home ends lists h q =
+home_of-IsListed home rows lists h q =
     home_from q 0 lists (get_or home q None)
     (λ l m e i. let same : m ≡ l = omega arith in h.homes l q i ∙ ap (λ k. Some k) (sym same))
     (λ m e. (m, omega arith, h.among_list m q e))
@@ -59,7 +60,7 @@ apart : (n : ℕ) (xs : List ℕ) → (IsAmong n xs → ⊥) → AllByRecursion 
 apart n [] none = tt
 apart n (x ∷ xs) none = (ne_eqb n x (λ e. none (inl e)), apart n xs (λ i. none (inr i)))
 
-IsDistinct-from_NoneTwice : (xs : List ℕ) → NoneTwice xs → IsDistinct eqb xs
+pub IsDistinct-from_NoneTwice : (xs : List ℕ) → NoneTwice xs → IsDistinct eqb xs
 unfolding IsDistinct
 IsDistinct-from_NoneTwice [] t = tt
 IsDistinct-from_NoneTwice (x ∷ xs) t = (apart x xs t.0, IsDistinct-from_NoneTwice xs t.1)
@@ -69,9 +70,9 @@ pub within : (home : List (Option ℕ)) (q l : ℕ) → get_or home q None ≡ S
 within home q l e =
     elim (cases_lt q (length home)) [ inl lt ↦ lt | inr le ↦ let past : get_or home q None ≡ None = get_or_past home q None le in cc ]
 
-pub IsSound-IsLinked : (nodes count : ℕ) (next prev home : List (Option ℕ)) (ends : List Ends) (lists : List (List ℕ))
-    → IsLinked next prev home ends lists → length home ≡ nodes → length ends ≡ count → IsSound nodes count lists
-IsSound-IsLinked nodes count next prev home ends lists h wide many = record {
+pub IsSound-IsListed : (nodes count : ℕ) (home : List (Option ℕ)) (rows : List Row) (lists : List (List ℕ))
+    → IsListed home rows lists → length home ≡ nodes → length rows ≡ count → IsSound nodes count lists
+IsSound-IsListed nodes count home rows lists h wide many = record {
   as_many = h.as_many ∙ many;
   in_range = λ l q i. let lt = within home q l (h.homes l q (among-from_has q (list_at lists l) i)) in omega arith;
   in_one_list = λ a b q i j.

@@ -1,46 +1,69 @@
 -- Helper. How the arrays hold the lists.
-use Rattle.std.specs.Prelude.{◌≡◌, ℕ, zero, suc, ◌+◌, ◌-◌, ◌<◌, ◌⊎◌, Option, Some, None, List, [], ◌∷◌, length, map, slice_index_or, slice_set}
-use Rattle.edi_ring.specs.declared.Ends.{Ends}
+use Rattle.std.specs.Prelude.{◌≡◌, ℕ, ◌+◌, ◌-◌, ◌<◌, ◌≤◌, ◌==◌, ◌⊎◌, if◌then◌else◌, Option, Some, None, List, [], ◌∷◌, length, map, take, drop}
+use Rattle.std.specs.Prelude.{slice_index_or, slice_set}
+use Rattle.std.specs.List.{copy_within}
+use Rattle.std.proofs.Math.Seq.{paste}
+use Rattle.edi_ring.specs.declared.Row.{Row}
 use Rattle.edi_ring.specs.Lists.{list_at}
 
--- so many nodes from this one on, each the next of the one before it
-abbrev pub walk : List (Option ℕ) → Option ℕ → ℕ → List ℕ
-walk next index zero = []
-walk next None (suc n) = []
-walk next (Some node) (suc n) = node ∷ walk next (slice_index_or next node None) n
+abbrev pub no_row : Row
+no_row = record { nodes = []; start = 0; len = 0 }
 
--- the lists that the arrays hold
-abbrev pub lists_in : List (Option ℕ) → List Ends → List (List ℕ)
-lists_in next ends = map (λ e. walk next e.first e.len) ends
+abbrev pub row_at : List Row → ℕ → Row
+row_at rows list = slice_index_or rows list no_row
 
--- where a link leads: from a node to the place kept at it, and from outside the list to its end on that side
-abbrev pub step : List (Option ℕ) → Option ℕ → Option ℕ → Option ℕ
-step links end None = end
-step links end (Some node) = slice_index_or links node None
+-- the nodes that a row holds
+abbrev pub nodes_of : Row → List ℕ
+nodes_of r = take r.len (drop r.start r.nodes)
 
--- the links where a place leads elsewhere, if it is a node
-abbrev pub redirected : List (Option ℕ) → Option ℕ → Option ℕ → List (Option ℕ)
-redirected links None target = links
-redirected links (Some node) target = slice_set links node target
+abbrev pub lists_in : List Row → List (List ℕ)
+lists_in rows = map nodes_of rows
 
--- the end of a list where a place leads elsewhere, if it is the place outside the list
-abbrev pub redirected_end : Option ℕ → Option ℕ → Option ℕ → Option ℕ
-redirected_end end None target = target
-redirected_end end (Some node) target = end
+-- the place behind the last node of a row
+abbrev pub end_of : Row → ℕ
+end_of r = r.start + r.len
 
--- the ends of a list whose links lead on to one more node, the one at this place
-abbrev pub lengthened : Ends → Option ℕ → Ends
-lengthened e here = record { first = redirected_end e.first e.last here; last = here; len = e.len + 1 }
+-- the row with its nodes from the first place on
+abbrev pub at_front : Row → Row
+at_front r = record { nodes = copy_within r.nodes r.start (end_of r) 0; start = 0; len = r.len }
 
--- the ends of a list whose links lead past one of its nodes, the one between these two places
-abbrev pub shortened : Ends → Option ℕ → Option ℕ → Ends
-shortened e before after = record { first = redirected_end e.first before after; last = redirected_end e.last after before; len = e.len - 1 }
+-- the row with a place behind its last node
+abbrev pub roomy : Row → Row
+roomy r = if end_of r == 256 then at_front r else r
 
--- the nodes follow a place, each linked both ways to the place before it, and behind the last of them the list ends
-abbrev pub Runs : (Option ℕ → Option ℕ) → (Option ℕ → Option ℕ) → Option ℕ → List ℕ → Type 0
-Runs after before index [] = (after index ≡ None) × (before None ≡ index)
-Runs after before index (node ∷ nodes) =
-    (after index ≡ Some node) × (before (Some node) ≡ index) × Runs after before (Some node) nodes
+-- the row with one more node at that place
+abbrev pub put_behind : Row → ℕ → Row
+put_behind r node = record { nodes = slice_set r.nodes (end_of r) node; start = r.start; len = r.len + 1 }
+
+-- the row with one more node at its end
+abbrev pub lengthened : Row → ℕ → Row
+lengthened r node = put_behind (roomy r) node
+
+-- how many nodes a row has from an index on
+abbrev pub count_from : Row → ℕ → ℕ
+count_from r i = end_of r - (r.start + i)
+
+-- these nodes
+abbrev pub part_of : Row → ℕ → List ℕ
+part_of r i = take (count_from r i) (drop (r.start + i) r.nodes)
+
+-- these, each but the first one place nearer to the front
+abbrev pub moved : List ℕ → List ℕ
+moved part = copy_within part 1 (length part) 0
+
+-- the row without the node at an index
+abbrev pub shortened : Row → ℕ → Row
+shortened r i = record { nodes = paste r.nodes (r.start + i) (moved (part_of r i)) (count_from r i); start = r.start; len = r.len - 1 }
+
+-- the row without its first node
+abbrev pub rest_of : Row → Row
+rest_of r = record { nodes = r.nodes; start = r.start + 1; len = r.len - 1 }
+
+-- a row of at most so many nodes
+pub record IsShort (most : ℕ) (r : Row) : Type 0 where
+  pub wide : length r.nodes ≡ 256
+  pub fits : r.len ≤ most
+  pub ends : end_of r ≤ 256
 
 -- the node is among these nodes
 abbrev pub IsAmong : ℕ → List ℕ → Type 0
@@ -52,19 +75,16 @@ abbrev pub NoneTwice : List ℕ → Type 0
 NoneTwice [] = Unit {0}
 NoneTwice (node ∷ nodes) = (IsAmong node nodes → ⊥) × NoneTwice nodes
 
--- the nodes stand between these two ends, and their number is kept
-pub record ListStands (next prev : List (Option ℕ)) (ends : Ends) (nodes : List ℕ) : Type 0 where
-  pub runs : Runs (step next ends.first) (step prev ends.last) None nodes
-  pub counted : ends.len ≡ length nodes
+-- a row of at most so many nodes holds these
+pub record RowHolds (most : ℕ) (r : Row) (nodes : List ℕ) : Type 0 where
+  pub short : IsShort most r
+  pub is : nodes_of r ≡ nodes
 
--- the ends of an empty list
-abbrev pub no_ends : Ends
-no_ends = record { first = None; last = None; len = 0 }
-
--- the arrays hold these lists: each is linked from end to end, the home of a node is the list that has it, and no node stands twice
-pub record IsLinked (next prev home : List (Option ℕ)) (ends : List Ends) (lists : List (List ℕ)) : Type 0 where
-  pub as_many : length lists ≡ length ends
-  pub stands : (list : ℕ) → list < length ends → ListStands next prev (slice_index_or ends list no_ends) (list_at lists list)
+-- the arrays hold these lists: each row holds its list, the home of a node is the list that has it, and no node stands twice
+pub record IsListed (home : List (Option ℕ)) (rows : List Row) (lists : List (List ℕ)) : Type 0 where
+  pub as_many : length lists ≡ length rows
+  pub bytes : length home ≤ 256
+  pub stands : (list : ℕ) → list < length rows → RowHolds (length home) (row_at rows list) (list_at lists list)
   pub homes : (list node : ℕ) → IsAmong node (list_at lists list) → slice_index_or home node None ≡ Some list
   pub among_list : (list node : ℕ) → slice_index_or home node None ≡ Some list → IsAmong node (list_at lists list)
   pub once : (list : ℕ) → NoneTwice (list_at lists list)

@@ -1,10 +1,10 @@
-//! Lists linked by index: `M` doubly linked lists over the nodes `0` to `N - 1`, kept in fixed arrays.
+//! `M` lists over the nodes `0` to `N - 1`, each kept in a fixed array in its order. `N` is at most 256, so that a node is a byte.
 #![tactic(auto)]
 
 ghost use Rattle.std.specs.Prelude.{◌≡◌, ℕ, ◌+◌, ◌-◌, ◌<◌, ◌≤◌, ◌==◌, ◌^◌, if◌then◌else◌, Some, None, [], length, replicate, IsSome, IfSome, slice_get, slice_index_or, slice_set};
 ghost use Rattle.std.specs.Option.{ForSome};
 ghost use Rattle.edi_ring.specs.Lists.{list_at, home_of, appended, without, IsSound};
-ghost use Rattle.edi_ring.specs.Links.{no_ends, redirected, redirected_end, lengthened, shortened};
+ghost use Rattle.edi_ring.specs.Links.{no_row, row_at, nodes_of, end_of, at_front, roomy, lengthened, shortened, rest_of, IsAmong, IsShort};
 
 use std::marker::Model;
 
@@ -63,23 +63,25 @@ impl Link {
     }
 }
 
-/// The two ends of one list, and how many nodes it has.
+/// As many nodes there are at most.
+const PLACES: usize = 256;
+
+/// The nodes of one list, from the front to the back: `len` of these, from `start` on.
 #[derive(Clone, Copy, Debug)]
-struct Ends {
-    first: Link,
-    last: Link,
+struct Row {
+    nodes: [u8; PLACES],
+    start: usize,
     len: usize,
 }
 
 /// `M` lists of nodes. A node is a number below `N`, and it stands in one list at most.
 ///
-/// Contracts see the lists themselves, each as the list of its nodes from the front to the back.
-/// Every call but `nth`, `at` and `take_at` takes a few steps, whatever the lengths of the lists, and none allocates.
+/// Contracts see the lists themselves, each as the list of its nodes from the front to the back. No call allocates. `take_at`, `take` and
+/// `to_back` move the nodes behind the one that they take away; `take` and `to_back` look for it first. `push_back` moves all nodes of a
+/// list to the front where the last place of its array is taken. All others take a few steps.
 #[derive(Debug, Drop)]
 pub struct Lists<const N: usize, const M: usize> {
-    ends: [Ends; M],
-    next: [Link; N],
-    prev: [Link; N],
+    rows: [Row; M],
     home: [Link; N],
 }
 
@@ -93,136 +95,150 @@ fn link_at<const N: usize>(links: &[Link; N], node: usize) -> Link
     links[node]
 }
 
-// The ends of a list.
-#[tactic(auto, using(crate::proofs::Elements::ends_there))]
+// The node at an index of a list.
 #[inline(always)]
-fn ends_at<const M: usize>(ends: &[Ends; M], list: usize) -> Ends
-    requires { list < M }
-    ensures { result ≡ slice_index_or ends.now list no_ends }
+fn node_at<const M: usize>(rows: &[Row; M], list: usize, i: usize) -> usize
+    requires list_in_range { list < M }
+    requires short { IsShort 256 (row_at rows.now list) }
+    requires there { i < (row_at rows.now list).len }
+    ensures { slice_get (nodes_of (row_at rows.now list)) i ≡ Some result }
 {
-    ends[list]
+    usize::from(rows[list].nodes[rows[list].start + i])
 }
 
-// Where no node is at `index`, it is the one outside the list, whose link is the list's end.
-fn redirect<const N: usize>(links: &mut [Link; N], end: &mut Link, index: Link, target: Link)
-    requires { ForSome index (λ node. node < N) }
-    ensures links { links.new ≡ redirected links.old index target }
-    ensures end { end.new ≡ redirected_end end.old index target }
+// How many nodes a list has.
+#[inline(always)]
+fn len_at<const M: usize>(rows: &[Row; M], list: usize) -> usize
+    requires { list < M }
+    ensures { result ≡ (row_at rows.now list).len }
 {
-    match index.number() {
-        Some(node) => links[node] = target,
-        None => *end = target,
+    rows[list].len
+}
+
+// Moves the nodes of a row to the front of its array.
+#[inline(never)]
+fn move_to_front(row: &mut Row)
+    requires { IsShort 256 row.old }
+    ensures { row.new ≡ at_front row.old }
+{
+    row.nodes.copy_within(row.start..row.start + row.len, 0);
+    row.start = 0;
+}
+
+// Has a place behind the last node of a row.
+#[inline(always)]
+fn make_room(row: &mut Row)
+    requires short { IsShort 256 row.old }
+    requires room { row.old.len < 256 }
+    ensures is { row.new ≡ roomy row.old }
+    ensures room { end_of row.new < 256 }
+{
+    if row.start + row.len == PLACES {
+        move_to_front(row);
     }
 }
 
-// Leads the links of a list past the one node of it that stands between these two, and counts one less.
+// Puts the node behind the last one of a row.
 #[inline(always)]
-fn lead_past<const N: usize>(
-    next: &mut [Link; N],
-    prev: &mut [Link; N],
-    ends: &mut Ends,
-    before: Link,
-    after: Link,
-)
-    requires before_in_range { ForSome before (λ node. node < N) }
-    requires after_in_range { ForSome after (λ node. node < N) }
-    requires some { 0 < ends.old.len }
-    ensures next { next.new ≡ redirected next.old before after }
-    ensures prev { prev.new ≡ redirected prev.old after before }
-    ensures ends { ends.new ≡ shortened ends.old before after }
+fn lengthen(row: &mut Row, node: usize)
+    requires short { IsShort 256 row.old }
+    requires room { row.old.len < 256 }
+    requires small { node < 256 }
+    ensures { row.new ≡ lengthened row.old node }
 {
-    redirect(next, &mut ends.first, before, after);
-    redirect(prev, &mut ends.last, after, before);
-    ends.len -= 1;
+    make_room(row);
+    row.nodes[row.start + row.len] = node as u8;
+    row.len += 1;
 }
 
-// The same where the ends are those of one list among others.
-#[tactic(auto, using(crate::proofs::Elements::ends_there))]
+// The same of a row among others.
 #[inline(always)]
-fn lead_past_in<const N: usize, const M: usize>(
-    next: &mut [Link; N],
-    prev: &mut [Link; N],
-    ends: &mut [Ends; M],
-    list: usize,
-    before: Link,
-    after: Link,
-)
+fn lengthen_in<const M: usize>(rows: &mut [Row; M], list: usize, node: usize)
     requires list_in_range { list < M }
-    requires before_in_range { ForSome before (λ node. node < N) }
-    requires after_in_range { ForSome after (λ node. node < N) }
-    requires some { 0 < (slice_index_or ends.old list no_ends).len }
-    ensures next { next.new ≡ redirected next.old before after }
-    ensures prev { prev.new ≡ redirected prev.old after before }
-    ensures ends { ends.new ≡ slice_set ends.old list (shortened (slice_index_or ends.old list no_ends) before after) }
+    requires short { IsShort 256 (row_at rows.old list) }
+    requires room { (row_at rows.old list).len < 256 }
+    requires small { node < 256 }
+    ensures { rows.new ≡ slice_set rows.old list (lengthened (row_at rows.old list) node) }
 {
-    lead_past(next, prev, &mut ends[list], before, after);
+    lengthen(&mut rows[list], node);
 }
 
-// Leads the links of a list on to the node behind its last one, and counts one more.
+// Takes the node at an index out of a row: those behind it go one place to the front.
 #[inline(always)]
-fn lead_on<const N: usize>(next: &mut [Link; N], ends: &mut Ends, here: Link)
-    requires last_in_range { ForSome ends.old.last (λ node. node < N) }
-    requires room { ends.old.len + 1 < 2 ^ 64 }
-    ensures next { next.new ≡ redirected next.old ends.old.last here }
-    ensures ends { ends.new ≡ lengthened ends.old here }
+fn shorten(row: &mut Row, i: usize)
+    requires short { IsShort 256 row.old }
+    requires there { i < row.old.len }
+    ensures { row.new ≡ shortened row.old i }
 {
-    let last = ends.last;
-    redirect(next, &mut ends.first, last, here);
-    ends.last = here;
-    ends.len += 1;
+    let part = &mut row.nodes[row.start + i..row.start + row.len];
+    part.copy_within(1.., 0);
+    row.len -= 1;
 }
 
-// The same where the ends are those of one list among others.
-#[tactic(auto, using(crate::proofs::Elements::ends_there))]
+// The same of a row among others.
 #[inline(always)]
-fn lead_on_in<const N: usize, const M: usize>(
-    next: &mut [Link; N],
-    ends: &mut [Ends; M],
-    list: usize,
-    here: Link,
-)
+fn shorten_in<const M: usize>(rows: &mut [Row; M], list: usize, i: usize)
     requires list_in_range { list < M }
-    requires last_in_range { ForSome (slice_index_or ends.old list no_ends).last (λ node. node < N) }
-    requires room { (slice_index_or ends.old list no_ends).len + 1 < 2 ^ 64 }
-    ensures next { next.new ≡ redirected next.old (slice_index_or ends.old list no_ends).last here }
-    ensures ends { ends.new ≡ slice_set ends.old list (lengthened (slice_index_or ends.old list no_ends) here) }
+    requires short { IsShort 256 (row_at rows.old list) }
+    requires there { i < (row_at rows.old list).len }
+    ensures { rows.new ≡ slice_set rows.old list (shortened (row_at rows.old list) i) }
 {
-    lead_on(next, &mut ends[list], here);
+    shorten(&mut rows[list], i);
+}
+
+// Takes the first node out of a row.
+#[inline(always)]
+fn shorten_front(row: &mut Row)
+    requires short { IsShort 256 row.old }
+    requires some { 0 < row.old.len }
+    ensures { row.new ≡ rest_of row.old }
+{
+    row.start += 1;
+    row.len -= 1;
+}
+
+// The same of a row among others.
+#[inline(always)]
+fn shorten_front_in<const M: usize>(rows: &mut [Row; M], list: usize)
+    requires list_in_range { list < M }
+    requires short { IsShort 256 (row_at rows.old list) }
+    requires some { 0 < (row_at rows.old list).len }
+    ensures { rows.new ≡ slice_set rows.old list (rest_of (row_at rows.old list)) }
+{
+    shorten_front(&mut rows[list]);
 }
 
 impl<const N: usize, const M: usize> Model for Lists<N, M> {
     ghost use Rattle.std.specs.Prelude.{ℕ, List};
-    ghost use Rattle.edi_ring.specs.Links.{lists_in, IsLinked};
+    ghost use Rattle.edi_ring.specs.Links.{lists_in, IsListed};
 
     ghost Value = { List (List ℕ) };
 
-    ghost view = { λ s. lists_in s.next s.ends };
+    ghost view = { λ s. lists_in s.rows };
 
-    ghost invariant = { λ s. IsLinked s.next s.prev s.home s.ends (lists_in s.next s.ends) };
+    ghost invariant = { λ s. IsListed s.home s.rows (lists_in s.rows) };
 }
 
 impl<const N: usize, const M: usize> Lists<N, M> {
     /// All lists empty.
     pub fn new() -> Self
+        requires { N ≤ 256 }
         ensures exact { result ≡ replicate M [] }
         ensures sound { IsSound N M result }
     {
         let none = Link::none();
-        let empty = Ends {
-            first: none,
-            last: none,
+        let empty = Row {
+            nodes: [0; PLACES],
+            start: 0,
             len: 0,
         };
         Lists {
-            ends: [empty; M],
-            next: [none; N],
-            prev: [none; N],
+            rows: [empty; M],
             home: [none; N],
         }
     }
 
     /// Puts the node, which is in no list, at the back of the list.
-    #[tactic(auto, using(crate::proofs::Calls::last_within))]
     pub fn push_back(&mut self, list: usize, node: usize)
         requires list_in_range { list < M }
         requires node_in_range { node < N }
@@ -231,18 +247,12 @@ impl<const N: usize, const M: usize> Lists<N, M> {
         ensures homes { (q : ℕ) → home_of self.new q ≡ (if q == node then Some list else home_of self.old q) }
         ensures sound { IsSound N M self.new }
     {
-        let last = ends_at(&self.ends, list).last;
-        let here = Link::to(node);
         let home = Link::to(list);
-        let none = Link::none();
-        self.next[node] = none;
-        self.prev[node] = last;
         self.home[node] = home;
-        lead_on_in(&mut self.next, &mut self.ends, list, here);
+        lengthen_in(&mut self.rows, list, node);
     }
 
     /// Removes the node, which is in a list, from there.
-    #[tactic(auto, using(crate::proofs::Calls::has_home, crate::proofs::Calls::is_list))]
     pub fn take(&mut self, node: usize)
         requires node_in_range { node < N }
         requires listed { IsSome (home_of self.old node) }
@@ -251,22 +261,11 @@ impl<const N: usize, const M: usize> Lists<N, M> {
         ensures sound { IsSound N M self.new }
     {
         let list = link_at(&self.home, node).there();
-        let before = link_at(&self.prev, node);
-        let after = link_at(&self.next, node);
-        let none = Link::none();
-        lead_past_in(
-            &mut self.next,
-            &mut self.prev,
-            &mut self.ends,
-            list,
-            before,
-            after,
-        );
-        self.home[node] = none;
+        let at = self.place(list, node);
+        let _node = self.take_at(list, at);
     }
 
     /// Removes the first node of the list, which has one, from there.
-    #[tactic(auto, using(crate::proofs::Calls::front_within, crate::proofs::Calls::behind_within, crate::proofs::Calls::front_there))]
     pub fn take_front(&mut self, list: usize) -> usize
         requires list_in_range { list < M }
         requires some { 0 < length (list_at self.old list) }
@@ -275,24 +274,14 @@ impl<const N: usize, const M: usize> Lists<N, M> {
         ensures homes { (q : ℕ) → home_of self.new q ≡ (if q == result then None else home_of self.old q) }
         ensures sound { IsSound N M self.new }
     {
-        let node = ends_at(&self.ends, list).first.there();
-        let after = link_at(&self.next, node);
+        let node = self.at(list, 0);
         let none = Link::none();
-        lead_past_in(
-            &mut self.next,
-            &mut self.prev,
-            &mut self.ends,
-            list,
-            none,
-            after,
-        );
+        shorten_front_in(&mut self.rows, list);
         self.home[node] = none;
         node
     }
 
-    /// Removes the node at index `i` of the list, which has one there, from there; counted from 0 at the front. It goes from node to node, as
-    /// `at` does.
-    #[tactic(auto, using(crate::proofs::Calls::before_within, crate::proofs::Calls::after_within, crate::proofs::Calls::some_here))]
+    /// Removes the node at index `i` of the list, which has one there, from there; counted from 0 at the front.
     pub fn take_at(&mut self, list: usize, i: usize) -> usize
         requires list_in_range { list < M }
         requires there { i < length (list_at self.old list) }
@@ -303,17 +292,8 @@ impl<const N: usize, const M: usize> Lists<N, M> {
         ensures sound { IsSound N M self.new }
     {
         let node = self.at(list, i);
-        let before = link_at(&self.prev, node);
-        let after = link_at(&self.next, node);
         let none = Link::none();
-        lead_past_in(
-            &mut self.next,
-            &mut self.prev,
-            &mut self.ends,
-            list,
-            before,
-            after,
-        );
+        shorten_in(&mut self.rows, list, i);
         self.home[node] = none;
         node
     }
@@ -337,54 +317,39 @@ impl<const N: usize, const M: usize> Lists<N, M> {
         ensures exact { result ≡ slice_get (list_at self.now list) 0 }
         ensures sound { IsSound N M self.now }
     {
-        ends_at(&self.ends, list).first.number()
+        self.nth(list, 0)
     }
 
     /// The node at index `i` of the list, counted from 0 at the front; `None` exactly where the
-    /// list has no node there. It goes from node to node, so it takes as many steps as `i`.
+    /// list has no node there.
+    #[tactic(auto, using(crate::proofs::Calls::past_end))]
     pub fn nth(&self, list: usize, i: usize) -> Option<usize>
         requires { list < M }
         ensures exact { result ≡ slice_get (list_at self.now list) i }
         ensures sound { IsSound N M self.now }
     {
-        let mut index = ends_at(&self.ends, list).first.number();
-        for _step in 0..i {
-            let node = index?;
-            index = link_at(&self.next, node).number();
+        if i < self.len(list) {
+            return Some(self.at(list, i));
         }
-        index
+        None
     }
 
-    // The node at index `i` of the list, by the links from its front.
-    fn from_front(&self, list: usize, i: usize) -> usize
+    // Where the node stands in its list.
+    fn place(&self, list: usize, node: usize) -> usize
         requires list_in_range { list < M }
-        requires there { i < length (list_at self.now list) }
-        ensures exact { slice_get (list_at self.now list) i ≡ Some result }
-        ensures within { result < N }
+        requires listed { IsAmong node (list_at self.now list) }
+        ensures { slice_get (list_at self.now list) result ≡ Some node }
     {
-        let mut place = ends_at(&self.ends, list).first;
-        for _step in 0..i {
-            place = link_at(&self.next, place.there());
+        let len = self.len(list);
+        for i in 0..len {
+            if self.at(list, i) == node {
+                return i;
+            }
         }
-        place.there()
+        unreachable!()
     }
 
-    // The node that stands so many before the last one of the list, by the links from its back.
-    fn from_back(&self, list: usize, before: usize) -> usize
-        requires list_in_range { list < M }
-        requires there { before < length (list_at self.now list) }
-        ensures exact { slice_get (list_at self.now list) (length (list_at self.now list) - 1 - before) ≡ Some result }
-        ensures within { result < N }
-    {
-        let mut place = ends_at(&self.ends, list).last;
-        for _step in 0..before {
-            place = link_at(&self.prev, place.there());
-        }
-        place.there()
-    }
-
-    /// The node at index `i` of the list, which has one there; counted from 0 at the front. It goes from node to node, as `nth` does, but from
-    /// the nearer end.
+    /// The node at index `i` of the list, which has one there; counted from 0 at the front.
     pub fn at(&self, list: usize, i: usize) -> usize
         requires list_in_range { list < M }
         requires there { i < length (list_at self.now list) }
@@ -392,11 +357,7 @@ impl<const N: usize, const M: usize> Lists<N, M> {
         ensures within { result < N }
         ensures sound { IsSound N M self.now }
     {
-        let len = self.len(list);
-        if i < len / 2 {
-            return self.from_front(list, i);
-        }
-        self.from_back(list, len - 1 - i)
+        node_at(&self.rows, list, i)
     }
 
     /// How many nodes the list has.
@@ -406,7 +367,7 @@ impl<const N: usize, const M: usize> Lists<N, M> {
         ensures bound { result ≤ N }
         ensures sound { IsSound N M self.now }
     {
-        ends_at(&self.ends, list).len
+        len_at(&self.rows, list)
     }
 
     /// The list that has the node; `None` exactly where no list has it.

@@ -1,10 +1,12 @@
-use Rattle.std.proofs.Common.{◌≡◌, ◌-◌, ℕ, length, arith, subst}
-use Rattle.std.specs.Prelude.{Some, slice_get}
-use Rattle.edi_ring.specs.Lists.{list_at}
+use Rattle.std.proofs.Common.{sym, ◌∙◌, ap}
+use Rattle.std.specs.Prelude.{slice_get}
+use Rattle.edi_ring.proofs.Calls as calls
 use Rattle.edi_ring.proofs.Lists.at.Goals as goal
 
-pub returns-clause-exact : goal.returns-clause-exact
-returns-clause-exact g c =
-    let front : length (list_at c.args.self.now c.args.list) - 1 - (c.len-len.result - 1 - c.args.i) ≡ c.args.i =
-    omega (arith, c.len-len.ensures.exact, c.requires.there) in
-    subst (λ (k : ℕ). slice_get (list_at c.args.self.now c.args.list) k ≡ Some c.from_back.result) front c.from_back.ensures.exact
+pub returns-clause-within : goal.returns-clause-within
+returns-clause-within g c =
+    calls.index_within _ _ _ _ _ c.self.invariant c.self.view_is c.self.told c.self.told2 c.args.list c.args.i _
+    (ap (λ xs. slice_get xs c.args.i) (sym (calls.is _ _ _ _ _ c.self.invariant c.self.view_is c.self.told c.self.told2 c.args.list c.requires.list_in_range)) ∙ c.node_at.ensures)
+
+pub returns-clause-sound : goal.returns-clause-sound
+returns-clause-sound g c = calls.sound _ _ _ _ _ c.self.invariant c.self.view_is c.self.told c.self.told2
