@@ -4,8 +4,7 @@ use Rattle.edi_lex.specs.declared.symbol.Symbol.{Symbol}
 use Rattle.edi_lex.specs.declared.symbol.Symbol.TheVariants as is
 use Rattle.edi_lex.specs.declared.symbol.Mark.{Mark}
 use Rattle.edi_tree.specs.declared.names.Name.{Name}
-use Rattle.edi_tree.specs.Spelled.{Spelled, just, name_mark}
-use Rattle.edi_tree.specs.Spells.{StandsAsMark}
+use Rattle.edi_tree.specs.Stands.{Spelled, just, name_mark, StandsAsMark}
 use Rattle.edi_tree.specs.Levels.{mark, word, named}
 use Rattle.edi_grammar.specs.Grammar.{Part, token, level}
 use Rattle.edi_grammar.specs.Parser.{rule_at}

@@ -3,8 +3,8 @@ use Rattle.std.proofs.Common.{◌≡◌, ℕ, suc, ◌<◌, ◌≤◌, List, [],
 use Rattle.std.proofs.Common.{append_assoc}
 use Rattle.std.specs.Prelude.{IsErrAnd, IfErr}
 use Rattle.edi_lex.specs.declared.symbol.Mark.{Mark}
-use Rattle.edi_tree.specs.Spelled.{Spelled}
-use Rattle.edi_tree.specs.Spells.{StandsAsMark, StandAsMarks, to_end}
+use Rattle.edi_tree.specs.Stands.{Spelled, StandsAsMark, StandAsMarks}
+use Rattle.edi_tree.specs.Spells.{to_end}
 use Rattle.edi_tree.specs.Levels.{Element, mark, level_end, marks_among}
 use Rattle.edi_grammar.specs.Grammar as item
 use Rattle.edi_grammar.specs.Grammar.{Part, token, part, level}

@@ -2,7 +2,7 @@
 use Rattle.std.proofs.Common.{◌≡◌, ◌≤◌, ℕ, List, [], ◌∷◌, ◌++◌, length, false, Some, refl, sym, ap, ◌∙◌}
 use Rattle.edi_lex.specs.declared.symbol.Symbol.{Symbol}
 use Rattle.edi_lex.specs.declared.symbol.Mark.{Mark}
-use Rattle.edi_tree.specs.Spelled.{just}
+use Rattle.edi_tree.specs.Stands.{just}
 use Rattle.edi_tree.specs.Levels.{Element, word}
 use Rattle.edi_grammar.specs.Grammar.{token, part}
 use Rattle.edi_grammar.specs.Parser.{rule_at}

@@ -1,7 +1,8 @@
 -- Words of contracts. What each parsing function keeps. It waits for a part of the grammar where n levels are open, before the marks p.
 use Rattle.std.specs.Prelude.{◌≡◌, ℕ, List, [], ◌∷◌, ◌++◌, Option}
 use Rattle.edi_lex.specs.declared.symbol.Mark.{Mark}
-use Rattle.edi_tree.specs.Spells.{StandAsMarks, to_end}
+use Rattle.edi_tree.specs.Stands.{StandAsMarks}
+use Rattle.edi_tree.specs.Spells.{to_end}
 use Rattle.edi_tree.specs.Levels.{Element, marks_among}
 use Rattle.edi_grammar.specs.Grammar.{Part, part, level}
 use Rattle.edi_grammar.specs.Parser.{Why, Stops}

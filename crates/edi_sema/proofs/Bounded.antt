@@ -16,8 +16,10 @@ use Rattle.edi_lex.specs.declared.symbol.Symbol.TheVariants as is
 use Rattle.edi_lex.specs.declared.symbol.Mark.{Mark}
 use Rattle.edi_lex.proofs.Runs.{both}
 use Rattle.edi_tree.specs.Tree.{Program}
-use Rattle.edi_tree.specs.Spelled.{Spelled, spelled}
-use Rattle.edi_tree.specs.Spells.{StandAsMarks, IsBounded}
+use Rattle.edi_tree.specs.Stands.{Spelled, StandAsMarks}
+use Rattle.edi_tree.specs.Spelled.{spelled}
+use Rattle.edi_tree.specs.Spells.{IsBounded}
+use Rattle.edi_tree.proofs.Marks.{parts_stand}
 use Rattle.edi_tree.proofs.Scans.{all_are_spelled}
 use Rattle.edi_unit.specs.Types.{int, char, is_ordinal_of}
 use Rattle.edi_static.specs.InRange.{AreCharacters}
@@ -74,11 +76,11 @@ standing_few (s ∷ ss) (m ∷ marks) h e =
     omega (arith, sum_by-cons (λ m. size_of m.symbol) m marks, sized m.symbol parts.0, standing_few ss marks h.1 parts.1)
 
 spelled_letters : (tree : Program) → IsBounded tree → all_spelled (spelled tree) ≡ true
-spelled_letters tree h = all_are_spelled (spelled tree) h.marks h.spells h.is_bounded.spelled
+spelled_letters tree h = all_are_spelled (spelled tree) h.marks (parts_stand tree h.marks h.spells) h.is_bounded.spelled
 
 spelled_few : (tree : Program) → IsBounded tree → nat_le (length (spelled tree)) 262144 ≡ true
 spelled_few tree h =
-    let few = le_trans (standing_few (spelled tree) h.marks h.spells h.is_bounded.spelled) h.is_bounded.few in
+    let few = le_trans (standing_few (spelled tree) h.marks (parts_stand tree h.marks h.spells) h.is_bounded.spelled) h.is_bounded.few in
     grind (arith, nat_tests, few)
 
 -- a tree that spells marks that `Symbols` can hold

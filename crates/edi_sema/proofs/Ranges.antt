@@ -8,7 +8,8 @@ use Rattle.edi_tree.specs.Tree.{branch, Branches, no_branch, next_branch, Proced
 use Rattle.edi_tree.specs.Tree.{pre_item, post_item, Module, module_with, Member, item_member, exported_member, module_member, Members, no_member}
 use Rattle.edi_tree.specs.Tree.{next_member, Declaration, item_declaration, module_declaration, Declarations, no_declaration, next_declaration, Global}
 use Rattle.edi_tree.specs.Tree.{const_global, type_global, Globals, no_global, next_global, Program, program}
-use Rattle.edi_tree.specs.Spelled.{Spelled, just, on, list_then, statements_then, statement_then, conditions_then, condition_then, else_then, branch_then}
+use Rattle.edi_tree.specs.Stands.{Spelled, just, on}
+use Rattle.edi_tree.specs.Spelled.{list_then, statements_then, statement_then, conditions_then, condition_then, else_then, branch_then}
 use Rattle.edi_tree.specs.Spelled.{branches_then, expr_then, procedure_then, item_then, module_then, member_then, members_then, declaration_then}
 use Rattle.edi_tree.specs.Spelled.{declarations_then, global_then, globals_then, program_then}
 use Rattle.edi_tree.specs.Spells.{IsBounded}

@@ -15,7 +15,8 @@ use Rattle.edi_tree.specs.Tree.{params, MoreParams, no_param, next_param, Param,
 use Rattle.edi_tree.specs.Tree.{no_comparison, compared, Exprs, no_expr, next_expr, Simple, simple, addend, Addends, no_addend, next_addend, Term, term}
 use Rattle.edi_tree.specs.Tree.{multiplier, Multipliers, no_multiplier, next_multiplier, Factor, numeral, string, not_factor, parenthesized, call_factor}
 use Rattle.edi_tree.specs.Tree.{variable_factor, Args, args, Variable, variable, Selector, field, index, Selectors, no_selector, next_selector}
-use Rattle.edi_tree.specs.Spelled.{Spelled, just, char_mark, chars_mark, name_mark, names_then, constant_then, const_decl_then, const_decls_then}
+use Rattle.edi_tree.specs.Stands.{Spelled, just, char_mark, chars_mark, name_mark}
+use Rattle.edi_tree.specs.Spelled.{names_then, constant_then, const_decl_then, const_decls_then}
 use Rattle.edi_tree.specs.Spelled.{const_list_then, group_then, groups_then, type_decl_then, var_list_then, result_then, heading_then, params_then}
 use Rattle.edi_tree.specs.Spelled.{more_params_then, param_then, sign_then, root_then, expr_then, comparison_then, exprs_then, simple_then, addends_then}
 use Rattle.edi_tree.specs.Spelled.{term_then, multipliers_then, factor_then, args_then, variable_then, selector_then, selectors_then, optional_args_then}

@@ -4,7 +4,7 @@ use Rattle.std.proofs.Common.{append_assoc, ◌⊎◌, inl, inr}
 use Rattle.edi_lex.specs.declared.symbol.Mark.{Mark}
 use Rattle.edi_tree.specs.Tree.{Program}
 use Rattle.edi_tree.specs.Spells.{Spells, ProgramBegins}
-use Rattle.edi_tree.specs.Depth.{depth}
+use Rattle.edi_tree.specs.Levels.{most_levels}
 use Rattle.edi_grammar.specs.derivation.Faults.{somes, AreShallow, IsMisplaced, IsTooDeepAt}
 use Rattle.edi_syntax.specs.Refusal.{line_of, is_outside, IsWrong, IsSyntaxFault, Refuses}
 use Rattle.edi_syntax.specs.declared.fault.SyntaxFault.{SyntaxFault}
@@ -80,19 +80,19 @@ same_fault marks last fault.NoMemory g p q = absurd p
 tree_not_misplaced : (marks before : List Mark) (here : Option Mark) (tree : Program) → IsMisplaced marks before here → Spells tree marks → ⊥
 tree_not_misplaced marks before here tree p h = p.fails (tree, marks, p.position.0, h, p.position.1 ∙ sym (append_assoc (somes before) (here ∷ []) p.position.0))
 
-tree_not_deep : (marks before : List Mark) (m : Mark) (tree : Program) → IsTooDeepAt marks before m → Spells tree marks → depth tree ≤ 64 → ⊥
+tree_not_deep : (marks before : List Mark) (m : Mark) (tree : Program) → IsTooDeepAt marks before m → Spells tree marks → most_levels tree ≤ 64 → ⊥
 tree_not_deep marks before m tree p h small =
     let l = level_in tree marks before m p.position.0 h p.position.1 in
     omega (arith, p.deep l.0 l.1, l.2, small)
 
-pub no_tree : (marks : List Mark) (last : ℕ) (f : SyntaxFault) (tree : Program) → IsSyntaxFault marks last f → Spells tree marks → depth tree ≤ 64 → ⊥
+pub no_tree : (marks : List Mark) (last : ℕ) (f : SyntaxFault) (tree : Program) → IsSyntaxFault marks last f → Spells tree marks → most_levels tree ≤ 64 → ⊥
 no_tree marks last (fault.Syntax l i) tree p h small = tree_not_misplaced marks p.before p.here tree p.misplaced h
 no_tree marks last (fault.TooDeep l i) tree p h small = tree_not_deep marks p.before p.m tree p.deep h small
 no_tree marks last (fault.NotInProfile l i) tree p h small = tree_not_misplaced marks p.before p.here tree p.misplaced h
 no_tree marks last fault.NoMemory tree p h small = p
 
 -- what refuses marks that a program spells is want of memory
-pub refuses_no_program : (marks : List Mark) (last : ℕ) (e : SyntaxFault) (tree : Program) → Refuses marks last e → Spells tree marks → depth tree ≤ 64
+pub refuses_no_program : (marks : List Mark) (last : ℕ) (e : SyntaxFault) (tree : Program) → Refuses marks last e → Spells tree marks → most_levels tree ≤ 64
     → e ≡ fault.NoMemory
 refuses_no_program marks last (fault.Syntax l i) tree r h small = absurd (no_tree marks last (fault.Syntax l i) tree r h small)
 refuses_no_program marks last (fault.TooDeep l i) tree r h small = absurd (no_tree marks last (fault.TooDeep l i) tree r h small)

@@ -3,13 +3,10 @@ use Rattle.std.proofs.Common.{◌≡◌, ℕ, suc, ◌≤◌, List, [], ◌∷�
 use Rattle.std.proofs.Common.{append_assoc, ◌⊎◌, inl, inr}
 use Rattle.edi_lex.specs.declared.symbol.Mark.{Mark}
 use Rattle.edi_tree.specs.Tree.{Program}
-use Rattle.edi_tree.specs.Spelled.{Spelled}
-use Rattle.edi_tree.specs.Spells.{StandsAsMark, StandAsMarks, Spells, to_end, ProgramBegins}
-use Rattle.edi_tree.specs.Levels.{Element, mark, level_end, marks_among, elements, opens, with_symbol, one_less, level_behind, greatest_level, Level}
-use Rattle.edi_tree.specs.Depth.{depth}
-use Rattle.edi_tree.proofs.Greatest.{greatest_is_depth}
+use Rattle.edi_tree.specs.Stands.{Spelled, StandsAsMark, StandAsMarks}
+use Rattle.edi_tree.specs.Spells.{Spells, to_end, ProgramBegins}
+use Rattle.edi_tree.specs.Levels.{Element, mark, level_end, marks_among, elements, opens, with_symbol, one_less, level_behind, greatest_level, most_levels, Level}
 use Rattle.edi_grammar.specs.derivation.Faults.{somes}
-use Rattle.edi_grammar.proofs.derivation.Programs.{spelled_elements}
 
 pub somes_both : (u v : List Mark) → somes (u ++ v) ≡ somes u ++ somes v
 somes_both [] v = refl
@@ -87,7 +84,7 @@ cut_of (mark s ∷ es) (c ∷ marks) (b ∷ front) m rest h e =
 
 -- a level in this tree
 abbrev pub LevelIn : Program → List Mark → Mark → Type 0
-LevelIn tree front m = (level : ℕ) × Level front m level × (level ≤ depth tree)
+LevelIn tree front m = (level : ℕ) × Level front m level × (level ≤ most_levels tree)
 
 least : (es : List Element) (level : ℕ) → level ≤ greatest_level level es
 least [] level = omega arith
@@ -107,9 +104,9 @@ at_most_greatest (level_end ∷ before) s after k = omega (arith, at_most_greate
 pub level_in : (tree : Program) (marks front : List Mark) (m : Mark) (rest : List (Option Mark)) → Spells tree marks → to_end marks ≡ somes front ++ Some m
     ∷ rest → LevelIn tree front m
 level_in tree marks front m rest h e =
-    let c = cut_of (elements tree) marks front m rest (spelled_elements tree marks h) e in
-    let small : level_behind 0 (c.before ++ mark c.s ∷ []) ≤ depth tree = subst (λ k. level_behind 0 (c.before ++ mark c.s ∷ []) ≤ k)
-    (ap (greatest_level 0) (sym c.cut) ∙ greatest_is_depth tree) (at_most_greatest c.before c.s c.after 0) in
+    let c = cut_of (elements tree) marks front m rest h e in
+    let small : level_behind 0 (c.before ++ mark c.s ∷ []) ≤ most_levels tree = subst (λ k. level_behind 0 (c.before ++ mark c.s ∷ []) ≤ k)
+    (ap (greatest_level 0) (sym c.cut)) (at_most_greatest c.before c.s c.after 0) in
     (level_behind 0 (c.before ++ mark c.s ∷ []), (tree, c.before, c.s, c.after, c.cut, c.stand, c.stands, refl), small)
 
 -- what begins a program has a level at its last mark

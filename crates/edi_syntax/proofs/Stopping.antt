@@ -7,7 +7,8 @@ use Rattle.edi_lex.specs.declared.symbol.Mark.{Mark}
 use Rattle.edi_lex.specs.Order.{is_orderly, size_of, extent}
 use Rattle.edi_lex.specs.Spelled.{is_spelled, are_spelled}
 use Rattle.edi_tree.specs.Tree.{Program}
-use Rattle.edi_tree.specs.Spells.{StandAsMarks, Spells, to_end, IsBounded}
+use Rattle.edi_tree.specs.Stands.{StandAsMarks}
+use Rattle.edi_tree.specs.Spells.{Spells, to_end, IsBounded}
 use Rattle.edi_tree.specs.Levels.{Element, marks_among, elements}
 use Rattle.edi_grammar.specs.Grammar.{token}
 use Rattle.edi_grammar.specs.Parser.{complete, wrong, too_deep, Stops, done, taken, other}
@@ -17,7 +18,6 @@ use Rattle.edi_grammar.specs.Rules as g
 use Rattle.edi_grammar.specs.Edison.{edison, start}
 use Rattle.edi_grammar.proofs.Start.{first_fault}
 use Rattle.edi_grammar.specs.derivation.Faults.{somes, IsTheTree}
-use Rattle.edi_grammar.proofs.derivation.Programs.{elements_spelled}
 use Rattle.edi_grammar.proofs.derivation.Firsts.{misplaced, too_deep_at, whole_tree}
 use Rattle.edi_phrases.specs.declared.stop.Stop.{Stop}
 use Rattle.edi_phrases.specs.declared.stop.Stop.TheVariants as stop
@@ -92,7 +92,7 @@ pub whole : (f : List Element → List Element) (marks rest : List Mark) (tree :
     → f [] ≡ elements tree → IsTheTree marks tree
 whole f marks (r ∷ rest) tree p none same = absurd (omega (arith, none))
 whole f marks [] tree p none same =
-    whole_tree marks tree (elements_spelled tree marks (subst (λ es. StandAsMarks (marks_among es) marks) same (p.reads [] tt)))
+    whole_tree marks tree (subst (λ es. StandAsMarks (marks_among es) marks) same (p.reads [] tt))
     (p.at (token kind.End_of_text ∷ []) complete [] refl (taken kind.End_of_text None [] [] [] complete refl (λ o. let no : false ≡ true = o in
     absurd (cc)) (done [])))
 

@@ -5,7 +5,7 @@ ghost use Rattle.edi_tree.specs.Tree as plain;
 ghost use Rattle.edi_tree.specs.View.{program_with};
 ghost use Rattle.edi_tree.specs.Whole.{program_of};
 ghost use Rattle.edi_tree.specs.Spells.{Spells, to_end};
-ghost use Rattle.edi_tree.specs.Depth.{depth};
+ghost use Rattle.edi_tree.specs.Levels.{most_levels};
 ghost use Rattle.edi_grammar.specs.Parser.{Stops, complete};
 ghost use Rattle.edi_grammar.specs.Edison.{edison, start};
 ghost use Rattle.edi_grammar.specs.derivation.Faults.{IsTheTree};
@@ -102,7 +102,7 @@ fn fault_of(symbols: &Symbols, stop: Stop<'_>) -> SyntaxFault
 pub fn parse(alloc: Global, symbols: &Symbols) -> Result<Program, SyntaxFault>
     ensures tree { IfOk result (λ p. IsTheTree symbols.now.marks (program_of p)) }
     ensures fault { IfErr result (λ f. Refuses symbols.now.marks symbols.now.last f) }
-    ensures accepted { (tree : plain.Program) → Spells tree symbols.now.marks → depth tree ≤ 64 → IfErr result (λ f. f ≡ SyntaxFault.NoMemory) }
+    ensures accepted { (tree : plain.Program) → Spells tree symbols.now.marks → most_levels tree ≤ 64 → IfErr result (λ f. f ≡ SyntaxFault.NoMemory) }
     ensures refused { (f : SyntaxFault) → IsSyntaxFault symbols.now.marks symbols.now.last f → (result ≡ Err f) ⊎ (result ≡ Err SyntaxFault.NoMemory) }
 {
     // Read, so that the proof knows its range.

@@ -16,6 +16,7 @@ use Rattle.edi_lex.specs.Reading.{goes_on, ReadsTo}
 use Rattle.edi_lex.proofs.Steps.{IsLexical, Leads, next_leads, end_finishes, Finishes}
 use Rattle.edi_lex.proofs.Readings.{reads_nothing, reads_more, sound_more, too_long_more, full_is_too_long, fault_ends, end_symbols, end_sound}
 use Rattle.edi_tree.specs.Spells.{AreBounded}
+use Rattle.edi_tree.proofs.Greatest.{levels_small}
 use Rattle.edi_unit.specs.Tree.{ProgramUnit}
 use Rattle.edi_texts.specs.Texts.{AreAccepted}
 use Rattle.edi_texts.specs.Laws.{AcceptedTextsAreSound, IsSoundUnit}
@@ -121,7 +122,7 @@ accepted_so text (Ok known) unit e u = record {
   tree = u.tree;
   sound = record {
     is_bounded = ∣ record { marks = known.0; last = known.1; spells = u.tree_is.spells; is_bounded = symbols_bounded text known e } ∣₁;
-    shallow = u.tree_is.shallow;
+    shallow = levels_small u.tree 64 u.tree_is.shallow;
     resolved = (unit, u.resolved);
   };
   resolved = u.resolved;

@@ -14,7 +14,7 @@ use Rattle.edi_grammar.specs.Edison.{edison, start}
 use Rattle.edi_grammar.specs.Grammar.{plain}
 use Rattle.edi_grammar.proofs.Start.{first_fault}
 use Rattle.edi_grammar.specs.derivation.Faults.{IsMisplaced, IsTheTree}
-use Rattle.edi_grammar.proofs.derivation.Programs.{elements_spelled, marks_of, program_of_text}
+use Rattle.edi_grammar.proofs.derivation.Programs.{marks_of, program_of_text}
 use Rattle.edi_grammar.proofs.derivation.Firsts.{misplaced, too_deep_at, whole_tree}
 use Rattle.edi_syntax.proofs.Stopping.{same_marks}
 use Rattle.edi_syntax.specs.Refusal.{is_outside, line_of, IsSyntaxFault}
@@ -87,7 +87,7 @@ tree_of marks s =
     let read = marks_of (elements p.0) lives.2 p.1 in
     let text : plain lives.2 ≡ to_end marks = lives.3 ∙ ap (λ more. v.before ++ more) lives.4 ∙ sym v.cut in
     let same : read.0 ≡ marks = same_marks read.0 marks (sym read.2 ∙ text) in
-    let spells : Spells p.0 marks = subst (λ l. Spells p.0 l) same (elements_spelled p.0 read.0 read.1) in
+    let spells : Spells p.0 marks = subst (λ l. Spells p.0 l) same read.1 in
     (p.0, whole_tree marks p.0 spells s)
 
 judged : (known : List Mark × ℕ) (tree : Program) → IsTheTree known.0 tree → (j : Judged ProgramUnit) → resolve_tree tree ≡ j → Decided (Ok known)

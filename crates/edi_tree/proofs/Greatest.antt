@@ -1,5 +1,5 @@
 -- The greatest level among the elements of a tree is its depth.
-use Rattle.std.proofs.Common.{◌≡◌, refl, ℕ, suc, ◌+◌, ◌≤◌, max, arith, Bool, true, false, List, [], ◌∷◌, Option, Some, None, if◌then◌else◌}
+use Rattle.std.proofs.Common.{◌≡◌, refl, subst, ℕ, suc, ◌+◌, ◌≤◌, max, arith, Bool, true, false, List, [], ◌∷◌, Option, Some, None, if◌then◌else◌}
 use Rattle.std.proofs.Math.Nat.{le-max_left}
 use Rattle.edi_tree.specs.declared.expressions.Relation.{Relation}
 use Rattle.edi_tree.specs.declared.expressions.Relation.TheVariants as relation
@@ -7,7 +7,7 @@ use Rattle.edi_tree.specs.declared.expressions.Addition.{Addition}
 use Rattle.edi_tree.specs.declared.expressions.Addition.TheVariants as addition
 use Rattle.edi_tree.specs.declared.expressions.Multiplication.{Multiplication}
 use Rattle.edi_tree.specs.declared.expressions.Multiplication.TheVariants as multiplication
-use Rattle.edi_tree.specs.Spelled.{relation_symbol, addition_symbol, multiplication_symbol}
+use Rattle.edi_tree.specs.Stands.{relation_symbol, addition_symbol, multiplication_symbol}
 use Rattle.edi_lex.specs.declared.symbol.Symbol.TheVariants as is
 use Rattle.edi_tree.specs.declared.names.Name.{Name}
 use Rattle.edi_tree.specs.declared.constants.Constant.{Constant}
@@ -35,7 +35,7 @@ use Rattle.edi_tree.specs.Depth.{term_depth, multiplier_depth, multipliers_depth
 use Rattle.edi_tree.specs.Depth.{optional_args_depth, list_depth, statements_depth, statement_depth, conditions_depth, condition_depth, else_depth}
 use Rattle.edi_tree.specs.Depth.{branch_depth, branches_depth, procedure_depth, item_depth, module_depth, member_depth, members_depth, declaration_depth}
 use Rattle.edi_tree.specs.Depth.{declarations_depth, global_depth, globals_depth, depth}
-use Rattle.edi_tree.specs.Levels.{Element, mark, level_end, word, kept, named, opens, with_symbol, one_less, greatest_level, names_elements}
+use Rattle.edi_tree.specs.Levels.{Element, mark, level_end, word, kept, named, opens, with_symbol, one_less, greatest_level, names_elements, most_levels}
 use Rattle.edi_tree.specs.Levels.{constant_elements, const_decl_elements, const_decls_elements, const_list_elements, group_elements, groups_elements}
 use Rattle.edi_tree.specs.Levels.{type_decl_elements, var_list_elements, result_elements, heading_elements, params_elements, more_params_elements}
 use Rattle.edi_tree.specs.Levels.{param_elements, sign_elements, root_elements, expr_elements, comparison_elements, exprs_elements, simple_elements}
@@ -325,5 +325,9 @@ program_greatest : (x : Program) → Reaches (program_elements x) (depth x)
 program_greatest (program gs p) k more = let h1 = globals_greatest gs k (procedure_elements p more) in let h2 = procedure_greatest p k more in
     grind (arith, h1, h2, least more k)
 
-pub greatest_is_depth : (tree : Program) → greatest_level 0 (elements tree) ≡ depth tree
+pub greatest_is_depth : (tree : Program) → most_levels tree ≡ depth tree
 greatest_is_depth tree = let h = program_greatest tree 0 [] in grind (arith, h)
+
+-- at most so many levels are open at once, as the parts tell
+pub levels_small : (tree : Program) (most : ℕ) → most_levels tree ≤ most → depth tree ≤ most
+levels_small tree most h = subst (λ k. k ≤ most) (greatest_is_depth tree) h

@@ -1,6 +1,7 @@
 -- The marks among the elements of a tree are the marks that it spells.
-use Rattle.std.proofs.Common.{◌≡◌, refl, List, [], Option, Some, None, ◌∷◌}
+use Rattle.std.proofs.Common.{◌≡◌, refl, sym, subst, List, [], Option, Some, None, ◌∷◌}
 use Rattle.edi_lex.specs.declared.symbol.Symbol.TheVariants as is
+use Rattle.edi_lex.specs.declared.symbol.Mark.{Mark}
 use Rattle.edi_tree.specs.declared.names.Name.{Name}
 use Rattle.edi_tree.specs.declared.constants.Constant.{Constant}
 use Rattle.edi_tree.specs.declared.constants.Constant.TheVariants as constant
@@ -21,7 +22,7 @@ use Rattle.edi_tree.specs.Tree.{next_else, Branch, branch, Branches, no_branch, 
 use Rattle.edi_tree.specs.Tree.{procedure_item, pre_item, post_item, Module, module_with, Member, item_member, exported_member, module_member, Members}
 use Rattle.edi_tree.specs.Tree.{no_member, next_member, Declaration, item_declaration, module_declaration, Declarations, no_declaration, next_declaration}
 use Rattle.edi_tree.specs.Tree.{Global, const_global, type_global, Globals, no_global, next_global, Program, program}
-use Rattle.edi_tree.specs.Spelled.{Spelled}
+use Rattle.edi_tree.specs.Stands.{Spelled, StandAsMarks}
 use Rattle.edi_tree.specs.Spelled.{names_then, constant_then, const_decl_then, const_decls_then, const_list_then, group_then, groups_then, type_decl_then}
 use Rattle.edi_tree.specs.Spelled.{var_list_then, result_then, heading_then, params_then, more_params_then, param_then, sign_then, root_then, expr_then}
 use Rattle.edi_tree.specs.Spelled.{comparison_then, exprs_then, simple_then, addend_then, addends_then, term_then, multiplier_then, multipliers_then}
@@ -267,3 +268,10 @@ program_marks (program gs p) more = rw (globals_marks gs (procedure_elements p m
 
 pub elements_marks : (tree : Program) → marks_among (elements tree) ≡ spelled tree
 elements_marks tree = program_marks tree []
+
+-- a program spells what its parts spell, one after another
+pub parts_stand : (tree : Program) (marks : List Mark) → StandAsMarks (marks_among (elements tree)) marks → StandAsMarks (spelled tree) marks
+parts_stand tree marks h = subst (λ l. StandAsMarks l marks) (elements_marks tree) h
+
+pub parts_spell : (tree : Program) (marks : List Mark) → StandAsMarks (spelled tree) marks → StandAsMarks (marks_among (elements tree)) marks
+parts_spell tree marks h = subst (λ l. StandAsMarks l marks) (sym (elements_marks tree)) h

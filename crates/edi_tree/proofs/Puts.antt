@@ -22,7 +22,8 @@ use Rattle.edi_tree.specs.Tree.{next_else, Branch, branch, Branches, no_branch, 
 use Rattle.edi_tree.specs.Tree.{procedure_item, pre_item, post_item, Module, module_with, Member, item_member, exported_member, module_member, Members}
 use Rattle.edi_tree.specs.Tree.{no_member, next_member, Declaration, item_declaration, module_declaration, Declarations, no_declaration, next_declaration}
 use Rattle.edi_tree.specs.Tree.{Global, const_global, type_global, Globals, no_global, next_global, Program, program}
-use Rattle.edi_tree.specs.Spelled.{Spelled, spelled, on, just, name_mark, relation_symbol, addition_symbol, multiplication_symbol, names_then, constant_then}
+use Rattle.edi_tree.specs.Stands.{Spelled, on, just, name_mark, relation_symbol, addition_symbol, multiplication_symbol}
+use Rattle.edi_tree.specs.Spelled.{spelled, names_then, constant_then}
 use Rattle.edi_tree.specs.Spelled.{const_decl_then, const_decls_then, const_list_then, group_then, groups_then, type_decl_then, var_list_then, result_then}
 use Rattle.edi_tree.specs.Spelled.{heading_then, params_then, more_params_then, param_then, sign_then, root_then, expr_then, comparison_then, exprs_then}
 use Rattle.edi_tree.specs.Spelled.{simple_then, addend_then, addends_then, term_then, multiplier_then, multipliers_then, factor_then, args_then}

@@ -19,8 +19,10 @@ use Rattle.edi_lex.specs.declared.fault.LexFault.TheVariants.{TooLong}
 use Rattle.edi_lex.proofs.Runs.{marked, both, same_byte, stops, name_first, numeral_first, string_first, apostrophe_first, special_first, pair_first}
 use Rattle.edi_lex.proofs.Runs.{space_first}
 use Rattle.edi_tree.specs.Tree.{Program}
-use Rattle.edi_tree.specs.Spelled.{Spelled, spelled}
-use Rattle.edi_tree.specs.Spells.{StandAsMarks, IsOn, IsBounded}
+use Rattle.edi_tree.specs.Stands.{Spelled, StandAsMarks, IsOn}
+use Rattle.edi_tree.specs.Spelled.{spelled}
+use Rattle.edi_tree.proofs.Marks.{parts_stand, parts_spell}
+use Rattle.edi_tree.specs.Spells.{IsBounded}
 use Rattle.edi_tree.specs.Printed.{text_of, separator, gap, line_at, printed_from, printed}
 use Rattle.edi_tree.specs.Scanned.{ScansTo}
 use Rattle.edi_tree.proofs.Decimals.{decimal_is_numeral, decimal_number}
@@ -249,10 +251,10 @@ all_are_rising (s ∷ ss) (m ∷ marks) line from last h e low =
     rw (rises line m.line s.line h.0.1 up, all_are_rising ss marks (line_at line s.line) m.line last h.1 parts.1 (below line m.line s.line h.0.1 up)) refl
 
 program_spelled : (tree : Program) → IsBounded tree → all_spelled (spelled tree) ≡ true
-program_spelled tree h = all_are_spelled (spelled tree) h.marks h.spells h.is_bounded.spelled
+program_spelled tree h = all_are_spelled (spelled tree) h.marks (parts_stand tree h.marks h.spells) h.is_bounded.spelled
 
 program_rising : (tree : Program) → IsBounded tree → are_rising 1 (spelled tree) ≡ true
-program_rising tree h = all_are_rising (spelled tree) h.marks 1 1 h.last h.spells h.is_bounded.orderly (omega arith)
+program_rising tree h = all_are_rising (spelled tree) h.marks 1 1 h.last (parts_stand tree h.marks h.spells) h.is_bounded.orderly (omega arith)
 
 -- the symbols of the printed text are marks that the tree spells
 pub program_scans : (tree : Program) → ∥ IsBounded tree ∥₁ → is_too_long (printed tree) ≡ false → ScansTo tree (symbols_of (printed tree))
@@ -260,4 +262,4 @@ program_scans tree is_bounded short =
     let letters : all_spelled (spelled tree) ≡ true = ∥∥₁_elim is_bounded (Bool-set _ _) (program_spelled tree) in
     let lines : are_rising 1 (spelled tree) ≡ true = ∥∥₁_elim is_bounded (Bool-set _ _) (program_rising tree) in
     let found = ap (λ t. cond t (Err TooLong) (symbols_from (printed tree) 0 1)) short ∙ printed_scans (spelled tree) false 1 letters in
-    subst (ScansTo tree) (sym found) (placed_stand (spelled tree) 1 lines)
+    subst (ScansTo tree) (sym found) (parts_spell tree _ (placed_stand (spelled tree) 1 lines))

@@ -1,4 +1,4 @@
--- Definition. The greatest number of levels that are open at once in a tree. What opens a level has one more than the greatest of its
+-- Helper. The greatest number of levels that are open at once in a tree, part by part. What opens a level has one more than the greatest of its
 -- parts; names, groups of names and lists of variables have none.
 use Rattle.std.specs.Prelude.{ℕ, suc, max, min, Option, Some, None}
 use Rattle.edi_tree.specs.declared.constants.Constant.{Constant}

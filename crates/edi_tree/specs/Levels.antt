@@ -26,8 +26,8 @@ use Rattle.edi_tree.specs.Tree.{next_else, Branch, branch, Branches, no_branch, 
 use Rattle.edi_tree.specs.Tree.{procedure_item, pre_item, post_item, Module, module_with, Member, item_member, exported_member, module_member, Members}
 use Rattle.edi_tree.specs.Tree.{no_member, next_member, Declaration, item_declaration, module_declaration, Declarations, no_declaration, next_declaration}
 use Rattle.edi_tree.specs.Tree.{Global, const_global, type_global, Globals, no_global, next_global, Program, program}
-use Rattle.edi_tree.specs.Spelled.{Spelled, on, just, name_mark, chars_mark, char_mark, relation_symbol, addition_symbol, multiplication_symbol}
-use Rattle.edi_tree.specs.Spells.{StandsAsMark, StandAsMarks}
+use Rattle.edi_tree.specs.Stands.{Spelled, on, just, name_mark, chars_mark, char_mark, relation_symbol, addition_symbol, multiplication_symbol, StandsAsMark}
+use Rattle.edi_tree.specs.Stands.{StandAsMarks}
 
 pub data Element : Type 0 where
   mark : Spelled → Element
@@ -344,6 +344,10 @@ program_elements (program gs p) more = globals_elements gs (procedure_elements p
 -- the marks that a program spells, and the ends of its levels
 abbrev pub elements : Program → List Element
 elements p = program_elements p []
+
+-- the greatest number of levels that are open at once in a program
+abbrev pub most_levels : Program → ℕ
+most_levels p = greatest_level 0 (elements p)
 
 -- some program spells marks that begin with these and then with this one, with which so many levels are open
 abbrev pub Level : List Mark → Mark → ℕ → Type 0

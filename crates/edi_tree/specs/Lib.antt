@@ -2,9 +2,10 @@ pub mod Sequences
 pub mod Tree
 pub mod View
 pub mod Whole
-pub mod Spelled
-pub mod Spells
+pub mod Stands
 pub mod Levels
+pub mod Spells
+pub mod Spelled
 pub mod Depth
 pub mod Printed
 pub mod Printing

@@ -5,7 +5,8 @@ use Rattle.std.specs.Prelude.{unsigned_abs}
 use Rattle.edi_lex.specs.declared.symbol.Symbol.{Symbol}
 use Rattle.edi_lex.specs.declared.symbol.Symbol.TheVariants as is
 use Rattle.edi_tree.specs.Tree.{Program}
-use Rattle.edi_tree.specs.Spelled.{Spelled, spelled}
+use Rattle.edi_tree.specs.Stands.{Spelled}
+use Rattle.edi_tree.specs.Spelled.{spelled}
 
 -- how a symbol is written; a numeral, which is not negative, in decimal digits
 abbrev pub text_of : Symbol → List ℕ

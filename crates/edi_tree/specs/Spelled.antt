@@ -1,23 +1,16 @@
--- Definition. What a tree spells: one clause for each production. `X_then part more` is what the part spells, in front of `more`.
+-- Helper. What a tree spells, without the ends of its levels: one clause for each production. `X_then part more` is what the part spells, in front of `more`.
 use Rattle.std.specs.Prelude.{ℕ, List, [], ◌∷◌, Option, Some, None}
 use Rattle.edi_lex.specs.declared.symbol.Symbol.{Symbol}
 use Rattle.edi_lex.specs.declared.symbol.Symbol.TheVariants as is
 use Rattle.edi_tree.specs.declared.names.Name.{Name}
-use Rattle.edi_tree.specs.declared.names.Char.{Char}
-use Rattle.edi_tree.specs.declared.names.Chars.{Chars}
 use Rattle.edi_tree.specs.declared.constants.Constant.{Constant}
 use Rattle.edi_tree.specs.declared.constants.Constant.TheVariants as constant
 use Rattle.edi_tree.specs.declared.constants.ConstDecl.{ConstDecl}
-use Rattle.edi_tree.specs.declared.expressions.Relation.{Relation}
-use Rattle.edi_tree.specs.declared.expressions.Relation.TheVariants as relation
 use Rattle.edi_tree.specs.declared.expressions.Sign.{Sign}
 use Rattle.edi_tree.specs.declared.expressions.Sign.TheVariants as sign
-use Rattle.edi_tree.specs.declared.expressions.Addition.{Addition}
-use Rattle.edi_tree.specs.declared.expressions.Addition.TheVariants as addition
-use Rattle.edi_tree.specs.declared.expressions.Multiplication.{Multiplication}
-use Rattle.edi_tree.specs.declared.expressions.Multiplication.TheVariants as multiplication
 use Rattle.edi_tree.specs.declared.expressions.Root.{Root}
 use Rattle.edi_tree.specs.declared.expressions.Root.TheVariants as root
+use Rattle.edi_tree.specs.Stands.{Spelled, on, just, name_mark, chars_mark, char_mark, relation_symbol, addition_symbol, multiplication_symbol}
 use Rattle.edi_tree.specs.Tree.{Names, no_name, next_name, ConstDecls, no_const_decl, next_const_decl, ConstList, const_list, Group, group, Groups, no_group}
 use Rattle.edi_tree.specs.Tree.{next_group, TypeDecl, enum_decl, record_decl, array_decl, set_decl, VarList, var_list, Heading, heading, Params, no_params}
 use Rattle.edi_tree.specs.Tree.{params, MoreParams, no_param, next_param, Param, value_param, var_param, procedure_param, Expr, expr, Comparison}
@@ -30,29 +23,6 @@ use Rattle.edi_tree.specs.Tree.{next_else, Branch, branch, Branches, no_branch, 
 use Rattle.edi_tree.specs.Tree.{procedure_item, pre_item, post_item, Module, module_with, Member, item_member, exported_member, module_member, Members}
 use Rattle.edi_tree.specs.Tree.{no_member, next_member, Declaration, item_declaration, module_declaration, Declarations, no_declaration, next_declaration}
 use Rattle.edi_tree.specs.Tree.{Global, const_global, type_global, Globals, no_global, next_global, Program, program}
-
--- a symbol, and its line where the tree keeps it; else the symbol may stand on any line
-pub record Spelled : Type 0 where
-  pub symbol : Symbol
-  pub line : Option ℕ
-
--- a symbol on a line that is kept
-abbrev pub on : Symbol → ℕ → Spelled
-on symbol line = record { symbol = symbol; line = Some line }
-
--- a symbol whose line is not kept
-abbrev pub just : Symbol → Spelled
-just symbol = record { symbol = symbol; line = None }
-
-abbrev pub name_mark : Name → Spelled
-name_mark n = on (is.Name n.text) n.line
-
-abbrev pub chars_mark : Chars → Spelled
-chars_mark s = on (is.Chars s.text) s.line
-
--- a string of one character
-abbrev pub char_mark : Char → Spelled
-char_mark c = on (is.Chars (c.character ∷ [])) c.line
 
 -- ---- names, constants, types, variables
 
@@ -132,29 +102,6 @@ abbrev mutual
   param_then (procedure_param h) more = heading_then h more
 
 -- ---- expressions
-
--- Relation = "=" | "<>" | "<" | "<=" | ">" | ">=" | "in"
-abbrev pub relation_symbol : Relation → Symbol
-relation_symbol relation.Equal = is.Equal
-relation_symbol relation.NotEqual = is.NotEqual
-relation_symbol relation.Less = is.Less
-relation_symbol relation.AtMost = is.AtMost
-relation_symbol relation.Greater = is.Greater
-relation_symbol relation.AtLeast = is.AtLeast
-relation_symbol relation.In = is.In
-
--- "+" | "-" | "or"
-abbrev pub addition_symbol : Addition → Symbol
-addition_symbol addition.Plus = is.Plus
-addition_symbol addition.Minus = is.Minus
-addition_symbol addition.Or = is.Or
-
--- "*" | "div" | "mod" | "and"
-abbrev pub multiplication_symbol : Multiplication → Symbol
-multiplication_symbol multiplication.Star = is.Star
-multiplication_symbol multiplication.Div = is.Div
-multiplication_symbol multiplication.Mod = is.Mod
-multiplication_symbol multiplication.And = is.And
 
 -- [ "+" | "-" ]
 abbrev pub sign_then : Option Sign → List Spelled → List Spelled

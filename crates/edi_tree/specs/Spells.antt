@@ -4,27 +4,12 @@ use Rattle.edi_lex.specs.Order.{is_orderly, extent}
 use Rattle.edi_lex.specs.Spelled.{are_spelled}
 use Rattle.edi_lex.specs.declared.symbol.Mark.{Mark}
 use Rattle.edi_tree.specs.Tree.{Program}
-use Rattle.edi_tree.specs.Spelled.{Spelled, spelled}
+use Rattle.edi_tree.specs.Stands.{StandAsMarks}
+use Rattle.edi_tree.specs.Levels.{elements, marks_among}
 
--- a line that is kept is this one; one that is not kept is any
-abbrev pub IsOn : Option ℕ → ℕ → Type 0
-IsOn None line = Unit {0}
-IsOn (Some kept) line = line ≡ kept
-
--- the symbol of a mark, on its line where the tree keeps it
-abbrev pub StandsAsMark : Spelled → Mark → Type 0
-StandsAsMark s m = (m.symbol ≡ s.symbol) × IsOn s.line m.line
-
--- as many marks, one after another
-abbrev pub StandAsMarks : List Spelled → List Mark → Type 0
-StandAsMarks [] [] = Unit {0}
-StandAsMarks [] (m ∷ marks) = ⊥
-StandAsMarks (s ∷ ss) [] = ⊥
-StandAsMarks (s ∷ ss) (m ∷ marks) = StandsAsMark s m × StandAsMarks ss marks
-
--- a tree spells what its parts spell, one after another
+-- a tree spells the marks among its elements
 abbrev pub Spells : Program → List Mark → Type 0
-Spells tree marks = StandAsMarks (spelled tree) marks
+Spells tree marks = StandAsMarks (marks_among (elements tree)) marks
 
 -- marks, and the line of the end of their text, as `Symbols` holds them: each symbol is one that the language spells, the
 -- lines are at least 1 and never fall, and the symbols, a string counting its characters, number at most 262,144

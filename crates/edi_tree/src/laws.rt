@@ -3,7 +3,7 @@
 ghost use Rattle.std.specs.Prelude.{◌≡◌};
 ghost use Rattle.edi_tree.specs.Tree.{Program};
 ghost use Rattle.edi_tree.specs.Spelled.{spelled};
-ghost use Rattle.edi_tree.specs.Levels.{elements, marks_among, greatest_level};
+ghost use Rattle.edi_tree.specs.Levels.{elements, marks_among, most_levels};
 ghost use Rattle.edi_tree.specs.Depth.{depth};
 
 /// The elements of a program, in which its levels end, have the marks that it spells.
@@ -13,5 +13,5 @@ pub fn elements_have_the_marks()
 
 /// The depth of a program is the greatest number of levels that are open at once in it.
 pub fn depth_is_the_greatest_level()
-    ensures exact { (tree : Program) → greatest_level 0 (elements tree) ≡ depth tree }
+    ensures exact { (tree : Program) → most_levels tree ≡ depth tree }
 {}

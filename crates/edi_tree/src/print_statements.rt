@@ -2,7 +2,7 @@
 
 ghost use Rattle.std.specs.Prelude.{◌≡◌, OnOk};
 ghost use Rattle.edi_tree.specs.View.{branch_of, branches_of, cobegin_of, condition_of, conditions_of, list_of, statement_of};
-ghost use Rattle.edi_tree.specs.Spelled.{just};
+ghost use Rattle.edi_tree.specs.Stands.{just};
 ghost use Rattle.edi_lex.specs.declared.symbol.Symbol.TheVariants as is;
 ghost use Rattle.edi_tree.specs.Printing as spec;
 

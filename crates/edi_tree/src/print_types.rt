@@ -2,7 +2,7 @@
 
 ghost use Rattle.std.specs.Prelude.{◌≡◌, None, OnOk};
 ghost use Rattle.edi_tree.specs.Sequences.{items_of};
-ghost use Rattle.edi_tree.specs.Spelled.{name_mark};
+ghost use Rattle.edi_tree.specs.Stands.{name_mark};
 ghost use Rattle.edi_tree.specs.View.{const_list_of, group_of, groups_of, names, type_decl_of, var_list_of};
 ghost use Rattle.edi_tree.specs.Printing as spec;
 

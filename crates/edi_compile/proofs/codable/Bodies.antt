@@ -8,7 +8,8 @@ use Rattle.std.proofs.lemmas.List.Elements.{All-set, All-get_or, All-push}
 use Rattle.edi_lex.specs.declared.symbol.Symbol.TheVariants as is
 use Rattle.edi_tree.specs.declared.names.Name.{Name}
 use Rattle.edi_tree.specs.Tree as text
-use Rattle.edi_tree.specs.Spelled.{Spelled, on, just, name_mark, constant_then, expr_then, variable_then, optional_args_then, args_then, list_then}
+use Rattle.edi_tree.specs.Stands.{Spelled, on, just, name_mark}
+use Rattle.edi_tree.specs.Spelled.{constant_then, expr_then, variable_then, optional_args_then, args_then, list_then}
 use Rattle.edi_tree.specs.Spelled.{statements_then, statement_then, conditions_then, condition_then, else_then, branch_then, branches_then}
 use Rattle.edi_unit.specs.declared.units.BlockKind.TheVariants as block_kind
 use Rattle.edi_unit.specs.Types.{Shape, greatest_size, int_type, bool_type}

@@ -12,7 +12,8 @@ use Rattle.edi_tree.specs.declared.expressions.Sign.{Sign}
 use Rattle.edi_tree.specs.declared.expressions.Sign.TheVariants as sign
 use Rattle.edi_tree.specs.declared.expressions.Root.TheVariants as root
 use Rattle.edi_tree.specs.Tree as text
-use Rattle.edi_tree.specs.Spelled.{Spelled, on, name_mark, chars_mark, expr_then, sign_then}
+use Rattle.edi_tree.specs.Stands.{Spelled, on, name_mark, chars_mark}
+use Rattle.edi_tree.specs.Spelled.{expr_then, sign_then}
 use Rattle.edi_unit.specs.declared.expressions.Operator.{Operator}
 use Rattle.edi_unit.specs.Types.{Shape, shape_at, is_elementary, is_set_shape, int_type}
 use Rattle.edi_unit.specs.Tree as unit

@@ -11,7 +11,8 @@ use Rattle.edi_tree.specs.declared.expressions.Multiplication.{Multiplication}
 use Rattle.edi_tree.specs.declared.expressions.Multiplication.TheVariants as multiplication
 use Rattle.edi_tree.specs.declared.expressions.Root.TheVariants as root
 use Rattle.edi_tree.specs.Tree as text
-use Rattle.edi_tree.specs.Spelled.{Spelled, on, just, name_mark, relation_symbol, addition_symbol, multiplication_symbol, sign_then, expr_then}
+use Rattle.edi_tree.specs.Stands.{Spelled, on, just, name_mark, relation_symbol, addition_symbol, multiplication_symbol}
+use Rattle.edi_tree.specs.Spelled.{sign_then, expr_then}
 use Rattle.edi_tree.specs.Spelled.{comparison_then, exprs_then, simple_then, addend_then, addends_then, term_then, multiplier_then, multipliers_then}
 use Rattle.edi_tree.specs.Spelled.{factor_then, args_then, variable_then, selector_then, selectors_then}
 use Rattle.edi_unit.specs.Types.{shape_at, bool_type}

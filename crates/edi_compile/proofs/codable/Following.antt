@@ -4,6 +4,7 @@ use Rattle.std.proofs.lemmas.List.Elements.{All-get_or}
 use Rattle.edi_tree.specs.Tree.{Program}
 use Rattle.edi_tree.specs.Spelled.{spelled}
 use Rattle.edi_tree.specs.Spells.{IsBounded}
+use Rattle.edi_tree.proofs.Marks.{parts_stand}
 use Rattle.edi_unit.specs.Need.{no_block}
 use Rattle.edi_unit.specs.Tree.{ProgramUnit}
 use Rattle.edi_static.specs.Programs.{Resolved}
@@ -30,7 +31,7 @@ code_is_light tree unit is_bounded e =
     omega (arith, code_is_long unit, code_fits unit.types unit.blocks, good.standard, good.within)
 
 pub code_is_short_for_text : CodeIsShortForText
-code_is_short_for_text tree unit marks is_bounded spells e = omega (arith, code_is_light tree unit is_bounded e, standing_weight (spelled tree) marks spells)
+code_is_short_for_text tree unit marks is_bounded spells e = omega (arith, code_is_light tree unit is_bounded e, standing_weight (spelled tree) marks (parts_stand tree marks spells))
 
 pub code_is_short : CodeIsShort
 code_is_short tree unit is_bounded e = omega (arith, code_is_light tree unit is_bounded e, tree_weight tree is_bounded)

@@ -19,10 +19,12 @@ use Rattle.edi_tree.specs.declared.expressions.Sign.TheVariants as sign
 use Rattle.edi_tree.specs.Tree.{Names, no_name, next_name, ConstDecls, no_const_decl, next_const_decl, ConstList, const_list, Group, group, Groups, no_group}
 use Rattle.edi_tree.specs.Tree.{next_group, TypeDecl, enum_decl, record_decl, array_decl, set_decl, VarList, var_list, Heading, heading, Params, no_params}
 use Rattle.edi_tree.specs.Tree.{params, MoreParams, no_param, next_param, Param, value_param, var_param, procedure_param, Program}
-use Rattle.edi_tree.specs.Spelled.{Spelled, just, name_mark, names_then, constant_then, const_decl_then, const_decls_then, const_list_then, group_then}
+use Rattle.edi_tree.specs.Stands.{Spelled, just, name_mark, IsOn, StandAsMarks}
+use Rattle.edi_tree.specs.Spelled.{names_then, constant_then, const_decl_then, const_decls_then, const_list_then, group_then}
 use Rattle.edi_tree.specs.Spelled.{groups_then, type_decl_then, var_list_then, result_then, heading_then, params_then, more_params_then, param_then}
 use Rattle.edi_tree.specs.Spelled.{sign_then, spelled}
-use Rattle.edi_tree.specs.Spells.{IsOn, StandAsMarks, IsBounded}
+use Rattle.edi_tree.specs.Spells.{IsBounded}
+use Rattle.edi_tree.proofs.Marks.{parts_stand}
 use Rattle.edi_scheme.specs.Lines.{IsLine}
 
 abbrev pub weight : List Spelled → ℕ
@@ -76,11 +78,11 @@ standing_weight (s ∷ ss) (m ∷ marks) h =
     omega (arith, sum_by-cons (λ m. size_of m.symbol) m marks, here, standing_weight ss marks h.1)
 
 tree_small : (tree : Program) → IsBounded tree → are_small (spelled tree) ≡ true
-tree_small tree h = standing_small (spelled tree) h.marks 1 h.last h.spells h.is_bounded.orderly h.is_bounded.bounded
+tree_small tree h = standing_small (spelled tree) h.marks 1 h.last (parts_stand tree h.marks h.spells) h.is_bounded.orderly h.is_bounded.bounded
 
 tree_light : (tree : Program) → IsBounded tree → nat_le (weight (spelled tree)) 262144 ≡ true
 tree_light tree h =
-    let few = le_trans (standing_weight (spelled tree) h.marks h.spells) h.is_bounded.few in
+    let few = le_trans (standing_weight (spelled tree) h.marks (parts_stand tree h.marks h.spells)) h.is_bounded.few in
     grind (arith, nat_tests, few)
 
 line_lined : (kept : Option ℕ) → is_small kept ≡ true → KeptLine kept

@@ -6,7 +6,8 @@ use Rattle.edi_lex.specs.declared.symbol.Symbol.TheVariants as is
 use Rattle.edi_scope.specs.declared.entity.Entity.TheVariants as entity
 use Rattle.edi_tree.specs.declared.names.Name.{Name}
 use Rattle.edi_tree.specs.Tree as text
-use Rattle.edi_tree.specs.Spelled.{Spelled, on, just, const_list_then, type_decl_then, var_list_then, heading_then, list_then, procedure_then, item_then}
+use Rattle.edi_tree.specs.Stands.{Spelled, on, just}
+use Rattle.edi_tree.specs.Spelled.{const_list_then, type_decl_then, var_list_then, heading_then, list_then, procedure_then, item_then}
 use Rattle.edi_tree.specs.Spelled.{module_then, member_then, members_then, declaration_then, declarations_then, global_then, globals_then, spelled}
 use Rattle.edi_tree.specs.Spells.{IsBounded}
 use Rattle.edi_unit.specs.declared.units.BlockKind.{BlockKind}

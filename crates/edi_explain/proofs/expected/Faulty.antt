@@ -7,7 +7,7 @@ use Rattle.edi_tree.specs.Levels.{mark, elements, level_behind, Level}
 use Rattle.edi_grammar.specs.Kind.{kind_of}
 use Rattle.edi_grammar.specs.derivation.Fits.{Fit}
 use Rattle.edi_grammar.specs.derivation.Faults.{somes, IsMisplaced, IsTooDeepAt}
-use Rattle.edi_grammar.proofs.derivation.Programs.{items_for, spelled_elements}
+use Rattle.edi_grammar.proofs.derivation.Programs.{items_for}
 use Rattle.edi_explain.specs.expected.MayStand.{Begin, MayStand}
 use Rattle.edi_explain.proofs.expected.Swaps.{split}
 use Rattle.edi_explain.proofs.expected.OneKind.{cut_of, kind_decides, somes_both}
@@ -16,7 +16,7 @@ use Rattle.edi_explain.proofs.expected.Reaching.{to_end_somes}
 -- where marks and one more begin a program, that one has a level in it
 level_there : (before : List Mark) (m : Mark) → ProgramBegins (somes before ++ Some m ∷ []) → (level : ℕ) × Level before m level
 level_there before m p =
-    let items = items_for (elements p.0) p.1 (spelled_elements p.0 p.1 p.3) in
+    let items = items_for (elements p.0) p.1 p.3 in
     let s = split items.0 (somes before) (Some m) p.2 (items.2 ∙ p.4 ∙ append_assoc (somes before) (Some m ∷ []) p.2) in
     let c = cut_of (elements p.0) s.first m s.last before s.before (subst (λ l. Fit (elements p.0) l) s.cut items.1) in
     (level_behind 0 (c.before ++ mark c.s ∷ []), (p.0, c.before, c.s, c.after, c.cut, c.stand, c.stands, refl))

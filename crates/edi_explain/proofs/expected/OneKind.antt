@@ -2,8 +2,8 @@
 use Rattle.std.proofs.Common.{◌≡◌, ℕ, zero, suc, ◌+◌, ◌≤◌, List, [], ◌∷◌, ◌++◌, Option, Some, true, refl, sym, ap, ◌∙◌, subst, arith}
 use Rattle.std.proofs.Common.{append_assoc, None, ◌-◌, ◌⊎◌, inl, inr}
 use Rattle.edi_lex.specs.declared.symbol.Mark.{Mark}
-use Rattle.edi_tree.specs.Spelled.{Spelled}
-use Rattle.edi_tree.specs.Spells.{StandsAsMark, StandAsMarks, ProgramBegins}
+use Rattle.edi_tree.specs.Stands.{Spelled, StandsAsMark, StandAsMarks}
+use Rattle.edi_tree.specs.Spells.{ProgramBegins}
 use Rattle.edi_tree.specs.Levels.{Element, mark, level_end, marks_among, elements, opens, with_symbol, one_less, level_behind, Level}
 use Rattle.edi_grammar.specs.Grammar as item
 use Rattle.edi_grammar.specs.Grammar.{closing, plain, Derives, opened, ends_in}
@@ -13,7 +13,7 @@ use Rattle.edi_grammar.specs.Open.{open_behind}
 use Rattle.edi_grammar.specs.Edison.{edison, start}
 use Rattle.edi_grammar.specs.derivation.Fits.{Items, Fit}
 use Rattle.edi_grammar.specs.derivation.Faults.{somes, AreShallow}
-use Rattle.edi_grammar.proofs.derivation.Programs.{items_for, spelled_elements, program_derived, program_of_text, opens_in}
+use Rattle.edi_grammar.proofs.derivation.Programs.{items_for, program_derived, program_of_text, opens_in}
 use Rattle.edi_grammar.proofs.derivation.Programs.{counted}
 use Rattle.edi_grammar.proofs.derivation.Firsts.{begins_of, level_is_ending, placed}
 use Rattle.edi_explain.specs.expected.MayStand.{Begin}
@@ -23,7 +23,7 @@ use Rattle.edi_explain.proofs.expected.Swaps.{no_item, some_same, swapped, split
 pub begins_with : (before : List Mark) (a b : Option Mark) → kind_at a ≡ kind_at b → ProgramBegins (somes before ++ a ∷ [])
     → ProgramBegins (somes before ++ b ∷ [])
 begins_with before a b k p =
-    let items = items_for (elements p.0) p.1 (spelled_elements p.0 p.1 p.3) in
+    let items = items_for (elements p.0) p.1 p.3 in
     let d = program_derived p.0 items.0 items.1 in
     let s = split items.0 (somes before) a p.2 (items.2 ∙ p.4 ∙ append_assoc (somes before) (a ∷ []) p.2) in
     let text = subst (λ l. Derives edison d.0 start l) s.cut d.1 in

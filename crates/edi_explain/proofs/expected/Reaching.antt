@@ -19,7 +19,7 @@ use Rattle.edi_grammar.specs.Kind.{kind_of}
 use Rattle.edi_grammar.proofs.Start.{first_fault}
 use Rattle.edi_grammar.specs.derivation.Faults.{somes, AreShallow, IsTheTree}
 use Rattle.edi_grammar.proofs.derivation.Firsts.{misplaced, placed, too_deep_at, whole_tree}
-use Rattle.edi_grammar.proofs.derivation.Programs.{elements_spelled, marks_of, opens_in, program_of_text}
+use Rattle.edi_grammar.proofs.derivation.Programs.{marks_of, opens_in, program_of_text}
 use Rattle.edi_syntax.specs.Ends.{EndsWrong, EndsDeep}
 use Rattle.edi_syntax.specs.declared.fault.SyntaxFault.TheVariants as fault
 use Rattle.edi_syntax.proofs.Places.{begins_front, level_of}
@@ -73,7 +73,7 @@ whole_stops marks stops =
     let spelled = marks_of (elements p.0) v.lives.2 p.1 in
     let same : spelled.0 ≡ marks = same_marks spelled.0 marks
     (sym spelled.2 ∙ v.lives.3 ∙ ap (λ more. v.before ++ more) v.lives.4 ∙ sym v.cut) in
-    let spells : Spells p.0 marks = subst (λ ms. Spells p.0 ms) same (elements_spelled p.0 spelled.0 spelled.1) in
+    let spells : Spells p.0 marks = subst (λ ms. Spells p.0 ms) same spelled.1 in
     reaches_whole marks p.0 (whole_tree marks p.0 spells stops) stops
 
 pub reaches_part : (marks rest : List Mark) → length rest ≡ 0 → EndsWrong marks rest → (IsWhole marks → ⊥) × Begin marks

@@ -3,7 +3,7 @@ use Rattle.std.proofs.Common.{◌≡◌, ℕ, zero, suc, List, [], ◌∷◌, �
 use Rattle.edi_lex.specs.declared.symbol.Symbol.{Symbol}
 use Rattle.edi_lex.specs.declared.symbol.Symbol.TheVariants as is
 use Rattle.edi_lex.specs.declared.symbol.Mark.{Mark}
-use Rattle.edi_tree.specs.Spelled.{Spelled, on, just, name_mark, chars_mark, char_mark}
+use Rattle.edi_tree.specs.Stands.{Spelled, on, just, name_mark, chars_mark, char_mark}
 use Rattle.edi_tree.specs.Levels.{Element, mark, level_end, word, kept, named, branch_elements, conditions_elements, declarations_elements, list_elements}
 use Rattle.edi_grammar.specs.Grammar as item
 use Rattle.edi_grammar.specs.Grammar.{Part, token, part, closing}

@@ -14,7 +14,7 @@ use Rattle.edi_tree.specs.Tree.{Expr, expr, Comparison, no_comparison, compared,
 use Rattle.edi_tree.specs.Tree.{no_addend, next_addend, Term, term, Multiplier, multiplier, Multipliers, no_multiplier, next_multiplier, Factor, numeral}
 use Rattle.edi_tree.specs.Tree.{string, not_factor, parenthesized, call_factor, variable_factor, Args, args, variable, Selector, field, index, Selectors}
 use Rattle.edi_tree.specs.Tree.{no_selector, next_selector}
-use Rattle.edi_tree.specs.Spelled.{on}
+use Rattle.edi_tree.specs.Stands.{on}
 use Rattle.edi_tree.specs.Levels.{Element, mark, level_end, word, addend_elements, addends_elements, args_elements, comparison_elements, expr_elements}
 use Rattle.edi_tree.specs.Levels.{exprs_elements, factor_elements, multiplier_elements, multipliers_elements, selector_elements, selectors_elements}
 use Rattle.edi_tree.specs.Levels.{sign_elements, simple_elements, term_elements}

@@ -5,11 +5,9 @@ use Rattle.std.specs.Prelude.{nat_lt}
 use Rattle.std.proofs.lemmas.Bool.{ltb-true, ltb-false}
 use Rattle.edi_lex.specs.declared.symbol.Mark.{Mark}
 use Rattle.edi_tree.specs.Tree.{Program}
-use Rattle.edi_tree.specs.Spelled.{Spelled}
-use Rattle.edi_tree.specs.Spells.{StandsAsMark, StandAsMarks, Spells, to_end, ProgramBegins}
-use Rattle.edi_tree.specs.Levels.{Element, mark, level_end, marks_among, elements, opens, with_symbol, one_less, level_behind, greatest_level, Level}
-use Rattle.edi_tree.specs.Depth.{depth}
-use Rattle.edi_tree.proofs.Greatest.{greatest_is_depth}
+use Rattle.edi_tree.specs.Stands.{Spelled, StandsAsMark, StandAsMarks}
+use Rattle.edi_tree.specs.Spells.{Spells, to_end, ProgramBegins}
+use Rattle.edi_tree.specs.Levels.{Element, mark, level_end, marks_among, elements, opens, with_symbol, one_less, level_behind, greatest_level, most_levels, Level}
 use Rattle.edi_grammar.specs.Grammar as item
 use Rattle.edi_grammar.specs.Grammar.{closing, plain, Derives, opened, ends_in}
 use Rattle.edi_grammar.specs.Parser.{complete, wrong, too_deep, Stops}
@@ -22,7 +20,7 @@ use Rattle.edi_grammar.proofs.Open.{open_is_ending}
 use Rattle.edi_grammar.proofs.Start.{first_fault}
 use Rattle.edi_grammar.specs.derivation.Fits.{Items, Fit}
 use Rattle.edi_grammar.specs.derivation.Faults.{somes, AreShallow, IsMisplaced, IsTooDeepAt, IsTheTree}
-use Rattle.edi_grammar.proofs.derivation.Programs.{items_for, marks_of, spelled_elements, elements_spelled, program_derived, program_of_text, same_program, opens_in}
+use Rattle.edi_grammar.proofs.derivation.Programs.{items_for, marks_of, program_derived, program_of_text, same_program, opens_in}
 use Rattle.edi_grammar.proofs.derivation.Programs.{counted, cut_at, parted, level_with, open_with}
 
 cons_not_nil : {A : Type 0} (u : List A) (a : A) (v : List A) → u ++ a ∷ v ≡ [] → ⊥
@@ -46,7 +44,7 @@ pub begins_of : (u more : List (Option Mark)) (n : ℕ) (items : Items) → plai
 begins_of u more n items e d =
     let p = program_of_text n items d in
     let marks = marks_of (elements p.0) items p.1 in
-    (p.0, marks.0, more, elements_spelled p.0 marks.0 marks.1, sym marks.2 ∙ e)
+    (p.0, marks.0, more, marks.1, sym marks.2 ∙ e)
 
 -- the levels that are open with a symbol are those that end behind it
 pub level_is_ending : (tree : Program) (before after : List Element) (s : Spelled) (m : Mark) (n : ℕ) (first last : Items) → StandsAsMark s m
@@ -113,7 +111,7 @@ misplaced marks here behind stops =
         begins = subst (λ u. ProgramBegins u) b.1 (begins_of v.before v.lives.1 v.lives.0 v.lives.2 v.lives.3 v.lives.5);
         shallow = shallow_of b.0 (subst (λ u. Shallow edison 64 start u) b.1 v.shallow);
         fails = λ f.
-            let items = items_for (elements f.0) f.1 (spelled_elements f.0 f.1 f.3) in
+            let items = items_for (elements f.0) f.1 f.3 in
             let d = program_derived f.0 items.0 items.1 in
             v.blocks here behind f.2 d.0 items.0 refl (items.2 ∙ f.4 ∙ append_assoc (somes b.0) (here ∷ []) f.2 ∙ ap (λ u. u ++ here ∷ f.2) (sym b.1)) d.1;
       },
@@ -191,11 +189,11 @@ greatest_small (level_end ∷ es) k small all =
     small_end k (greatest_level (one_less k) es) small
     (greatest_small es (one_less k) (less_small k small) (λ before c after e o. all (level_end ∷ before) c after (ap (λ l. level_end ∷ l) e) o))
 
-shallow_program : (tree : Program) (marks : List Mark) → Spells tree marks → AreShallow marks → depth tree ≤ 64
-shallow_program tree marks spells h = subst (λ k. k ≤ 64) (greatest_is_depth tree) (greatest_small (elements tree) 0 (omega arith) (λ before s after e o.
-    let p = parted before s after marks (subst (λ es. StandAsMarks (marks_among es) marks) e (spelled_elements tree marks spells)) in
+shallow_program : (tree : Program) (marks : List Mark) → Spells tree marks → AreShallow marks → most_levels tree ≤ 64
+shallow_program tree marks spells h = greatest_small (elements tree) 0 (omega arith) (λ before s after e o.
+    let p = parted before s after marks (subst (λ es. StandAsMarks (marks_among es) marks) e spells) in
     subst (λ k. k ≤ 64) (level_with before 0 s)
-    (h p.front p.behind p.m (level_behind 0 (before ++ mark s ∷ [])) p.cut (ap opens p.stands.0 ∙ o) (tree, before, s, after, e, p.stand, p.stands, refl))))
+    (h p.front p.behind p.m (level_behind 0 (before ++ mark s ∷ [])) p.cut (ap opens p.stands.0 ∙ o) (tree, before, s, after, e, p.stand, p.stands, refl)))
 
 pub whole_tree : (marks : List Mark) (tree : Program) → Spells tree marks → Stops edison 64 start (to_end marks) complete [] → IsTheTree marks tree
 whole_tree marks tree spells stops =

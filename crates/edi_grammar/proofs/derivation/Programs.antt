@@ -5,10 +5,9 @@ use Rattle.edi_lex.specs.declared.symbol.Symbol.{Symbol}
 use Rattle.edi_lex.specs.declared.symbol.Symbol.TheVariants as is
 use Rattle.edi_lex.specs.declared.symbol.Mark.{Mark}
 use Rattle.edi_tree.specs.Tree.{Program}
-use Rattle.edi_tree.specs.Spelled.{Spelled}
-use Rattle.edi_tree.specs.Spells.{IsOn, StandsAsMark, StandAsMarks, Spells, to_end}
+use Rattle.edi_tree.specs.Stands.{Spelled, IsOn, StandsAsMark, StandAsMarks}
+use Rattle.edi_tree.specs.Spells.{Spells, to_end}
 use Rattle.edi_tree.specs.Levels.{Element, mark, level_end, marks_among, elements, opens, with_symbol, one_less, level_behind}
-use Rattle.edi_tree.proofs.Marks.{elements_marks}
 use Rattle.edi_grammar.specs.Grammar as item
 use Rattle.edi_grammar.specs.Grammar.{token, closing, plain, Derives, opened}
 use Rattle.edi_grammar.specs.Kinds as kind
@@ -42,12 +41,6 @@ marks_of [] items h = ([], tt, ap plain h)
 marks_of (mark s ∷ es) items h = let more = marks_of es h.1 h.4 in (h.0 ∷ more.0, (h.3, more.1), ap plain h.2 ∙ ap (λ l. Some h.0 ∷ l) more.2)
 marks_of (level_end ∷ es) items h = let more = marks_of es h.0 h.2 in (more.0, more.1, ap plain h.1 ∙ more.2)
 
-pub spelled_elements : (tree : Program) (marks : List Mark) → Spells tree marks → StandAsMarks (marks_among (elements tree)) marks
-spelled_elements tree marks h = subst (λ l. StandAsMarks l marks) (sym (elements_marks tree)) h
-
-pub elements_spelled : (tree : Program) (marks : List Mark) → StandAsMarks (marks_among (elements tree)) marks → Spells tree marks
-elements_spelled tree marks h = subst (λ l. StandAsMarks l marks) (elements_marks tree) h
-
 -- a program whose elements fit is read
 pub program_read : (tree : Program) (items : Items) → Fit (elements tree) items → Read start items (tree, (None, tt))
 program_read tree items fit =
@@ -71,8 +64,8 @@ program_of_text n items d =
 -- no two programs spell the same marks
 pub same_program : (tree other : Program) (marks : List Mark) → Spells tree marks → Spells other marks → tree ≡ other
 same_program tree other marks h f =
-    let a = items_for (elements tree) marks (spelled_elements tree marks h) in
-    let b = items_for (elements other) marks (spelled_elements other marks f) in
+    let a = items_for (elements tree) marks h in
+    let b = items_for (elements other) marks f in
     let r = program_read tree a.0 a.1 in
     let q = program_read other b.0 b.1 in
     let one : Ts start = (tree, (None, tt)) in

@@ -2,8 +2,7 @@
 use Rattle.std.proofs.Common.{◌≡◌, ℕ, suc, List, [], ◌∷◌, ◌++◌, Option, Some, ap, subst}
 use Rattle.edi_lex.specs.declared.symbol.Symbol.{Symbol}
 use Rattle.edi_lex.specs.declared.symbol.Mark.{Mark}
-use Rattle.edi_tree.specs.Spelled.{on}
-use Rattle.edi_tree.specs.Spells.{StandsAsMark}
+use Rattle.edi_tree.specs.Stands.{on, StandsAsMark}
 use Rattle.edi_tree.specs.Levels.{Element, level_end, word}
 use Rattle.edi_grammar.specs.Grammar as item
 use Rattle.edi_grammar.specs.Grammar.{Part, token, part, closing}

@@ -6,8 +6,7 @@ use Rattle.edi_lex.specs.declared.symbol.Mark.{Mark}
 use Rattle.edi_tree.specs.declared.names.Name.{Name}
 use Rattle.edi_tree.specs.declared.names.Char.{Char}
 use Rattle.edi_tree.specs.declared.names.Chars.{Chars}
-use Rattle.edi_tree.specs.Spelled.{Spelled, on, just, name_mark, chars_mark, char_mark}
-use Rattle.edi_tree.specs.Spells.{StandsAsMark}
+use Rattle.edi_tree.specs.Stands.{Spelled, on, just, name_mark, chars_mark, char_mark, StandsAsMark}
 use Rattle.edi_tree.specs.Levels.{Element, mark}
 use Rattle.edi_grammar.specs.Grammar as item
 use Rattle.edi_grammar.specs.Kinds as kind

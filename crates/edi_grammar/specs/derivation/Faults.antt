@@ -3,8 +3,7 @@ use Rattle.std.specs.Prelude.{◌≡◌, ℕ, ◌<◌, ◌≤◌, true, List, []
 use Rattle.edi_lex.specs.declared.symbol.Mark.{Mark}
 use Rattle.edi_tree.specs.Tree.{Program}
 use Rattle.edi_tree.specs.Spells.{Spells, to_end, ProgramBegins}
-use Rattle.edi_tree.specs.Levels.{Level, opens}
-use Rattle.edi_tree.specs.Depth.{depth}
+use Rattle.edi_tree.specs.Levels.{Level, opens, most_levels}
 
 abbrev pub somes : List Mark → List (Option Mark)
 somes [] = []
@@ -36,5 +35,5 @@ pub record IsTooDeepAt (marks before : List Mark) (m : Mark) : Type 0 where
 -- The tree spells the marks, at most 64 levels are open in it, and no other tree spells them.
 pub record IsTheTree (marks : List Mark) (tree : Program) : Type 0 where
   pub spells : Spells tree marks
-  pub shallow : depth tree ≤ 64
+  pub shallow : most_levels tree ≤ 64
   pub one : (other : Program) → Spells other marks → other ≡ tree

@@ -1,7 +1,7 @@
 -- Helper. The items of a text that fit the elements of a tree.
 use Rattle.std.specs.Prelude.{◌≡◌, List, [], ◌∷◌, Option, Some, None}
 use Rattle.edi_lex.specs.declared.symbol.Mark.{Mark}
-use Rattle.edi_tree.specs.Spells.{StandsAsMark}
+use Rattle.edi_tree.specs.Stands.{StandsAsMark}
 use Rattle.edi_tree.specs.Levels.{Element, mark, level_end}
 use Rattle.edi_grammar.specs.Grammar as item
 use Rattle.edi_grammar.specs.Grammar.{closing}

@@ -13,7 +13,7 @@ use Rattle.edi_tree.specs.Tree.{Names, ConstDecls, ConstList, Group, Groups, Typ
 use Rattle.edi_tree.specs.Tree.{Comparison, Exprs, Simple, Addend, Addends, Term, Multiplier, Multipliers, Factor, Args, Selector, Selectors, StatementList}
 use Rattle.edi_tree.specs.Tree.{Statements, Statement, Conditions, Condition, Else, Branch, Branches, no_branch, next_branch, Procedure, Item, Module}
 use Rattle.edi_tree.specs.Tree.{Member, Members, Declaration, Declarations, Global, Globals, Program}
-use Rattle.edi_tree.specs.Spelled.{relation_symbol, addition_symbol, multiplication_symbol}
+use Rattle.edi_tree.specs.Stands.{relation_symbol, addition_symbol, multiplication_symbol}
 use Rattle.edi_tree.specs.Levels.{Element, level_end, word, kept, named, addend_elements, addends_elements, args_elements, branch_elements}
 use Rattle.edi_tree.specs.Levels.{comparison_elements, condition_elements, conditions_elements, const_decl_elements, const_decls_elements}
 use Rattle.edi_tree.specs.Levels.{const_list_elements, constant_elements, declaration_elements, declarations_elements, else_elements, expr_elements}

@@ -8,7 +8,7 @@ use Rattle.edi_tree.specs.declared.expressions.Addition.{Addition}
 use Rattle.edi_tree.specs.declared.expressions.Addition.TheVariants as addition
 use Rattle.edi_tree.specs.declared.expressions.Multiplication.{Multiplication}
 use Rattle.edi_tree.specs.declared.expressions.Multiplication.TheVariants as multiplication
-use Rattle.edi_tree.specs.Spelled.{on, relation_symbol, addition_symbol, multiplication_symbol}
+use Rattle.edi_tree.specs.Stands.{on, relation_symbol, addition_symbol, multiplication_symbol}
 use Rattle.edi_tree.specs.Levels.{Element, kept}
 use Rattle.edi_grammar.specs.Grammar.{Part, token, part, rule_no}
 use Rattle.edi_grammar.specs.Parser.{has, rule_at}

@@ -2,7 +2,7 @@
 use Rattle.std.proofs.Common.{◌≡◌, ℕ, List, [], ◌∷◌, true, false, refl, sym, ◌∙◌}
 use Rattle.edi_lex.specs.declared.symbol.Symbol.TheVariants as is
 use Rattle.edi_lex.specs.declared.symbol.Mark.{Mark}
-use Rattle.edi_tree.specs.Spelled.{chars_mark}
+use Rattle.edi_tree.specs.Stands.{chars_mark}
 use Rattle.edi_tree.specs.Levels.{Element, mark}
 use Rattle.edi_grammar.specs.Grammar.{Part, part}
 use Rattle.edi_grammar.specs.Parser.{has}

@@ -4,7 +4,7 @@
 ghost use Rattle.std.specs.Prelude.{◌≡◌, [], ◌∷◌, ◌<◌, ◌≤◌, ℕ, true, false, length, option_map, IfOk, IfErr, IfSome, IfNone};
 ghost use Rattle.edi_phrases.specs.Prelude.{front, kind_of, has, at_line, Passes, HaltsAt};
 ghost use Rattle.edi_lex.specs.declared.symbol.Symbol.TheVariants as is;
-ghost use Rattle.edi_tree.specs.Spelled.{relation_symbol, addition_symbol, multiplication_symbol};
+ghost use Rattle.edi_tree.specs.Stands.{relation_symbol, addition_symbol, multiplication_symbol};
 ghost use Rattle.edi_tree.specs.View.{selector_of, selectors_of, exprs_of, args_of, factor_of, multipliers_of, term_of, addends_of, simple_of};
 ghost use Rattle.edi_tree.specs.View.{optional_comparison, comparison_of, expr_of};
 ghost use Rattle.edi_tree.specs.Levels.{selector_elements, selectors_elements, exprs_elements, args_elements, factor_elements, multipliers_elements};

@@ -3,8 +3,7 @@ use Rattle.std.proofs.Common.{◌≡◌, ℕ, ◌<◌, List, [], ◌∷◌, true
 use Rattle.edi_lex.specs.declared.symbol.Symbol.{Symbol}
 use Rattle.edi_lex.specs.declared.symbol.Symbol.TheVariants as is
 use Rattle.edi_lex.specs.declared.symbol.Mark.{Mark}
-use Rattle.edi_tree.specs.Spelled.{Spelled, on, just}
-use Rattle.edi_tree.specs.Spells.{StandsAsMark}
+use Rattle.edi_tree.specs.Stands.{Spelled, on, just, StandsAsMark}
 use Rattle.edi_tree.specs.Tree.{Conditions}
 use Rattle.edi_tree.specs.Levels.{Element, mark, word, level_end, conditions_elements, statement_elements}
 use Rattle.edi_grammar.specs.Grammar as item

@@ -1,6 +1,6 @@
 use Rattle.std.proofs.Common.{◌∷◌, [], refl, arith}
 use Rattle.edi_lex.specs.declared.symbol.Symbol.TheVariants as is
-use Rattle.edi_tree.specs.Spelled.{just, name_mark}
+use Rattle.edi_tree.specs.Stands.{just, name_mark}
 use Rattle.edi_grammar.specs.Grammar.{token, part}
 use Rattle.edi_grammar.specs.Kinds as kind
 use Rattle.edi_grammar.specs.Rules as g

@@ -1,7 +1,7 @@
 use Rattle.std.proofs.Common.{◌≡◌, rules, ◌∷◌, [], Some, ap, refl, sym, arith}
 use Rattle.std.proofs.lemmas.Bool.{ne_eqb}
 use Rattle.edi_lex.specs.declared.symbol.Symbol.TheVariants as is
-use Rattle.edi_tree.specs.Spelled.{just, name_mark}
+use Rattle.edi_tree.specs.Stands.{just, name_mark}
 use Rattle.edi_tree.specs.Levels as elements
 use Rattle.edi_tree.specs.View as view
 use Rattle.edi_grammar.specs.Grammar.{token, part}

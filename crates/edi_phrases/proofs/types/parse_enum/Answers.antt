@@ -1,6 +1,6 @@
 use Rattle.std.proofs.Common.{refl, arith}
 use Rattle.edi_lex.specs.declared.symbol.Symbol.TheVariants as is
-use Rattle.edi_tree.specs.Spelled.{just, name_mark}
+use Rattle.edi_tree.specs.Stands.{just, name_mark}
 use Rattle.edi_grammar.specs.Rules as g
 use Rattle.edi_phrases.specs.Words.{at_line}
 use Rattle.edi_phrases.proofs.Moves.{at_exit, over_mark, over_end, over_part, lacks, halts}

@@ -1,7 +1,7 @@
 use Rattle.std.proofs.Common.{◌≡◌, List, [], ◌∷◌, false, Some, refl, arith}
 use Rattle.edi_lex.specs.declared.symbol.Symbol.TheVariants as is
 use Rattle.edi_lex.specs.declared.symbol.Mark.{Mark}
-use Rattle.edi_tree.specs.Spelled.{just, name_mark}
+use Rattle.edi_tree.specs.Stands.{just, name_mark}
 use Rattle.edi_grammar.specs.Grammar as item
 use Rattle.edi_grammar.specs.Grammar.{Part, token}
 use Rattle.edi_grammar.specs.Parser.{rule_at, has}

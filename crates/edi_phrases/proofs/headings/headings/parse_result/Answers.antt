@@ -1,7 +1,7 @@
 use Rattle.std.proofs.Common.{◌∷◌, [], ap, refl}
 use Rattle.std.proofs.lemmas.Bool.{ne_eqb}
 use Rattle.edi_lex.specs.declared.symbol.Symbol.TheVariants as is
-use Rattle.edi_tree.specs.Spelled.{just, name_mark}
+use Rattle.edi_tree.specs.Stands.{just, name_mark}
 use Rattle.edi_grammar.specs.Grammar.{token}
 use Rattle.edi_grammar.specs.Parser.{rule_at}
 use Rattle.edi_grammar.specs.Kinds as kind

@@ -2,7 +2,7 @@ use Rattle.std.proofs.Common.{ℕ, ◌<◌, ◌+◌, List, rules, ◌∷◌, ◌
 use Rattle.std.proofs.lemmas.Bool.{ne_eqb, eqb-true}
 use Rattle.edi_lex.specs.declared.symbol.Symbol.TheVariants as is
 use Rattle.edi_lex.specs.declared.symbol.Mark.{Mark}
-use Rattle.edi_tree.specs.Spelled.{on, just}
+use Rattle.edi_tree.specs.Stands.{on, just}
 use Rattle.edi_tree.specs.Levels.{Element}
 use Rattle.edi_tree.specs.Levels as elements
 use Rattle.edi_tree.specs.View as view

@@ -1,6 +1,6 @@
 use Rattle.std.proofs.Common.{◌∷◌, ◌∙◌, [], ap, refl, sym, arith, ◌≡◌, Some}
 use Rattle.edi_lex.specs.declared.symbol.Symbol.TheVariants as is
-use Rattle.edi_tree.specs.Spelled.{just}
+use Rattle.edi_tree.specs.Stands.{just}
 use Rattle.edi_tree.specs.Levels as elements
 use Rattle.edi_tree.specs.View as view
 use Rattle.edi_grammar.specs.Grammar as item

@@ -1,7 +1,7 @@
 use Rattle.std.proofs.Common.{◌∷◌, ◌∙◌, [], ap, refl, sym, arith, ◌≡◌, Some}
 use Rattle.std.proofs.lemmas.Bool.{eqb-true}
 use Rattle.edi_lex.specs.declared.symbol.Symbol.TheVariants as is
-use Rattle.edi_tree.specs.Spelled.{on, name_mark}
+use Rattle.edi_tree.specs.Stands.{on, name_mark}
 use Rattle.edi_tree.specs.Levels as elements
 use Rattle.edi_grammar.specs.Grammar.{token, part}
 use Rattle.edi_grammar.specs.Parser.{rule_at}

@@ -1,6 +1,6 @@
 use Rattle.std.proofs.Common.{◌∷◌, [], ap, refl, sym, arith, ◌≡◌, Some, ◌∙◌}
 use Rattle.edi_lex.specs.declared.symbol.Symbol.TheVariants as is
-use Rattle.edi_tree.specs.Spelled.{on, just, name_mark}
+use Rattle.edi_tree.specs.Stands.{on, just, name_mark}
 use Rattle.edi_tree.specs.Levels as elements
 use Rattle.edi_grammar.specs.Grammar.{token, part}
 use Rattle.edi_grammar.specs.Parser.{rule_at}

@@ -1,7 +1,7 @@
 use Rattle.std.proofs.Common.{rules, ◌∷◌, ◌∙◌, [], map, ap, refl, sym, arith, ◌≡◌, Some}
 use Rattle.std.proofs.lemmas.Bool.{ne_eqb}
 use Rattle.edi_lex.specs.declared.symbol.Symbol.TheVariants as is
-use Rattle.edi_tree.specs.Spelled.{on, just}
+use Rattle.edi_tree.specs.Stands.{on, just}
 use Rattle.edi_tree.specs.Levels as elements
 use Rattle.edi_tree.specs.View as view
 use Rattle.edi_grammar.specs.Grammar as item
