@@ -1,14 +1,17 @@
 -- The loops that put variables one behind another.
 use Rattle.std.proofs.Common.{◌≡◌, ℕ, zero, suc, ◌+◌, List, [], ◌∷◌, ◌++◌, length, take, slice_get, drop, Option, Some, None, refl, sym, ap, subst, ◌∙◌, arith, append_assoc}
+use Rattle.std.proofs.Math.Seq.{take-nil}
 use Rattle.std.proofs.lemmas.List.Sums.{sum_by-cons}
+use Rattle.std.specs.Global.{Vec}
 use Rattle.std.specs.Prelude.{map, sum_by, option_to_list}
 use Rattle.edi_unit.specs.declared.units.Parameter.{Parameter}
 use Rattle.edi_unit.specs.declared.units.Parameter.TheVariants as slot
-use Rattle.edi_unit.specs.Types.{Shape, size}
-use Rattle.edi_unit.specs.Need.{slot_words}
-use Rattle.edi_scheme.specs.Pieces.{is_address, result_words}
-use Rattle.edi_code.specs.Mapped.{stored_from}
-use Rattle.edi_code.specs.declared.mapped.Stored.{Stored}
+use Rattle.edi_unit.specs.Types.{Shape, fields_of, shape_at, size}
+use Rattle.edi_unit.specs.Tree.{Block}
+use Rattle.edi_unit.specs.Need.{block_at, slots, slot_words}
+use Rattle.edi_scheme.specs.Pieces.{field_offset, is_address, offset, result_words}
+use Rattle.edi_code.specs.Stored.{AreFields, AreVariables, item_at, stored_at, stored_from}
+use Rattle.edi_code.specs.declared.stored.Stored.{Stored}
 
 module _ (types : List Shape) where
   pub parameters_behind : (items : List Parameter) (i : ℕ) (x : Parameter) (first out after : List Stored) (at here behind : ℕ) →
@@ -106,3 +109,58 @@ each_more P [] v h p zero x e = subst (P zero) (some_same e) p
 each_more P [] v h p (suc b) x e = absurd (cc)
 each_more P (y ∷ xs) v h p zero x e = h zero x e
 each_more P (y ∷ xs) v h p (suc b) x e = each_more (λ n. P (suc n)) xs v (λ b x e. h (suc b) x e) p b x e
+
+-- ---- rows, one for each block or type
+
+module _ (types : List Shape) where
+  -- the row of one block more
+  pub variables_more : (blocks : List Block) (rows : List (Vec Stored)) (row : Vec Stored) (b : ℕ) → AreVariables types blocks rows → length rows ≡ b →
+      row.items ≡ stored_from types (slots (block_at blocks b)) 5 → AreVariables types blocks (rows ++ row ∷ [])
+  variables_more blocks rows row b known many one = record {
+    each = each_more (λ n (r : Vec Stored). r.items ≡ stored_from types (slots (block_at blocks n)) 5) rows row known.each
+        (subst (λ n. row.items ≡ stored_from types (slots (block_at blocks n)) 5) (sym many) one);
+  }
+
+  -- the row of one type more
+  pub fields_more : (rows : List (Vec Stored)) (row : Vec Stored) (t : ℕ) → AreFields types rows → length rows ≡ t →
+      row.items ≡ stored_from types (map slot.Value (fields_of (shape_at types t))) 0 → AreFields types (rows ++ row ∷ [])
+  fields_more rows row t known many one = record {
+    each = each_more (λ n (r : Vec Stored). r.items ≡ stored_from types (map slot.Value (fields_of (shape_at types n))) 0) rows row known.each
+        (subst (λ n. row.items ≡ stored_from types (map slot.Value (fields_of (shape_at types n))) 0) (sym many) one);
+  }
+
+  pub no_variables : (blocks : List Block) → AreVariables types blocks []
+  no_variables blocks = record { each = λ b row e. absurd (cc) }
+
+  pub no_fields : AreFields types []
+  no_fields = record { each = λ t row e. absurd (cc) }
+
+  -- what a row has at an index
+  in_row : (row : Option (Vec Stored)) (ps : List Parameter) (at i : ℕ) (x : Stored) → ((r : Vec Stored) → row ≡ Some r → r.items ≡ stored_from types ps at) →
+      item_at row i ≡ Some x → x.offset ≡ at + sum_by (slot_words types) (take i ps)
+  in_row None ps at i x known e = absurd (cc)
+  in_row (Some r) ps at i x known e = (stored_some types ps at i x (ap (λ l. slice_get l i) (sym (known r refl)) ∙ e)).0
+
+  -- a variable that has its place in a row stands there
+  pub variable_stored : (blocks : List Block) (rows : List (Vec Stored)) (b v : ℕ) (x : Stored) → AreVariables types blocks rows →
+      stored_at rows b v ≡ Some x → x.offset ≡ offset types (block_at blocks b) v
+  variable_stored blocks rows b v x known e = in_row (slice_get rows b) (slots (block_at blocks b)) 5 v x (known.each b) e
+
+  -- fields have the words of variables of their types
+  fields_sum : (ts : List ℕ) (n : ℕ) → sum_by (slot_words types) (take n (map slot.Value ts)) ≡ sum_by (size types) (take n ts)
+  fields_sum [] n = omega (arith, ap (sum_by (slot_words types)) (take-nil n), ap (sum_by (size types)) (take-nil n))
+  fields_sum (t ∷ ts) zero = refl
+  fields_sum (t ∷ ts) (suc n) =
+      omega (
+        arith,
+        sum_by-cons (slot_words types) (slot.Value t) (take n (map slot.Value ts)),
+        sum_by-cons (size types) t (take n ts),
+        fields_sum ts n,
+      )
+
+  -- so does a field
+  pub field_stored : (rows : List (Vec Stored)) (t n : ℕ) (x : Stored) → AreFields types rows → stored_at rows t n ≡ Some x →
+      x.offset ≡ field_offset types t n
+  field_stored rows t n x known e =
+      let there = in_row (slice_get rows t) (map slot.Value (fields_of (shape_at types t))) 0 n x (known.each t) e in
+      omega (arith, there, fields_sum (fields_of (shape_at types t)) n)

@@ -1,3 +1,4 @@
+pub mod Stored
 pub mod Scope
 pub mod Emits
 pub mod Writable

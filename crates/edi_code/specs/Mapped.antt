@@ -1,16 +1,15 @@
--- Words of contracts. What is kept of where `when`s and variables stand, and what it stands for.
-use Rattle.std.specs.Prelude.{◌≡◌, ℕ, ◌+◌, ◌<◌, List, [], ◌∷◌, length, Some, slice_get}
-use Rattle.edi_unit.specs.declared.units.Parameter.{Parameter}
+-- Words of contracts. What is kept of where `when`s stand, with where variables stand, and what it stands for.
+use Rattle.std.specs.Prelude.{◌≡◌, ℕ, List, length, Some, slice_get}
 use Rattle.edi_unit.specs.Types.{Shape}
 use Rattle.edi_unit.specs.Tree.{Act, Acts, Clause, Clauses, Block, ProgramUnit}
-use Rattle.edi_unit.specs.Need.{block_at, slots, slot_words}
-use Rattle.edi_scheme.specs.Pieces.{ClauseKind, is_address}
+use Rattle.edi_unit.specs.Need.{block_at, slots}
+use Rattle.edi_scheme.specs.Pieces.{ClauseKind}
 use Rattle.edi_scheme.specs.Laws.{parts_of}
 use Rattle.edi_scheme.specs.Awaits as scheme
 use Rattle.edi_scheme.specs.Awaits.{block_awaits}
 use Rattle.edi_code.specs.Scope.{types_in, blocks_in}
 use Rattle.edi_code.specs.declared.scope.Scope.{Scope}
-use Rattle.edi_code.specs.declared.mapped.Stored.{Stored}
+use Rattle.edi_code.specs.Stored.{stored_from}
 use Rattle.edi_code.specs.declared.mapped.MappedBlock.{MappedBlock}
 use Rattle.edi_code.specs.declared.mapped.Mapped.{Mapped}
 
@@ -27,13 +26,6 @@ clauses_awaits s = scheme.clauses_awaits (types_in s) (blocks_in s) s.block
 
 abbrev pub clause_awaits : Scope → Clause → ℕ → List ℕ
 clause_awaits s = scheme.clause_awaits (types_in s) (blocks_in s) s.block
-
--- ---- the variables
-
--- of these slots the first stands so far behind the base of a frame
-abbrev pub stored_from : List Shape → List Parameter → ℕ → List Stored
-stored_from types [] at = []
-stored_from types (p ∷ ps) at = record { offset = at; is_place = is_address (Some p) } ∷ stored_from types ps (at + slot_words types p)
 
 -- ---- all of it
 

@@ -14,6 +14,7 @@ mod rows;
 mod scope;
 mod statement_lengths;
 mod statements;
+mod stored;
 
 pub use mapped::{Mapped, generate_mapped};
 pub use program::{code_words, generate};

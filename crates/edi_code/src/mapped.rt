@@ -1,6 +1,6 @@
 //! Where the `when`s and the variables of a program stand, beside its code.
 
-ghost use Rattle.std.specs.Prelude.{◌≡◌, ◌+◌, ◌<◌, ◌≤◌, ◌^◌, ◌++◌, ◌∷◌, [], ℕ, IfOk, OnOk, length, map, slice_get, sum_by, option_to_list, Some};
+ghost use Rattle.std.specs.Prelude.{◌≡◌, ◌+◌, ◌<◌, ◌≤◌, ◌^◌, ◌++◌, ℕ, IfOk, OnOk, length, map, slice_get, Some};
 ghost use Rattle.edi_unit.specs.View.{act_of, acts_of, block_of, clause_of, clauses_of, unit_of};
 ghost use Rattle.edi_unit.specs.Tree.{ProgramUnit};
 ghost use Rattle.edi_unit.specs.Need as need;
@@ -14,33 +14,21 @@ ghost use Rattle.edi_scheme.specs.Awaits.{await_address, block_awaits, variable_
 ghost use Rattle.edi_scheme.specs.Sites.{body_start};
 ghost use Rattle.edi_code.specs.InScope as long;
 ghost use Rattle.edi_code.specs.Scope.{IsScope, blocks_in, clause_kind_of, entry_in, types_in};
-ghost use Rattle.edi_unit.specs.Lists.{list_items};
-ghost use Rattle.edi_unit.specs.Types.{size};
-ghost use Rattle.edi_unit.specs.declared.units.Parameter.TheVariants as Parameter;
-ghost use Rattle.edi_code.specs.Writable.{AreEntries, AreWritable, IsRoomy, IsWritable};
+ghost use Rattle.edi_code.specs.Writable.{AreEntries, AreWritable, IsWritable};
 ghost use Rattle.edi_code.specs.declared.mapped.MappedBlock.{MappedBlock};
 ghost use Rattle.edi_code.specs.Mapped as spec;
 ghost use Rattle.edi_code.specs.Mapped.{IsMapped, IsMappedBlock};
+ghost use Rattle.edi_code.specs.Stored.{stored_from};
 
 use crate::lengths::value_length;
-use crate::pieces::{close_length, is_address, slot_words};
+use crate::pieces::close_length;
 use crate::program::{block_entries, generate, is_branch};
 use crate::scope::{Appended, Behind, Closing, Scope};
 use crate::statement_lengths::act_length;
+use crate::stored::{Stored, variables_stored};
 use edi_target::Code;
-use edi_unit::{
-    Act, Acts, Block, Clause, Clauses, Numbers, Parameter, Parameters, TypeTable, Unit,
-};
+use edi_unit::{Act, Acts, Block, Clause, Clauses, TypeTable, Unit};
 use std::alloc::{AllocError, Global};
-
-/// A variable in the frames of its block.
-#[derive(Clone, Copy)]
-pub(crate) struct Stored {
-    /// Where it stands behind the base of a frame.
-    pub(crate) offset: u32,
-    /// Whether its word is the address of the variable that it means.
-    pub(crate) is_place: bool,
-}
 
 /// A block: the one round it, where a process stands at each of its `when`s, and its variables.
 #[derive(Drop)]
@@ -128,81 +116,6 @@ fn clauses_awaits(
     Ok(here)
 }
 
-// One variable more, so far behind the base of a frame; what stands behind it.
-fn put_variable(
-    types: &TypeTable,
-    variable: Parameter,
-    offset: u32,
-    out: &mut Vec<Stored>,
-) -> Behind
-    requires room { offset + need.slot_words types.now variable < 2 ^ 32 }
-    ensures put { OnOk result (out.new.items ≡ out.old.items
-        ++ record { offset = offset; is_place = pieces.is_address (Some variable) } ∷ []) }
-    ensures behind { IfOk result (λ behind. behind ≡ offset + need.slot_words types.now variable) }
-{
-    let is_place = is_address(Some(variable));
-    out.push(Stored { offset, is_place })?;
-    Ok(offset + slot_words(types, variable))
-}
-
-// The function variable of a block, where it has one.
-fn result_stored(types: &TypeTable, of: Option<u32>, at: u32, out: &mut Vec<Stored>) -> Behind
-    requires room { at + pieces.result_words types.now of < 2 ^ 32 }
-    ensures put { OnOk result (out.new.items ≡ out.old.items ++ spec.stored_from types.now (map Parameter.Value (option_to_list of)) at) }
-    ensures behind { IfOk result (λ behind. behind ≡ at + pieces.result_words types.now of) }
-{
-    match of {
-        Some(of) => put_variable(types, Parameter::Value(of), at, out),
-        None => Ok(at),
-    }
-}
-
-// The parameters of a block.
-fn parameters_stored(
-    types: &TypeTable,
-    parameters: &Parameters,
-    at: u32,
-    out: &mut Vec<Stored>,
-) -> Behind
-    requires room { at + sum_by (need.slot_words types.now) (list_items parameters.now) < 2 ^ 32 }
-    ensures put { OnOk result (out.new.items ≡ out.old.items ++ spec.stored_from types.now (list_items parameters.now) at) }
-    ensures behind { IfOk result (λ behind. behind ≡ at + sum_by (need.slot_words types.now) (list_items parameters.now)) }
-{
-    let mut offset = at;
-    for parameter in parameters.items() {
-        offset = put_variable(types, *parameter, offset, out)?;
-    }
-    Ok(offset)
-}
-
-// The declared variables of a block.
-fn declared_stored(types: &TypeTable, variables: &Numbers, at: u32, out: &mut Vec<Stored>) -> Behind
-    requires room { at + sum_by (size types.now) (list_items variables.now) < 2 ^ 32 }
-    ensures put { OnOk result (out.new.items ≡ out.old.items ++ spec.stored_from types.now (map Parameter.Value (list_items variables.now)) at) }
-{
-    let mut offset = at;
-    for of in variables.items() {
-        offset = put_variable(types, Parameter::Value(*of), offset, out)?;
-    }
-    Ok(offset)
-}
-
-// Where the variables of a block stand in its frames.
-fn variables_stored(
-    alloc: Global,
-    types: &TypeTable,
-    block: &Block,
-) -> Result<Vec<Stored>, AllocError>
-    requires frame { IsRoomy types.now (block_of block.now) }
-    ensures exact { IfOk result (λ variables. variables.items ≡ spec.stored_from types.now (slots (block_of block.now)) 5) }
-{
-    let mut variables: Vec<Stored> = Vec::new(alloc);
-    let offset = result_stored(types, block.result, 5, &mut variables)?;
-    let middle = parameters_stored(types, &block.parameters, offset, &mut variables)?;
-    declared_stored(types, &block.variables, middle, &mut variables)?;
-    Ok(variables)
-}
-
 // What is known of the block of a scope.
 fn mapped_block(scope: &Scope<'_>) -> Result<MappedBlock, AllocError>
     requires scope { IsScope scope.now }
@@ -247,6 +160,8 @@ fn map_blocks(
             types,
             blocks,
             entries,
+            variables: &[],
+            fields: &[],
             block,
         };
         let one = mapped_block(&scope)?;
@@ -342,7 +257,7 @@ impl Mapped {
 
     fn variable(&self, block: u32, variable: u32) -> Option<Stored>
         ensures exact { (unit : ProgramUnit) → IsMapped unit self.now → block < length unit.blocks →
-            result ≡ slice_get (spec.stored_from unit.types (slots (block_at unit.blocks block)) 5) variable }
+            result ≡ slice_get (stored_from unit.types (slots (block_at unit.blocks block)) 5) variable }
     {
         let mapped = self.blocks.get(block as usize)?;
         mapped.variables.get(variable as usize).copied()

@@ -15,6 +15,7 @@ ghost use Rattle.edi_code.specs.Scope.{IsScope, blocks_in, clause_kind_of, is_en
 ghost use Rattle.edi_code.specs.InScope as in_scope;
 
 use crate::scope::{Closing, Scope};
+use crate::stored::stored_at;
 use edi_unit::{
     Callee, INT, Numbers, Operator, Parameter, Parameters, Shape, TypeTable, Value, Values, outer,
     slot, type_words,
@@ -180,17 +181,28 @@ fn words_at(scope: &Scope<'_>, block: u32, variable: u32) -> u32
     }
 }
 
+// Where a variable of a block stands in its frames, added up.
+fn added_offset(scope: &Scope<'_>, block: u32, variable: u32) -> u16
+    requires scope { IsScope scope.now }
+    ensures exact { result ≡ pieces.offset (types_in scope.now) (need.block_at (blocks_in scope.now) block) variable }
+{
+    let mut words = LINK_WORDS;
+    for before in 0..variable {
+        words += words_at(scope, block, before);
+    }
+    words as u16
+}
+
 // Where a variable stands in the frame of the block `levels` steps out.
 pub(crate) fn slot_offset(scope: &Scope<'_>, levels: u32, variable: u32) -> u16
     requires scope { IsScope scope.now }
     ensures exact { result ≡ in_scope.slot_offset scope.now levels variable }
 {
     let home = outer(scope.blocks, scope.block, levels);
-    let mut words = LINK_WORDS;
-    for before in 0..variable {
-        words += words_at(scope, home, before);
+    match stored_at(scope.variables, home, variable) {
+        Some(stored) => stored.offset as u16,
+        None => added_offset(scope, home, variable),
     }
-    words as u16
 }
 
 // The words of a field, and 0 where there is none.
@@ -205,8 +217,8 @@ fn field_words(types: &TypeTable, of: u32, field: u32) -> u32
     }
 }
 
-// Where field `field` stands in a record of type `of`, which is there.
-fn record_offset(types: &TypeTable, of: u32, field: u32) -> u16
+// Where field `field` stands in a record of type `of`, which is there, added up.
+fn added_field_offset(types: &TypeTable, of: u32, field: u32) -> u16
     requires table { IsTypeTable types.now }
     requires known { of < length types.now }
     ensures exact { result ≡ pieces.field_offset types.now of field }
@@ -218,12 +230,26 @@ fn record_offset(types: &TypeTable, of: u32, field: u32) -> u16
     words as u16
 }
 
-// Where field `field` stands in a record of type `of`.
-pub(crate) fn field_offset(types: &TypeTable, of: u32, field: u32) -> u16
-    ensures exact { result ≡ pieces.field_offset types.now of field }
+// Where field `field` stands in a record of type `of`, which is there.
+fn record_offset(scope: &Scope<'_>, of: u32, field: u32) -> u16
+    requires scope { IsScope scope.now }
+    requires table { IsTypeTable (types_in scope.now) }
+    requires known { of < length (types_in scope.now) }
+    ensures exact { result ≡ pieces.field_offset (types_in scope.now) of field }
 {
-    if of < types.len() {
-        record_offset(types, of, field)
+    match stored_at(scope.fields, of, field) {
+        Some(stored) => stored.offset as u16,
+        None => added_field_offset(scope.types, of, field),
+    }
+}
+
+// Where field `field` stands in a record of type `of`.
+pub(crate) fn field_offset(scope: &Scope<'_>, of: u32, field: u32) -> u16
+    requires scope { IsScope scope.now }
+    ensures exact { result ≡ pieces.field_offset (types_in scope.now) of field }
+{
+    if of < scope.types.len() {
+        record_offset(scope, of, field)
     } else {
         0
     }

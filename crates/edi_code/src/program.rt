@@ -12,6 +12,7 @@ ghost use Rattle.edi_scheme.specs.Code.{block_code, blocks_code, code_of, entry}
 ghost use Rattle.edi_code.specs.Emits.{Emits, IsWhole, code_of_op};
 ghost use Rattle.edi_code.specs.InScope.{ActsAreWritable, acts_code, acts_length};
 ghost use Rattle.edi_code.specs.Scope.{IsScope, MayBeWritten, blocks_in, entry_in, types_in};
+ghost use Rattle.edi_code.specs.Stored.{AreFields, AreVariables};
 ghost use Rattle.edi_code.specs.Writable.{AreEntries, AreWritable, IsRoomy, IsWritable};
 
 use crate::instructions::put;
@@ -19,6 +20,7 @@ use crate::pieces::{declared_words, parameters_words, result_words};
 use crate::scope::{Appended, Scope};
 use crate::statement_lengths::block_words;
 use crate::statements::emit_acts;
+use crate::stored::{Stored, all_fields, all_variables};
 use edi_target::{Code, CodeFault, Op};
 use edi_unit::{Acts, Block, BlockKind, TypeTable, Unit};
 use std::alloc::{AllocError, Global};
@@ -41,6 +43,8 @@ pub(crate) fn block_entries(
             types,
             blocks,
             entries: &[],
+            variables: &[],
+            fields: &[],
             block,
         };
         here += block_words(&scope);
@@ -126,10 +130,14 @@ fn emit_blocks(
     types: &TypeTable,
     blocks: &[Block],
     entries: &[u32],
+    variables: &[Vec<Stored>],
+    fields: &[Vec<Stored>],
     out: &mut Vec<u16>,
 ) -> Appended
     requires writable { AreWritable types.now (map block_of blocks.now) }
     requires entries { AreEntries types.now (map block_of blocks.now) entries.now }
+    requires variables { AreVariables types.now (map block_of blocks.now) variables.now }
+    requires fields { AreFields types.now fields.now }
     ensures emits { OnOk result (Emits out.old.items out.new.items (blocks_code types.now (map block_of blocks.now) (length blocks.now))) }
 {
     for block in 0..blocks.len() as u32 {
@@ -138,6 +146,8 @@ fn emit_blocks(
             types,
             blocks,
             entries,
+            variables,
+            fields,
             block,
         };
         emit_block(&scope, out)?;
@@ -152,8 +162,18 @@ fn unit_words(alloc: Global, unit: &Unit) -> Result<Vec<u16>, AllocError>
 {
     let blocks = unit.blocks.items();
     let entries = block_entries(alloc, &unit.types, blocks)?;
+    let variables = all_variables(alloc, &unit.types, blocks)?;
+    let fields = all_fields(alloc, &unit.types)?;
     let mut words: Vec<u16> = Vec::new(alloc);
-    emit_blocks(alloc, &unit.types, blocks, &entries, &mut words)?;
+    emit_blocks(
+        alloc,
+        &unit.types,
+        blocks,
+        &entries,
+        &variables,
+        &fields,
+        &mut words,
+    )?;
     Ok(words)
 }
 

@@ -1,5 +1,6 @@
 //! What the code of a construct depends on besides the construct.
 
+use crate::stored::Stored;
 use edi_unit::{Block, TypeTable};
 use std::alloc::{AllocError, Global};
 
@@ -17,6 +18,10 @@ pub struct Scope<'a> {
     pub blocks: &'a [Block],
     /// The address where the code of each block begins.
     pub entries: &'a [u32],
+    /// Where the variables of each block stand. Those of a block that has no row here are added up.
+    pub variables: &'a [Vec<Stored>],
+    /// Where the fields of each type stand. Those of a type that has no row here are added up.
+    pub fields: &'a [Vec<Stored>],
     /// The number of the block.
     pub block: u32,
 }

@@ -75,7 +75,7 @@ fn emit_part(part: &Part, scope: &Scope<'_>, at: u32, of: u32, out: &mut Vec<u16
 {
     match part {
         Part::Field(field) => {
-            let offset = field_offset(scope.types, of, *field);
+            let offset = field_offset(scope, of, *field);
             put_at(scope.alloc, &Op::Field { offset }, at, 2, out)
         }
         Part::Index(index, line) => {

@@ -5,13 +5,22 @@ use Rattle.edi_unit.specs.View.{block_of}
 use Rattle.edi_code.specs.Mapped.{IsMappedBlock}
 use Rattle.edi_code.specs.declared.mapped.MappedBlock.{MappedBlock}
 use Rattle.edi_code.proofs.Entries.{entry_many, entry_next, entry_before}
-use Rattle.edi_code.proofs.StoredLoops.{each_more}
+use Rattle.edi_code.proofs.StoredLoops.{each_more, no_fields, no_variables}
 use Rattle.edi_code.proofs.mapped.map_blocks.Goals as goal
 
 pub overflow_cast-block-end : goal.overflow_cast-block-end
 overflow_cast-block-end c =
     let blocks = map block_of c.args.blocks.now in
     omega (arith, c.requires.writable.room, length-map c.args.blocks.now block_of, entry_many c.args.types.now blocks (length blocks))
+
+pub mapped_block-requires-clause-scope : goal.mapped_block-requires-clause-scope
+mapped_block-requires-clause-scope c = record {
+  shapes = c.requires.writable.shapes;
+  frames = c.requires.writable.frames;
+  entries = c.requires.entries;
+  variables = no_variables c.args.types.now (map block_of c.args.blocks.now);
+  fields = no_fields c.args.types.now;
+}
 
 pub mapped_block-requires-clause-room : goal.mapped_block-requires-clause-room
 mapped_block-requires-clause-room c =

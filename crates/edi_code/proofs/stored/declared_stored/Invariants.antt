@@ -2,8 +2,8 @@ use Rattle.std.proofs.Common.{◌≡◌, ◌+◌, ◌++◌, drop}
 use Rattle.std.specs.Prelude.{map, sum_by}
 use Rattle.edi_unit.specs.declared.units.Parameter.TheVariants as slot
 use Rattle.edi_unit.specs.Types.{size}
-use Rattle.edi_code.specs.Mapped.{stored_from}
-use Rattle.edi_code.proofs.mapped.declared_stored.Given as goal
+use Rattle.edi_code.specs.Stored.{stored_from}
+use Rattle.edi_code.proofs.stored.declared_stored.Given as goal
 
 abbrev pub invariant-loop-of : goal.invariant-loop-of
 invariant-loop-of l = record {

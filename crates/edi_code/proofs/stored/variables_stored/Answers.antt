@@ -1,6 +1,6 @@
 use Rattle.edi_unit.specs.View.{block_of}
 use Rattle.edi_code.proofs.StoredLoops.{slots_stored}
-use Rattle.edi_code.proofs.mapped.variables_stored.Goals as goal
+use Rattle.edi_code.proofs.stored.variables_stored.Goals as goal
 
 pub returns : goal.returns
 returns c = record {

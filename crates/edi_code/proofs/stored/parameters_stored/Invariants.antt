@@ -1,8 +1,8 @@
 use Rattle.std.proofs.Common.{◌≡◌, ◌+◌, ◌++◌, drop}
 use Rattle.std.specs.Prelude.{sum_by}
 use Rattle.edi_unit.specs.Need.{slot_words}
-use Rattle.edi_code.specs.Mapped.{stored_from}
-use Rattle.edi_code.proofs.mapped.parameters_stored.Given as goal
+use Rattle.edi_code.specs.Stored.{stored_from}
+use Rattle.edi_code.proofs.stored.parameters_stored.Given as goal
 
 abbrev pub invariant-loop-parameter : goal.invariant-loop-parameter
 invariant-loop-parameter l = record {
