@@ -1,49 +1,56 @@
--- A set of spellings after one more.
-use Rattle.std.proofs.Common.{◌≡◌, ℕ, Bool, true, false, ◌||◌, Ordering, Vec, List, [], ◌∷◌, refl, sym, ap, ◌∙◌}
-use Rattle.std.proofs.lemmas.Map.Text.{is_eq-slice_cmp}
-use Rattle.std.specs.Cmp.Lexicographic.{slice_cmp, bytes_decides}
-use Rattle.std.specs.BTreeSet.{BTreeSet, insert_key}
+-- The names of a record's fields.
+use Rattle.std.proofs.Common.{◌≡◌, ℕ, suc, ◌+◌, Bool, true, false, ◌||◌, nat_lt, Vec, List, [], ◌∷◌, ◌++◌, length, Option, Some, None, refl, sym, ap, ◌∙◌, arith}
+use Rattle.std.proofs.lemmas.Bool.Decides.{nat_tests}
+use Rattle.std.proofs.lemmas.List.{map-append}
+use Rattle.std.specs.Cmp.Lexicographic.{nat_list_eq_equiv}
 use Rattle.std.specs.Global.{Global}
-use Rattle.std.specs.List.{list_any}
-use Rattle.std.specs.Ordering.{nat_cmp, is_eq, match_ordering}
-use Rattle.std.specs.declared.cmp.Ordering.TheVariants.{Less, Equal, Greater}
+use Rattle.std.specs.List.{list_any, position, position_or_len}
+use Rattle.std.specs.Prelude.{cond, if◌then◌else◌, map, not, option_map}
 use Rattle.std.specs.Str.{bytes_eq}
-use Rattle.edi_static.specs.Spelled.{has_spelling, HasJoined}
+use Rattle.indexmap.specs.IndexSet.{insert_key}
+use Rattle.edi_static.specs.Fitting.{index_of_name}
 
-twice : (a b : Bool) → (a || b) ≡ (a || (a || b))
-twice true b = refl
-twice false b = refl
+-- whether one of these names is spelled so
+any_spelled : (name : List ℕ) (names : List (Vec ℕ Global)) → list_any (λ k. bytes_eq name k.items) names ≡ list_any (bytes_eq name) (map (λ k. k.items) names)
+any_spelled name [] = refl
+any_spelled name (k ∷ names) = ap (λ b. bytes_eq name k.items || b) (any_spelled name names)
 
-turned : (a b c : Bool) → (a || (b || c)) ≡ (b || (a || c))
-turned true true c = refl
-turned true false c = refl
-turned false b c = refl
+pub is_new : (names : List (Vec ℕ Global)) (copy : Vec ℕ Global) (name : List ℕ) (answer : Bool) → copy.items ≡ name →
+    answer ≡ not (list_any (λ k. bytes_eq copy.items k.items) names) → answer ≡ not (list_any (bytes_eq name) (map (λ k. k.items) names))
+is_new names copy name answer same e = e ∙ ap not (any_spelled copy.items names) ∙ ap (λ n. not (list_any (bytes_eq n) (map (λ k. k.items) names))) same
 
-module _ {K : Type 0} (cmp : K → K → Ordering) (k : K) (test : K → Bool) (same : (x : K) → cmp k x ≡ Equal → test x ≡ test k) where
-  step : (x : K) (xs : List K) (o : Ordering) → cmp k x ≡ o → list_any test (insert_key cmp xs k) ≡ (test k || list_any test xs)
-      → list_any test (match_ordering o (k ∷ x ∷ xs) (x ∷ xs) (x ∷ insert_key cmp xs k)) ≡ (test k || (test x || list_any test xs))
-  step x xs Less e h = refl
-  step x xs Equal e h =
-      ap (λ b. b || list_any test xs) (same x e) ∙ twice (test k) (list_any test xs)
-      ∙ ap (λ b. test k || (b || list_any test xs)) (sym (same x e))
-  step x xs Greater e h = ap (λ b. test x || b) h ∙ turned (test x) (test k) (list_any test xs)
+-- a new name goes behind the others
+pub put_behind : (old new : List (Vec ℕ Global)) (copy : Vec ℕ Global) (name : List ℕ) (answer : Bool) → copy.items ≡ name →
+    answer ≡ not (list_any (λ k. bytes_eq copy.items k.items) old) → new ≡ insert_key (λ x y. bytes_eq x.items y.items) old copy → answer ≡ true →
+    map (λ k. k.items) new ≡ map (λ k. k.items) old ++ name ∷ []
+put_behind old new copy name answer same e put added =
+    ap (map (λ k. k.items)) put ∙ by (list_any (λ k. bytes_eq copy.items k.items) old) (sym e ∙ added)
+  where
+    by : (b : Bool) → not b ≡ true → map (λ (k : Vec ℕ Global). k.items) (if b then old else old ++ copy ∷ []) ≡ map (λ k. k.items) old ++ name ∷ []
+    by true n = absurd (cc)
+    by false n = map-append (λ (k : Vec ℕ Global). k.items) old (copy ∷ []) ∙ ap (λ n. map (λ (k : Vec ℕ Global). k.items) old ++ n ∷ []) same
 
-  -- a test of a list in order, after one more key
-  any-insert_key : (xs : List K) → list_any test (insert_key cmp xs k) ≡ (test k || list_any test xs)
-  any-insert_key [] = refl
-  any-insert_key (x ∷ xs) = step x xs (cmp k x) refl (any-insert_key xs)
+-- the index of a name, by two definitions
+module _ (name : List ℕ) where
+  step : (here : Bool) (found many : ℕ) →
+      cond (nat_lt (cond (not here) (1 + found) 0) (suc many)) (Some (cond (not here) (1 + found) 0)) None
+      ≡ (if here then Some 0 else option_map (λ n. suc n) (cond (nat_lt found many) (Some found) None))
+  step true found many = let t : nat_lt 0 (suc many) ≡ true = grind (arith, nat_tests) in ap (λ b. cond b (Some 0) None) t
+  step false found many = later (nat_lt found many) refl
+    where
+      later : (less : Bool) → nat_lt found many ≡ less →
+          cond (nat_lt (1 + found) (suc many)) (Some (1 + found)) None ≡ option_map (λ n. suc n) (cond less (Some found) None)
+      later true e =
+          let t : nat_lt (1 + found) (suc many) ≡ true = grind (arith, nat_tests, e) in
+          let next : 1 + found ≡ suc found = omega arith in
+          ap (λ b. cond b (Some (1 + found)) None) t ∙ ap Some next
+      later false e =
+          let t : nat_lt (1 + found) (suc many) ≡ false = grind (arith, nat_tests, e) in
+          ap (λ b. cond b (Some (1 + found)) None) t
 
-alike : (name : List ℕ) (k x : Vec ℕ Global) → slice_cmp nat_cmp k.items x.items ≡ Equal
-    → is_eq (slice_cmp nat_cmp name x.items) ≡ is_eq (slice_cmp nat_cmp name k.items)
-alike name k x e =
-    ap (λ spelling. is_eq (slice_cmp nat_cmp name spelling))
-    (sym ((bytes_decides k.items x.items).0 (sym (is_eq-slice_cmp k.items x.items) ∙ ap is_eq e)))
-
--- a spelling has been put into a set
-pub has_joined : (old new : BTreeSet (Vec ℕ Global)) (key : Vec ℕ Global) (put : List ℕ)
-    → new.keys ≡ insert_key (λ x y. slice_cmp nat_cmp x.items y.items) old.keys key → key.items ≡ put
-    → HasJoined put old new
-has_joined old new key put e same name =
-    ap (λ keys. list_any (λ k. is_eq (slice_cmp nat_cmp name k.items)) keys) e
-    ∙ any-insert_key (λ x y. slice_cmp nat_cmp x.items y.items) key (λ k. is_eq (slice_cmp nat_cmp name k.items)) (alike name key) old.keys
-    ∙ ap (λ b. b || has_spelling old name) (is_eq-slice_cmp name key.items ∙ ap (bytes_eq name) same)
+  pub index_is : (names : List (Vec ℕ Global)) → position (λ k. bytes_eq name k.items) names ≡ index_of_name (map (λ k. k.items) names) name
+  index_is [] = refl
+  index_is (k ∷ names) =
+      step (bytes_eq name k.items) (position_or_len (λ k. bytes_eq name k.items) names) (length names)
+      ∙ ap (λ b. if b then Some 0 else option_map (λ n. suc n) (position (λ k. bytes_eq name k.items) names)) (nat_list_eq_equiv.symm name k.items)
+      ∙ ap (λ o. if bytes_eq k.items name then Some 0 else option_map (λ n. suc n) o) (index_is names)

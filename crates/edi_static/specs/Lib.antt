@@ -19,7 +19,6 @@ pub mod Views
 pub mod Prelude
 pub mod Laws
 pub mod Written
-pub mod Spelled
 pub mod Accepted
 pub mod RefusedNames
 pub mod RefusedTypes

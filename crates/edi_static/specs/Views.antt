@@ -72,7 +72,7 @@ abbrev pub environment : Known → Environment
 environment known = record {
   scopes = known.scopes;
   types = known.types;
-  fields = map (λ names. map (λ name. name.items) names.items) known.fields.items;
+  fields = map (λ names. map (λ name. name.items) names.keys) known.fields.items;
   blocks = map block_of known.blocks.items;
   headings = map asked_of known.headings.items;
   shapes = map asked_of known.shapes.items;
@@ -100,7 +100,7 @@ ordinal_of c = record { of = c.of; ordinal = c.ordinal }
 
 -- the fields of a record
 abbrev pub fields_of : code_fields.Fields → Fields
-fields_of f = record { names = map (λ name. name.items) f.names.items; types = list_items f.types }
+fields_of f = record { names = map (λ name. name.items) f.names.keys; types = list_items f.types }
 
 -- a variable of a block that is so many steps out
 abbrev pub rooted_of : code_rooted.Rooted → Rooted

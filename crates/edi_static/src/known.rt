@@ -13,6 +13,7 @@ ghost use Rattle.edi_static.specs.declared.faults.StaticFault.TheVariants as why
 
 use crate::faults::{Judged, StaticFault, StaticKind};
 use crate::headings::Asked;
+use crate::records::FieldNames;
 use edi_scope::{Entity, ScopeFault, Scopes};
 use edi_tree::Name;
 use edi_unit::{Block, List, Shape, TypeTable, Value};
@@ -31,7 +32,7 @@ pub struct Known {
     pub scopes: Scopes,
     pub types: TypeTable,
     /// The names of each type's fields.
-    pub fields: Vec<Vec<Vec<u8>>>,
+    pub fields: Vec<FieldNames>,
     pub blocks: Vec<Block>,
     /// The heading of each block.
     pub headings: Vec<Asked>,

@@ -36,5 +36,6 @@ pub use operands::{
 };
 pub use params::heading_parts;
 pub use parts::{Parted, element_of, field_of};
+pub use records::FieldNames;
 pub use types::type_decl;
 pub use variables::var_list;

@@ -1,6 +1,6 @@
 //! The rules on parts of variables.
 
-ghost use Rattle.std.specs.Prelude.{◌≡◌, map, slice_index_or, [], unwrap_or};
+ghost use Rattle.std.specs.Prelude.{◌≡◌, slice_index_or, [], unwrap_or};
 ghost use Rattle.edi_unit.specs.Types as types;
 ghost use Rattle.edi_static.specs.Prelude.{JudgedAnswers, environment, parted_of, shape_of, typed_of};
 ghost use Rattle.edi_static.specs.Expressions as rule;
@@ -10,6 +10,7 @@ use crate::faults::{Judged, StaticKind};
 use crate::fits::{element_type, is_indexed_by};
 use crate::known::{Known, boxed, fault, must, number};
 use crate::operands::Typed;
+use crate::records::index_of_name;
 use edi_tree::Name;
 use edi_unit::{INT, Part, Shape};
 use std::alloc::Global;
@@ -21,26 +22,12 @@ pub struct Parted {
     pub of: u32,
 }
 
-/// The index of a name among these.
-fn index_of_name(fields: &[Vec<u8>], name: &[u8]) -> Option<usize>
-    ensures exact { result ≡ spec.index_of_name (map (λ f. f.items) fields.now) name.now }
-{
-    let mut index = 0;
-    for field in fields {
-        if field.as_slice() == name {
-            return Some(index);
-        }
-        index += 1;
-    }
-    None
-}
-
 /// The index of a name among the fields of a type.
 fn field_index(known: &Known, of: u32, name: &[u8]) -> Option<usize>
     ensures exact { result ≡ spec.index_of_name (slice_index_or (environment known.now).fields of []) name.now }
 {
     match known.fields.get(of as usize) {
-        Some(fields) => index_of_name(fields.as_slice(), name),
+        Some(fields) => index_of_name(fields, name),
         None => None,
     }
 }

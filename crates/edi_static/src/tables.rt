@@ -10,18 +10,20 @@ ghost use Rattle.edi_static.specs.Declarations.{with_heading};
 use crate::faults::{Judged, StaticFault};
 use crate::headings::{Asked, asked_result, copy_asked, kept_parameters};
 use crate::known::{Known, add, number, put};
+use crate::records::FieldNames;
 use edi_scope::Scopes;
 use edi_unit::{Block, BlockKind, List, Parameters, Shape, TypeTable};
+use indexmap::IndexSet;
 use std::alloc::{AllocError, Global};
 
 /// The names of the fields of the standard types, which have none.
-fn no_fields(alloc: Global) -> Result<Vec<Vec<Vec<u8>>>, AllocError>
-    ensures exact { IfOk result (λ fields. map (λ names. map (λ name. name.items) names.items) fields.items ≡ spec.at_first.fields) }
+fn no_fields(alloc: Global) -> Result<Vec<FieldNames>, AllocError>
+    ensures exact { IfOk result (λ fields. map (λ names. map (λ name. name.items) names.keys) fields.items ≡ spec.at_first.fields) }
 {
     let mut fields = Vec::new(alloc);
-    fields.push(Vec::new(alloc))?;
-    fields.push(Vec::new(alloc))?;
-    fields.push(Vec::new(alloc))?;
+    fields.push(IndexSet::new(alloc))?;
+    fields.push(IndexSet::new(alloc))?;
+    fields.push(IndexSet::new(alloc))?;
     Ok(fields)
 }
 
@@ -68,11 +70,11 @@ impl Known {
     }
 
     /// Puts a type behind the others.
-    pub fn push_type(&mut self, alloc: Global, shape: Shape, names: Vec<Vec<u8>>) -> Judged<()>
+    pub fn push_type(&mut self, alloc: Global, shape: Shape, names: FieldNames) -> Judged<()>
         requires declarable { IsDeclarable self.old.types (shape_of shape) }
         requires proper { Proper (environment self.old) }
         ensures exact { JudgedAnswers (λ _. environment self.new) result
-            (gives (spec.with_type (shape_of shape) (map (λ name. name.items) names.items) (environment self.old))) }
+            (gives (spec.with_type (shape_of shape) (map (λ name. name.items) names.keys) (environment self.old))) }
         ensures proper { OnOk result (Proper (environment self.new)) }
         ensures scopes { self.new.scopes ≡ self.old.scopes }
         ensures types { OnOk result (self.new.types ≡ self.old.types ++ shape_of shape ∷ []) }

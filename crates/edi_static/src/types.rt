@@ -12,10 +12,11 @@ ghost use Rattle.edi_static.specs.Types as spec;
 use crate::constants::constant;
 use crate::faults::{Judged, StaticKind};
 use crate::known::{Known, fault, number};
-use crate::records::fields_of;
+use crate::records::{FieldNames, fields_of};
 use edi_scope::Entity;
 use edi_tree::{Array, Enum, Name, Record, Set, TypeDecl};
 use edi_unit::Shape;
+use indexmap::IndexSet;
 use std::alloc::Global;
 
 /// An enumeration has at most so many constants.
@@ -76,7 +77,7 @@ fn enum_decl(known: &mut Known, alloc: Global, export: bool, declared: &Enum) ->
 {
     let of = known.types.len();
     let constants = number(declared.more.len() + 1)?;
-    known.push_type(alloc, Shape::Enum(constants), Vec::new(alloc))?;
+    known.push_type(alloc, Shape::Enum(constants), IndexSet::new(alloc))?;
     known.declare(alloc, export, &declared.name, Entity::Types(of))?;
     enum_constants(known, alloc, export, of, declared)
 }
@@ -88,14 +89,14 @@ fn declare_type(
     export: bool,
     name: &Name,
     shape: Shape,
-    fields: Vec<Vec<u8>>,
+    fields: FieldNames,
 ) -> Judged<()>
     requires may { MayDeclare export (environment known.old) }
     requires named { All (λ t. t < length known.old.types) (named_types (shape_of shape)) }
     requires elementary { All (λ t. IsTrue (is_elementary known.old.types t)) (ordinal_types (shape_of shape)) }
     requires ordered { HasOrderedBounds (shape_of shape) }
     ensures exact { JudgedAnswers (λ _. environment known.new) result
-        (spec.declare_type export name.now (shape_of shape) (map (λ field. field.items) fields.items) (environment known.old)) }
+        (spec.declare_type export name.now (shape_of shape) (map (λ field. field.items) fields.keys) (environment known.old)) }
     ensures declares { Declares export result (environment known.old) (environment known.new) }
 {
     if !known.types.is_declarable(&shape) {
@@ -139,7 +140,14 @@ fn array_decl(known: &mut Known, alloc: Global, export: bool, declared: &Array) 
         hi: upper.ordinal,
         element,
     };
-    declare_type(known, alloc, export, &declared.name, shape, Vec::new(alloc))
+    declare_type(
+        known,
+        alloc,
+        export,
+        &declared.name,
+        shape,
+        IndexSet::new(alloc),
+    )
 }
 
 /// The base is elementary.
@@ -158,7 +166,7 @@ fn set_decl(known: &mut Known, alloc: Global, export: bool, declared: &Set) -> J
         export,
         &declared.name,
         Shape::Set(base),
-        Vec::new(alloc),
+        IndexSet::new(alloc),
     )
 }
 

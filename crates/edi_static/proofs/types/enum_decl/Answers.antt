@@ -1,4 +1,5 @@
-use Rattle.std.proofs.Common.{rules, ◌≡◌, [], map, ap, sym, subst, ◌∙◌, arith}
+use Rattle.std.proofs.Common.{◌≡◌, ℕ, Vec, [], map, ap, sym, subst, ◌∙◌, arith}
+use Rattle.std.specs.Global.{Global}
 use Rattle.edi_tree.specs.Sequences.{items_of}
 use Rattle.edi_tree.specs.Tree as text
 use Rattle.edi_tree.specs.View.{names}
@@ -13,7 +14,7 @@ use Rattle.edi_static.proofs.types.enum_decl.Goals as goal
 pub returns-clause-exact : goal.returns-clause-exact
 returns-clause-exact c =
     let ns : text.Names = text.next_name c.args.declared.now.first (names (items_of c.args.declared.now.more)) in
-    let none : map (λ name. name.items) c.new.result.items ≡ [] = search rules in
+    let none : map (λ name. name.items) c.new.result.keys ≡ [] = ap (map (λ (name : Vec ℕ Global). name.items)) c.new.ensures.empty in
     subst (JudgedAnswers _ c.enum_constants.result)
     (sym
     (enum_behind c.args.export c.args.declared.now.name ns (environment c.args.known.now) (environment c.push_type.new.self) _ c.in_ok-constants.constants
