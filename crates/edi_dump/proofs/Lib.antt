@@ -1,5 +1,7 @@
 pub mod Addresses
 pub mod Inside
+pub mod Jumps
+pub mod JumpsListed
 pub mod Located
 mod Processes
 mod Ends

@@ -1,4 +1,5 @@
 pub mod Frames
+pub mod Jumps
 pub mod Laws
 pub mod Rows
 pub mod Text

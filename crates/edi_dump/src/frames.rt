@@ -8,10 +8,9 @@ ghost use Rattle.edi_sights.specs.named.Naming.{named_at};
 ghost use Rattle.edi_sights.specs.named.Views.{named_of};
 ghost use Rattle.edi_dump.specs.Frames as spec;
 ghost use Rattle.edi_dump.specs.Views.{program_of};
-ghost use Rattle.edi_dump.specs.values.Words.{words_text};
 
 use crate::known::Known;
-use crate::values::{behind, size_of, value_text, word_at};
+use crate::values::{behind, put_value, size_of, word_at};
 use edi_lex::Text;
 use edi_sights::NamedBlock;
 use edi_unit::{Block, Parameter, TypeTable};
@@ -24,29 +23,7 @@ const PROCEDURE_WORDS: u32 = 3;
 /// The words of a frame before its variables.
 const LINK_WORDS: usize = 5;
 
-// Puts a value of this type, which stands at the front of the words. The only error is that memory ran out, as everywhere here.
-fn put_value(
-    out: &mut Vec<u8>,
-    alloc: Global,
-    known: &Known,
-    t: u32,
-    words: &[u16],
-) -> Result<(), AllocError>
-    ensures exact { OnOk result (out.new.items ≡ out.old.items ++
-        words_text (program_of known.now).unit.types (program_of known.now).names.constants t words.now) }
-{
-    let text = value_text(
-        alloc,
-        &known.unit.types,
-        known.names.constants.as_slice(),
-        t,
-        words,
-    )?;
-    out.extend_from_slice(text.as_slice())?;
-    Ok(())
-}
-
-// Puts a variable, which stands at the front of the words.
+// Puts a variable, which stands at the front of the words. The only error is that memory ran out, as everywhere here.
 fn put_variable(
     out: &mut Vec<u8>,
     alloc: Global,

@@ -5,6 +5,7 @@
 mod blocks;
 mod dump;
 mod frames;
+pub mod jump_laws;
 mod known;
 pub mod laws;
 mod lines;

@@ -9,4 +9,4 @@ mod texts;
 pub(crate) use brackets::{MOST_SHOWN, first, shown};
 pub(crate) use parts::size_of;
 pub(crate) use sets::word_at;
-pub(crate) use texts::{behind, value_text};
+pub(crate) use texts::{behind, put_value};

@@ -50,13 +50,13 @@ both_true true b h = (refl, h)
 both_true false b h = absurd (cc)
 
 -- where all three tests hold
-leads : (first base x t : ℕ) → first ≤ x → x + 5 ≤ t → t ≤ base → leads_down first base x t ≡ true
+pub leads : (first base x t : ℕ) → first ≤ x → x + 5 ≤ t → t ≤ base → leads_down first base x t ≡ true
 leads first base x t h k l =
     ap (λ b. b && nat_le (x + 5) t && nat_le t base) (le-leb first x h)
     ∙ (ap (λ b. b && nat_le t base) (le-leb (x + 5) t k) ∙ le-leb t base l)
 
 -- nothing leads below the first word
-leads_nowhere : (first x t : ℕ) → leads_down first first x t ≡ false
+pub leads_nowhere : (first x t : ℕ) → leads_down first first x t ≡ false
 leads_nowhere first x t = go (leads_down first first x t) refl
   where
     go : (b : Bool) → leads_down first first x t ≡ b → b ≡ false
@@ -71,7 +71,7 @@ module _ (g : Coded) (from : ℕ) (fs : List Frame) (m : List ℕ) (roomy_at : (
   base_at d = from + frame_start fs d
 
   -- an instance ends before the next begins
-  next_is : (e : ℕ) → suc e < length fs → base_at e + kept g (frame_of fs e).block ≤ base_at (suc e)
+  pub next_is : (e : ℕ) → suc e < length fs → base_at e + kept g (frame_of fs e).block ≤ base_at (suc e)
   next_is e h = omega (arith, start_later fs e (suc e) (omega arith) (omega (arith, h)), roomy_at e (omega (arith, h)))
 
   -- as many words as instances

@@ -28,7 +28,7 @@ use Rattle.edi_follows.proofs.places.Stores.{parts_are_there}
 use Rattle.edi_follows.proofs.steps.Local.{stands}
 use Rattle.edi_sights.specs.named.Naming.{Names, named_at}
 use Rattle.edi_dump.specs.Frames.{Program, variable_text, variables_text}
-use Rattle.edi_dump.specs.values.Texts.{value_text}
+use Rattle.edi_dump.specs.values.Laws.{value_text}
 use Rattle.edi_dump.specs.values.Words.{words_text}
 use Rattle.edi_dumped.specs.Instances.{instance_text, meant_text, LinesAreOfInstances}
 use Rattle.edi_dump.proofs.valued.Told.{texts_are_of_values}

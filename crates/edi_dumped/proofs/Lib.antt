@@ -4,3 +4,11 @@ pub mod Ended
 pub mod Some
 pub mod Chained
 pub mod Held
+pub mod Standing
+pub mod StandingBlocks
+pub mod StandingDumps
+pub mod StandingFrames
+pub mod StandingLess
+pub mod StandingPlaces
+pub mod StandingStarted
+pub mod StandingWalk

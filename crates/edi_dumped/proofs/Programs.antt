@@ -15,7 +15,7 @@ use Rattle.edi_dumped.specs.Dumps.{HasProgram, IsRunBy}
 use Rattle.edi_dumped.specs.Given.{IsKnown, program_given}
 
 -- a text that is known is accepted
-accepted : (k : Result (List Mark × ℕ) LexFault) (program : Program) → HasProgram k program → AreAccepted k program.unit
+pub accepted : (k : Result (List Mark × ℕ) LexFault) (program : Program) → HasProgram k program → AreAccepted k program.unit
 accepted (Err fault) program h = absurd h
 accepted (Ok symbols) program h = h.0
 

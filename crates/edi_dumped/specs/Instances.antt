@@ -18,7 +18,7 @@ use Rattle.edi_follows.specs.places.Spots.{address, block_at, frame_start}
 use Rattle.edi_sights.specs.named.Naming.{Names, named_at}
 use Rattle.edi_waits.specs.Ends.{frames_of}
 use Rattle.edi_dump.specs.Frames.{Program, variables_text}
-use Rattle.edi_dump.specs.values.Texts.{value_text}
+use Rattle.edi_dump.specs.values.Laws.{value_text}
 
 -- of an instance of the meaning
 module _ (types : List Shape) (constants : List (List (List ℕ))) (store : Store) (s : Spot) where

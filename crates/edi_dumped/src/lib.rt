@@ -6,5 +6,6 @@ mod execution;
 mod known;
 pub mod laws;
 mod run;
+pub mod standing_laws;
 
 pub use run::{Dumped, dump_on};

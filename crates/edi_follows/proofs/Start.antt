@@ -45,7 +45,7 @@ use Rattle.edi_follows.specs.places.Spots.{cell_words, cells_words, Segments, ad
 use Rattle.edi_follows.specs.places.Located.{Matches}
 use Rattle.edi_follows.specs.places.Related.{Lives, size_in, activity, IsPlaced, Related, MayStep, Queue}
 use Rattle.edi_follows.specs.places.Lands.{Begins, BeginsNot, StartClaim}
-use Rattle.edi_follows.proofs.places.Located.{procedure_listed, matches_acts}
+use Rattle.edi_follows.proofs.places.Located.{procedure_ends, procedure_listed, matches_acts}
 use Rattle.edi_follows.proofs.places.Free.{slot_within}
 use Rattle.edi_follows.proofs.places.Rows.{part_stands, Aligned, aligned_length, aligned_count, aligned_append, row_words}
 use Rattle.edi_follows.proofs.Zeros.{Zeros, zeros_append, zeros_replicate, zeros_behind, of_program, known_right, cells_append}
@@ -335,6 +335,7 @@ module _ (g : Coded) (long : ValuesAreLong) (zeros : ZeroIsZeros) (system : Stat
           refl,
           refl,
           refl,
+          procedure_ends g b0 no_branch stands,
         ),
       )
 

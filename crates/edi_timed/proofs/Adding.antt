@@ -16,9 +16,10 @@ use Rattle.edi_timeline.specs.declared.entry.Came.{Came}
 use Rattle.edi_timeline.specs.declared.entry.Said.{Said}
 use Rattle.edi_timeline.specs.declared.entry.Seat.{Seat}
 use Rattle.edi_timeline.specs.Adding.{SeatFits, added, counted, end_of, ends_run, has_failed, said_in, stint_after}
+use Rattle.edi_waits.specs.Places.{place}
 use Rattle.edi_timed.specs.declared.seats.Seated.{Seated}
 use Rattle.edi_timed.specs.declared.leaving.Begun.{Begun}
-use Rattle.edi_timed.specs.Ran.{is_spot, place}
+use Rattle.edi_timed.specs.Ran.{is_spot}
 use Rattle.edi_timed.specs.Seats.{Fits, Fitting, seat_at, seats_after}
 use Rattle.edi_timed.specs.Leaving.{AddsBy, arrived_at, is_fault, left_at, spot_in}
 use Rattle.edi_timed.proofs.Seating.{fits_after, seat_fits}

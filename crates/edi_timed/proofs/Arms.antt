@@ -28,9 +28,10 @@ use Rattle.edi_timeline.specs.Stints.{End, Stint, arrives, waits, tries}
 use Rattle.edi_timeline.specs.Timelines.{Told}
 use Rattle.edi_timeline.specs.declared.entry.Said.{Said}
 use Rattle.edi_timeline.specs.Adding.{is_fork}
+use Rattle.edi_waits.specs.Places.{place}
 use Rattle.edi_timed.specs.declared.seats.Seated.{Seated}
 use Rattle.edi_timed.specs.declared.leaving.Begun.{Begun}
-use Rattle.edi_timed.specs.Ran.{end_in, is_spot, place, start_in}
+use Rattle.edi_timed.specs.Ran.{end_in, is_spot, start_in}
 use Rattle.edi_timed.specs.Seats.{Fitting}
 use Rattle.edi_timed.specs.Leaving.{AddsBy, AddsStint, arrived_at, ended_as, left_at, spot_in}
 use Rattle.edi_timed.specs.Timed.{Timed}

@@ -23,8 +23,9 @@ use Rattle.edi_kernel.proofs.Again.{mark_count}
 use Rattle.edi_kernel.proofs.Changes.{positive}
 use Rattle.edi_timeline.specs.Stints.{Start, End, arrives, waits, tries, forks}
 use Rattle.edi_timeline.specs.Adding.{is_at}
+use Rattle.edi_waits.specs.Places.{place}
 use Rattle.edi_timed.specs.declared.leaving.Begun.{Begun}
-use Rattle.edi_timed.specs.Ran.{Open, place, is_spot, is_marked, left_as, end_in}
+use Rattle.edi_timed.specs.Ran.{Open, is_spot, is_marked, left_as, end_in}
 use Rattle.edi_timed.specs.Leaving.{spot_in, arrived_at, left_at}
 use Rattle.edi_timed.proofs.Families.{as_many_children}
 

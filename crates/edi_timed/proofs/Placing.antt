@@ -1,52 +1,19 @@
 -- The lines of a place, one call after another; the branches of a fork, one slot after another.
-use Rattle.std.proofs.Common.{◌≡◌, ◌≤◌, ◌<◌, ℕ, zero, suc, ◌+◌, ◌-◌, Bool, true, false, if◌then◌else◌, List, [], ◌∷◌, ◌++◌, length, take, drop, Some, None}
+use Rattle.std.proofs.Common.{◌≡◌, ◌≤◌, ◌<◌, ℕ, zero, suc, ◌+◌, ◌-◌, List, [], ◌∷◌, ◌++◌, length, take, drop, Some, None}
 use Rattle.std.proofs.Common.{refl, ap, sym, ◌∙◌, arith, slice_set, append_assoc, append-nil}
 use Rattle.std.specs.Prelude.{slice_get}
-use Rattle.edi_target.specs.Memory.{word}
-use Rattle.edi_target.specs.Op.{address_of_words}
 use Rattle.edi_kernel.specs.declared.frames.Below.{Below}
-use Rattle.edi_kernel.specs.Kept.{below_of, leads_down}
+use Rattle.edi_kernel.specs.Kept.{below_of}
+use Rattle.edi_waits.specs.Places.{line_before, call_lines}
+use Rattle.edi_waits.proofs.CallLines.{lines_none, lines_some}
 use Rattle.edi_timed.specs.declared.seats.Seated.{Seated}
-use Rattle.edi_timed.specs.Ran.{line_before, call_lines}
 use Rattle.edi_timed.specs.Seats.{put_at, seated_at, with_born}
 
 -- ---- calls
 
-module _ (words memory : List ℕ) (first base : ℕ) where
-  abbrev Frame : Below
-  Frame = record {
-    base = word memory (base + 1);
-    top = word memory (base + 4);
-    back = address_of_words (word memory (base + 2)) (word memory (base + 3));
-  }
-
-  abbrev Leads : Bool
-  Leads = leads_down first base (word memory (base + 1)) (word memory (base + 4))
-
-  called : (b : Below) (n : ℕ) → below_of memory first base ≡ Some b →
-      call_lines words (suc n) memory first base ≡ line_before words b.back ∷ call_lines words n memory first b.base
-  called b n e = go Leads refl e
-    where
-      Next : Below → List ℕ
-      Next c = line_before words c.back ∷ call_lines words n memory first c.base
-
-      some : {x z : Below} → Some x ≡ Some z → x ≡ z
-      some e = cc
-
-      go : (c : Bool) → Leads ≡ c → (if c then Some Frame else None) ≡ Some b →
-          call_lines words (suc n) memory first base ≡ line_before words b.back ∷ call_lines words n memory first b.base
-      go true is f =
-          ap (λ c. if c then line_before words Frame.back ∷ call_lines words n memory first Frame.base else []) is
-          ∙ ap (λ (z : Below). line_before words z.back ∷ call_lines words n memory first z.base) (some f)
-      go false is f = let w : None ≡ Some b = f in absurd (cc)
-
-  none_called : (n : ℕ) → below_of memory first base ≡ None → call_lines words n memory first base ≡ []
-  none_called zero e = refl
-  none_called (suc n) e = go Leads refl e
-    where
-      go : (c : Bool) → Leads ≡ c → (if c then Some Frame else None) ≡ None → call_lines words (suc n) memory first base ≡ []
-      go true is f = let w : Some Frame ≡ None = f in absurd (cc)
-      go false is f = ap (λ c. if c then line_before words Frame.back ∷ call_lines words n memory first Frame.base else []) is
+none_called : (words memory : List ℕ) (first base n : ℕ) → below_of memory first base ≡ None → call_lines words n memory first base ≡ []
+none_called words memory first base zero e = refl
+none_called words memory first base (suc n) e = lines_none words memory first base n e
 
 taken_set : (xs : List ℕ) (n v : ℕ) → n < length xs → take (suc n) (slice_set xs n v) ≡ take n xs ++ v ∷ []
 taken_set [] n v l = absurd (omega (arith, l))
@@ -70,7 +37,7 @@ module _ (words memory : List ℕ) (first base many : ℕ) (lines place : List �
       ∙ ap (λ xs. xs ++ rest) (taken_set lines many v (omega (arith, few, wide)))
       ∙ append_assoc (take many lines) (v ∷ []) rest
       ∙ ap (λ c. take many lines ++ c ∷ rest) line
-      ∙ ap (λ xs. take many lines ++ xs) (sym (called words memory first base b (5 - (many + 1)) is))
+      ∙ ap (λ xs. take many lines ++ xs) (sym (lines_some words memory first base (5 - (many + 1)) b is))
       ∙ ap (λ n. take many lines ++ call_lines words n memory first base) (sym left)
       ∙ so_far
 

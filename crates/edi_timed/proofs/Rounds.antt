@@ -39,10 +39,11 @@ use Rattle.edi_timeline.specs.Timelines.{Told, told_of}
 use Rattle.edi_timeline.specs.declared.entry.Said.{Said}
 use Rattle.edi_timeline.specs.Adding.{added, counted, end_of, is_at, said_in, start_after, stint_after, used_by}
 use Rattle.edi_timeline.proofs.Telling.{told_adds, told_counts}
+use Rattle.edi_waits.specs.Places.{place}
 use Rattle.edi_timed.specs.declared.seats.Seated.{Seated}
 use Rattle.edi_timed.specs.declared.leaving.Begun.{Begun}
 use Rattle.edi_timed.specs.Hearing.{HasShown}
-use Rattle.edi_timed.specs.Ran.{Open, closed, end_in, is_marked, is_spot, left_as, opened, place, spot_as, spot_of, start_in, with_closed}
+use Rattle.edi_timed.specs.Ran.{Open, closed, end_in, is_marked, is_spot, left_as, opened, spot_as, spot_of, start_in, with_closed}
 use Rattle.edi_timed.specs.Seats.{Fits, seat_at}
 use Rattle.edi_timed.specs.Leaving.{AddsBy, AddsStint, Begins, ending_at, left_at, spot_by, spot_in}
 use Rattle.edi_timed.specs.Timed.{HasStints, Timed}

@@ -19,10 +19,11 @@ use Rattle.edi_timeline.specs.Timelines.{Told}
 use Rattle.edi_timeline.specs.Adding.{added, counted, end_of, has_failed}
 use Rattle.edi_timeline.specs.declared.entry.Came.{Came}
 use Rattle.edi_timeline.specs.declared.entry.Said.{Said}
+use Rattle.edi_waits.specs.Places.{place}
 use Rattle.edi_timed.specs.declared.seats.Seated.{Seated}
 use Rattle.edi_timed.specs.declared.leaving.Spot.{Spot}
 use Rattle.edi_timed.specs.declared.leaving.Begun.{Begun}
-use Rattle.edi_timed.specs.Ran.{place, is_spot}
+use Rattle.edi_timed.specs.Ran.{is_spot}
 use Rattle.edi_timed.specs.Seats.{seat_at, seats_after}
 
 -- ---- where a process stands at a `when`

@@ -1,39 +1,18 @@
 -- Definition. THE STINTS of a run of code: as `stints_of` has them of an execution, with the lines that stand in the code.
-use Rattle.std.specs.Prelude.{ℕ, zero, suc, ◌+◌, ◌-◌, ◌==◌, Bool, true, false, ◌&&◌, if◌then◌else◌, List, [], ◌∷◌, ◌++◌, length, drop, Option, Some, None, slice_index}
+use Rattle.std.specs.Prelude.{ℕ, zero, suc, ◌-◌, ◌==◌, Bool, true, false, ◌&&◌, if◌then◌else◌, List, [], ◌∷◌, ◌++◌, length, drop, Option, Some, None}
 use Rattle.edi_calls.specs.Choice.{Choices}
 use Rattle.edi_calls.specs.Names.{Name, same, find}
 use Rattle.edi_calls.specs.Outcome as outcome
 use Rattle.edi_calls.specs.Ready.{stays, joins, Taking, nobody, taking, take_next}
 use Rattle.edi_calls.specs.State.{State}
-use Rattle.edi_target.specs.Op.{address_of_words}
-use Rattle.edi_target.specs.Memory.{word}
 use Rattle.edi_target.specs.Fetch.{fetch}
 use Rattle.edi_target.specs.Check.{CodeParts}
 use Rattle.edi_target.specs.Mach.{Standing, ready, at_when, waiting, Activity, Machine, Stepped, went, ended}
 use Rattle.edi_target.specs.Mach.{step, entered}
 use Rattle.edi_target.specs.Attempts.{attempt_fails}
-use Rattle.edi_kernel.specs.Kept.{leads_down}
 use Rattle.edi_timeline.specs.Stints.{Start, End, arrives, waits, tries, forks, ends, over, Stint}
 use Rattle.edi_timeline.specs.Adding.{is_at, start_after}
-
--- ---- where a process stands
-
-module _ (words : List ℕ) where
-  -- the line before an address: that of the WHEN, the CALL or the CALL_P that ends there
-  abbrev pub line_before : (at : ℕ) → ℕ
-  line_before at = slice_index words (at - 1)
-
-  -- the lines of the calls that lead to the frame at this base, at most so many
-  abbrev pub call_lines : ℕ → List ℕ → (first base : ℕ) → List ℕ
-  call_lines zero memory first base = []
-  call_lines (suc n) memory first base =
-      if leads_down first base (word memory (base + 1)) (word memory (base + 4))
-      then line_before (address_of_words (word memory (base + 2)) (word memory (base + 3))) ∷ call_lines n memory first (word memory (base + 1))
-      else []
-
-  -- A PLACE: the line of a `when`, and those of the calls that lead there, the innermost first; at most five
-  abbrev pub place : List ℕ → (first base pc : ℕ) → List ℕ
-  place memory first base pc = line_before pc ∷ call_lines 4 memory first base
+use Rattle.edi_waits.specs.Places.{place}
 
 -- ---- how a stint ends
 

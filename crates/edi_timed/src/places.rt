@@ -2,27 +2,18 @@
 
 ghost use Rattle.std.specs.Prelude.{◌≡◌, ◌+◌, ◌≤◌, ◌^◌};
 ghost use Rattle.edi_timeline.specs.Adding.{lines_in};
-ghost use Rattle.edi_timed.specs.Ran as spec;
+ghost use Rattle.edi_waits.specs.Places.{place};
 
 use edi_kernel::Kernel;
 use edi_machine::Activity;
 use edi_target::Code;
 use edi_timeline::Place;
-
-// The line before an address of the code.
-fn line_before(code: &Code, at: u32) -> u16
-    ensures exact { result ≡ spec.line_before code.now.words at }
-{
-    match code.words().get(at.saturating_sub(1) as usize) {
-        Some(line) => *line,
-        None => 0,
-    }
-}
+use edi_waits::line_before;
 
 /// The place where a process with this activity stands.
 pub(crate) fn place_of(kernel: &Kernel, code: &Code, activity: &Activity) -> Place
     requires within { activity.now.base + 5 ≤ 2 ^ 16 }
-    ensures exact { lines_in result ≡ spec.place code.now.words kernel.now.store activity.now.segment.first activity.now.base activity.now.pc }
+    ensures exact { lines_in result ≡ place code.now.words kernel.now.store activity.now.segment.first activity.now.base activity.now.pc }
     ensures few { result.many ≤ 5 }
 {
     let mut lines = [0_u16; 5];

@@ -1,5 +1,5 @@
 pub mod Lists
-mod CallLines
+pub mod CallLines
 mod Naming
 mod Listed
 pub mod Compared

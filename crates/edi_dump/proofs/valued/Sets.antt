@@ -1,11 +1,13 @@
--- Members that are found one after another, and the first of many parts of one type.
-use Rattle.std.proofs.Common.{◌≡◌, ℕ, zero, suc, ◌+◌, ◌-◌, Bool, if◌then◌else◌, List, [], ◌∷◌, ◌++◌, length, take, min, sym, ap, ◌∙◌, arith}
-use Rattle.std.specs.Prelude.{filter, replicate}
+-- Members that are found one after another, and the first of a list.
+use Rattle.std.proofs.Common.{◌≡◌, ℕ, zero, suc, ◌+◌, ◌<◌, Bool, if◌then◌else◌, List, [], ◌∷◌, ◌++◌, codes, length, take, drop, min, refl, sym, ap, ◌∙◌, arith}
+use Rattle.std.specs.Prelude.{filter}
 use Rattle.std.specs.List.{range_with_len}
-use Rattle.std.proofs.lemmas.List.{length-replicate, take_all, take_min, take-replicate}
+use Rattle.std.proofs.lemmas.List.{take_min}
 use Rattle.std.proofs.lemmas.List.Elements.{filter-append}
 use Rattle.edi_word.specs.Sets.{members_where, word_has}
 use Rattle.edi_word.specs.SetWords.{members_of}
+use Rattle.edi_unit.specs.Types.{Shape}
+use Rattle.edi_dump.specs.values.Texts.{gap, members_piece}
 
 range_end : (a n : ℕ) → range_with_len a (suc n) ≡ range_with_len a n ++ (a + n) ∷ []
 range_end a zero = ap (λ k. k ∷ []) (omega arith)
@@ -24,25 +26,16 @@ pub all_found : (words found : List ℕ) (n : ℕ) → n ≡ 128 → found ≡ f
 unfolding members_where
 all_found words found n e h = h ∙ ap (λ k. filter (word_has words) (range_with_len 0 k)) e
 
+-- where no more parts may be told, of members that are left
+pub none_told : (types : List Shape) (constants : List (List (List ℕ))) (first : Bool) (more base : ℕ) (set : List ℕ) (i : ℕ) → more ≡ 0 → i < length set
+    → members_piece types constants first more base (drop i set) ≡ record { text = gap first ++ codes ".."; left = 0 }
+none_told types constants first more base [] i none there = absurd (omega (arith, there))
+none_told types constants first more base (n ∷ ns) zero none there = ap (λ k. members_piece types constants first k base (n ∷ ns)) none
+none_told types constants first more base (n ∷ ns) (suc i) none there = none_told types constants first more base ns i none (omega (arith, there))
+
 -- ---- the first of many
 
 pub first_of : {A : Type 0} (most : ℕ) (xs front : List A) (n : ℕ) → n ≡ min (length xs) most → front ≡ take n xs → front ≡ take most xs
 first_of most xs front n least e =
     let turned : min (length xs) most ≡ min most (length xs) = omega arith in
     e ∙ (ap (λ k. take k xs) (least ∙ turned) ∙ take_min most xs)
-
-pub shown_same : (m n y : ℕ) → take m (replicate n y) ≡ replicate (min n m) y
-shown_same m n y =
-    let long : length (replicate n y) ≡ n = length-replicate n y in
-    let same : min m (length (replicate n y)) ≡ min n m = omega (arith, long) in
-    sym (take_min m (replicate n y)) ∙ (ap (λ k. take k (replicate n y)) same ∙ take-replicate (min n m) n y (omega arith))
-
--- the first 64 of so many, put into a list that was empty
-pub repeated_shown : (old new : List ℕ) (many n before y : ℕ) → old ≡ [] → before ≡ 0 → n ≡ min many 64 → new ≡ take n old ++ replicate (n - before) y
-    → new ≡ take 64 (replicate many y)
-repeated_shown old new many n before y none nothing least e =
-    let all : n - before ≡ min many 64 = omega (arith, nothing, least) in
-    let empty : take n old ≡ [] = ap (take n) none ∙ take_all n [] (omega arith) in
-    e
-    ∙ (ap (λ front. front ++ replicate (n - before) y) empty
-    ∙ (ap (λ k. replicate k y) all ∙ sym (shown_same 64 many y)))

@@ -1,18 +1,19 @@
 -- Computed rows. Values with their texts.
-use Rattle.std.specs.Prelude.{◌≡◌, ℕ, List, [], ◌∷◌, ◌++◌, pos, negsuc, codes, replicate, refl}
+use Rattle.std.specs.Prelude.{◌≡◌, ℕ, List, [], ◌∷◌, ◌++◌, pos, negsuc, codes, flat_map, replicate, refl}
 use Rattle.std.specs.Fmt.{signed_decimal}
 use Rattle.edi_word.specs.Sets.{members_where}
 use Rattle.edi_unit.specs.Types.{Shape, int, char, bool, enumeration, record_of, array_of, set_of, size}
-use Rattle.edi_dump.specs.values.Texts.{listed}
 use Rattle.edi_dump.specs.values.Words.{words_text}
 
--- enum e (red, green) / record r (b: bool; c: char) / array a [1:2] (r) / set s (e) / array many [1:65] (bool)
+-- enum e (red, green) / record r (b: bool; c: char) / array a [1:2] (r) / set s (e) / array many [1:65] (bool) / array row [1:40] (bool)
+-- / array square [1:3] (row) / array sets [1:23] (s)
 abbrev types : List Shape
 types =
-    int ∷ char ∷ bool ∷ enumeration 2 ∷ record_of (2 ∷ 1 ∷ []) ∷ array_of 0 (pos 1) (pos 2) 4 ∷ set_of 3 ∷ array_of 0 (pos 1) (pos 65) 2 ∷ []
+    int ∷ char ∷ bool ∷ enumeration 2 ∷ record_of (2 ∷ 1 ∷ []) ∷ array_of 0 (pos 1) (pos 2) 4 ∷ set_of 3 ∷ array_of 0 (pos 1) (pos 65) 2
+    ∷ array_of 0 (pos 1) (pos 40) 2 ∷ array_of 0 (pos 1) (pos 3) 8 ∷ array_of 0 (pos 1) (pos 23) 6 ∷ []
 
 abbrev constants : List (List (List ℕ))
-constants = [] ∷ [] ∷ (codes "false" ∷ codes "true" ∷ []) ∷ (codes "red" ∷ codes "green" ∷ []) ∷ [] ∷ [] ∷ [] ∷ [] ∷ []
+constants = [] ∷ [] ∷ (codes "false" ∷ codes "true" ∷ []) ∷ (codes "red" ∷ codes "green" ∷ []) ∷ []
 
 abbrev text : ℕ → List ℕ → List ℕ
 text t words = words_text types constants t words
@@ -52,7 +53,26 @@ pub row_empty_set : text 6 (replicate 8 0) ≡ codes "[]"
 unfolding members_where
 row_empty_set = refl
 
--- 64 of 65 elements
-pub row_many : text 7 (replicate 65 0) ≡ codes "(" ++ (listed (replicate 64 (codes "false") ++ codes ".." ∷ []) ++ codes ")")
+-- ---- more than 64 parts
+
+abbrev times : ℕ → List ℕ → List ℕ
+times n xs = flat_map {X = ℕ} (λ k. xs) (replicate n 0)
+
+-- 64 elements are told, and of 65 also
+pub row_many : text 7 (replicate 65 0) ≡ codes "(false" ++ (times 63 (codes ", false") ++ codes ", ..)")
 unfolding size
 row_many = refl
+
+-- of the second row 24 elements
+pub row_square : text 9 (replicate 120 0)
+    ≡ codes "((false" ++ (times 39 (codes ", false") ++ (codes "), (false" ++ (times 23 (codes ", false") ++ codes ", ..), ..)")))
+unfolding size
+row_square = refl
+
+abbrev both : List ℕ
+both = 3 ∷ replicate 7 0
+
+-- Each of these sets counts as three parts. Of the 22nd there is one part left: a member.
+pub row_sets : text 10 (times 23 both) ≡ codes "([red, green]" ++ (times 20 (codes ", [red, green]") ++ codes ", [red, ..], ..)")
+unfolding members_where size
+row_sets = refl

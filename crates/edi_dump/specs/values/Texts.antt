@@ -1,11 +1,9 @@
 -- Definition. THE TEXT OF A VALUE: what a program would write for it, but that records, arrays and sets have no name before their brackets.
--- Of more than 64 parts or members the first 64 are shown, and then `..`.
-use Rattle.std.specs.Prelude.{ℕ, ℤ, pos, negsuc, ◌&&◌, nat_le, nat_lt, if◌then◌else◌, List, [], ◌∷◌, ◌++◌, length, map, take, codes, Option, Some, None}
+-- Of one variable 64 parts are told in all, and then `..`: an elementary value is a part, and so is a set, and each of its members.
+use Rattle.std.specs.Prelude.{ℕ, ℤ, pos, negsuc, ◌-◌, ◌==◌, ◌&&◌, nat_le, Bool, true, false, if◌then◌else◌, List, [], ◌∷◌, ◌++◌, codes, Option, Some, None}
 use Rattle.std.specs.Prelude.{slice_get, slice_index_or}
 use Rattle.std.specs.Fmt.{signed_decimal}
-use Rattle.edi_unit.specs.Types.{Shape, int, char, set_of, shape_at, int_type}
-use Rattle.edi_unit.specs.TypeTables.{part_types}
-use Rattle.edi_unit.specs.Values.{Value, ordinal, compound, members, Values, no_value, value_then}
+use Rattle.edi_unit.specs.Types.{Shape, int, char, shape_at}
 
 -- ---- elementary values
 
@@ -28,37 +26,38 @@ elementary_text constants int n = signed_decimal n
 elementary_text constants char n = character_text n
 elementary_text constants _ n = constant_text constants n
 
--- ---- brackets
+-- ---- lists of parts
 
+-- of how many parts of one variable the text is told, and of how many words of a frame
 abbrev pub most_shown : ℕ
 most_shown = 64
 
-abbrev pub each_behind : List (List ℕ) → List ℕ
-each_behind [] = []
-each_behind (x ∷ xs) = codes ", " ++ (x ++ each_behind xs)
+-- a text, and how many parts may be told after it
+pub record Piece : Type 0 where
+  pub text : List ℕ
+  pub left : ℕ
 
--- texts with `, ` between them
-abbrev pub listed : List (List ℕ) → List ℕ
-listed [] = []
-listed (x ∷ xs) = x ++ each_behind xs
+-- before a part
+abbrev pub gap : (first : Bool) → List ℕ
+gap true = []
+gap false = codes ", "
 
-abbrev pub shown_parts : Shape → List ℕ
-shown_parts shape = take most_shown (part_types shape)
+-- a part of a list, with those after it; `..` for all of these, if no more may be told
+abbrev pub in_list : (first : Bool) → (left : ℕ) → (part : Piece) → (others : ℕ → Piece) → Piece
+in_list first left part others =
+    if left == 0 then record { text = gap first ++ codes ".."; left = 0 }
+    else record { text = gap first ++ (part.text ++ (others part.left).text); left = (others part.left).left }
 
--- behind the parts that are shown, `..` for those that are not
-abbrev pub and_more : {A : Type 0} → List A → List (List ℕ)
-and_more parts = if nat_lt most_shown (length parts) then codes ".." ∷ [] else []
+abbrev pub bracketed : (front : ℕ) → Piece → (back : ℕ) → Piece
+bracketed front list back = record { text = front ∷ (list.text ++ back ∷ []); left = list.left }
 
-abbrev pub bracketed : (front : ℕ) → List (List ℕ) → (back : ℕ) → List ℕ
-bracketed front texts back = front ∷ (listed texts ++ back ∷ [])
+-- a record or an array, from the list of its parts
+abbrev pub compound_piece : Piece → Piece
+compound_piece list = bracketed 40 list 41
 
--- a record or an array with parts of these types, from the texts of the first 64 of them
-abbrev pub compound_text : (parts : List ℕ) → List (List ℕ) → List ℕ
-compound_text parts texts = bracketed 40 (texts ++ and_more parts) 41
-
-abbrev pub base_type : Shape → ℕ
-base_type (set_of b) = b
-base_type _ = int_type
+-- a set, from the list of its members
+abbrev pub counted_set : Piece → Piece
+counted_set list = record { text = (bracketed 91 list 93).text; left = list.left - 1 }
 
 -- ---- values
 
@@ -71,18 +70,14 @@ module _ (types : List Shape) (constants : List (List (List ℕ))) where
   abbrev pub ordinal_text : (t : ℕ) → ℤ → List ℕ
   ordinal_text t n = elementary_text (constants_at t) (shape_at types t) n
 
-  -- the members of a set of values of this type
-  abbrev pub set_text : (base : ℕ) → List ℕ → List ℕ
-  set_text base set = bracketed 91 (map (λ n. ordinal_text base (pos n)) (take most_shown set) ++ and_more set) 93
+  abbrev pub ordinal_piece : (left t : ℕ) → ℤ → Piece
+  ordinal_piece left t n = record { text = ordinal_text t n; left = left - 1 }
 
-  abbrev mutual
-    pub value_text : (t : ℕ) → Value → List ℕ
-    value_text t (ordinal n) = ordinal_text t n
-    value_text t (compound vs) = compound_text (part_types (shape_at types t)) (values_texts (shown_parts (shape_at types t)) vs)
-    value_text t (members set) = set_text (base_type (shape_at types t)) set
+  -- members of a set of values of this type
+  abbrev pub members_piece : (first : Bool) → (left base : ℕ) → List ℕ → Piece
+  members_piece first left base [] = record { text = []; left = left }
+  members_piece first left base (n ∷ ns) =
+      in_list first left (ordinal_piece left base (pos n)) (λ more. members_piece false more base ns)
 
-    -- of values of these types
-    pub values_texts : List ℕ → Values → List (List ℕ)
-    values_texts [] vs = []
-    values_texts (t ∷ ts) no_value = []
-    values_texts (t ∷ ts) (value_then v vs) = value_text t v ∷ values_texts ts vs
+  abbrev pub set_piece : (left base : ℕ) → List ℕ → Piece
+  set_piece left base set = counted_set (members_piece true left base set)

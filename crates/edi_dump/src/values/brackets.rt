@@ -1,12 +1,11 @@
-//! Texts between brackets.
+//! Lists of parts, and how many parts are shown.
 
-ghost use Rattle.std.specs.Prelude.{◌≡◌, ◌∷◌, ◌++◌, [], if◌then◌else◌, nat_lt, codes, take, IfOk, OnOk};
+ghost use Rattle.std.specs.Prelude.{◌≡◌, ◌++◌, codes, take, OnOk};
 ghost use Rattle.edi_dump.specs.values.Texts as spec;
 
-use edi_lex::Text;
-use std::alloc::{AllocError, Global};
+use std::alloc::AllocError;
 
-/// The greatest number of parts of one value that are shown.
+/// The greatest number of parts of one variable that are shown, and of words of a frame.
 pub(crate) const MOST_SHOWN: usize = 64;
 
 /// The first of some parts, at most so many.
@@ -24,61 +23,22 @@ pub(crate) fn shown<T>(parts: &[T]) -> &[T]
     first(parts, MOST_SHOWN)
 }
 
-/// Puts bytes behind others.
-fn put(out: &mut Vec<u8>, bytes: &[u8]) -> Result<(), AllocError>
-    ensures exact { OnOk result (out.new.items ≡ out.old.items ++ bytes.now) }
+/// Puts what stands before a part. The only error is that memory ran out, as everywhere here.
+pub(crate) fn put_gap(out: &mut Vec<u8>, first: bool) -> Result<(), AllocError>
+    ensures exact { OnOk result (out.new.items ≡ out.old.items ++ spec.gap first) }
 {
-    out.extend_from_slice(bytes)?;
+    if first {
+        return Ok(());
+    }
+    out.extend_from_slice(b", ")?;
     Ok(())
 }
 
-/// Puts each of these texts behind others, with `, ` before it.
-fn put_each(out: &mut Vec<u8>, texts: &[Text]) -> Result<(), AllocError>
-    ensures exact { OnOk result (out.new.items ≡ out.old.items ++ spec.each_behind texts.now) }
+/// Puts `..` for the parts that are not shown.
+pub(crate) fn put_more(out: &mut Vec<u8>, first: bool) -> Result<(), AllocError>
+    ensures exact { OnOk result (out.new.items ≡ out.old.items ++ (spec.gap first ++ codes "..")) }
 {
-    for text in texts {
-        put(out, b", ")?;
-        put(out, text.as_slice())?;
-    }
-    Ok(())
-}
-
-/// Puts texts with `, ` between them behind others.
-fn put_listed(out: &mut Vec<u8>, texts: &[Text]) -> Result<(), AllocError>
-    ensures exact { OnOk result (out.new.items ≡ out.old.items ++ spec.listed texts.now) }
-{
-    match texts {
-        [] => Ok(()),
-        [first, rest @ ..] => {
-            put(out, first.as_slice())?;
-            put_each(out, rest)
-        }
-    }
-}
-
-/// These texts between brackets.
-pub(crate) fn bracketed(
-    alloc: Global,
-    front: u8,
-    texts: &[Text],
-    back: u8,
-) -> Result<Text, AllocError>
-    ensures exact { IfOk result (λ text. text ≡ spec.bracketed front texts.now back) }
-{
-    let mut out = Vec::new(alloc);
-    out.push(front)?;
-    put_listed(&mut out, texts)?;
-    out.push(back)?;
-    Ok(Text::from_vec(out))
-}
-
-/// Puts `..` behind the texts of the parts that are shown, if there are so many parts that some are not.
-pub(crate) fn put_more(alloc: Global, parts: usize, texts: &mut Vec<Text>) -> Result<(), AllocError>
-    ensures exact { OnOk result (texts.new.items ≡ texts.old.items ++ (if nat_lt 64 parts then codes ".." ∷ [] else [])) }
-{
-    if parts > MOST_SHOWN {
-        let dots = Text::from_slice(alloc, b"..")?;
-        texts.push(dots)?;
-    }
+    put_gap(out, first)?;
+    out.extend_from_slice(b"..")?;
     Ok(())
 }

@@ -1,6 +1,6 @@
 //! The texts of elementary values.
 
-ghost use Rattle.std.specs.Prelude.{◌≡◌, ◌∷◌, ◌++◌, [], codes, map, slice_index_or, IfOk};
+ghost use Rattle.std.specs.Prelude.{◌≡◌, ◌∷◌, ◌++◌, [], codes, slice_index_or, IfOk, OnOk};
 ghost use Rattle.std.specs.Fmt.{signed_decimal};
 ghost use Rattle.edi_unit.specs.Types.{shape_at};
 ghost use Rattle.edi_unit.specs.ShapeView.{shape_of};
@@ -10,7 +10,7 @@ ghost use Rattle.edi_dump.specs.values.Views.{constants_of};
 use edi_lex::Text;
 use edi_unit::{Shape, TypeTable};
 use itoa::Buffer;
-use std::alloc::{AllocError, Global};
+use std::alloc::AllocError;
 
 /// What a type is; a number that is not in the table counts as `int`.
 pub(crate) fn shape_at(types: &TypeTable, t: u32) -> &Shape
@@ -23,53 +23,57 @@ pub(crate) fn shape_at(types: &TypeTable, t: u32) -> &Shape
     }
 }
 
-/// An integer.
-fn number(alloc: Global, n: i16) -> Result<Text, AllocError>
-    ensures exact { IfOk result (λ text. text ≡ signed_decimal n) }
+/// Puts an integer.
+fn put_integer(out: &mut Vec<u8>, n: i16) -> Result<(), AllocError>
+    ensures exact { OnOk result (out.new.items ≡ out.old.items ++ signed_decimal n) }
 {
     let mut buffer = Buffer::new();
-    Text::from_slice(alloc, buffer.format(n).as_bytes())
-}
-
-/// A character that cannot stand in a text.
-fn converted(alloc: Global, n: i16) -> Result<Text, AllocError>
-    ensures exact { IfOk result (λ text. text ≡ codes "char(" ++ (signed_decimal n ++ codes ")")) }
-{
-    let mut buffer = Buffer::new();
-    let mut out = Vec::from_slice(alloc, b"char(")?;
     out.extend_from_slice(buffer.format(n).as_bytes())?;
-    out.extend_from_slice(b")")?;
-    Ok(Text::from_vec(out))
+    Ok(())
 }
 
-/// A character symbol.
-fn symbol(alloc: Global, c: u8) -> Result<Text, AllocError>
-    ensures exact { IfOk result (λ text. text ≡ 39 ∷ c ∷ 39 ∷ []) }
+/// Puts a character that cannot stand in a text.
+fn put_converted(out: &mut Vec<u8>, n: i16) -> Result<(), AllocError>
+    ensures exact { OnOk result (out.new.items ≡ out.old.items ++ (codes "char(" ++ (signed_decimal n ++ codes ")"))) }
 {
-    Text::from_slice(alloc, &[b'\'', c, b'\''])
+    out.extend_from_slice(b"char(")?;
+    put_integer(out, n)?;
+    out.extend_from_slice(b")")?;
+    Ok(())
 }
 
-/// A character.
-fn character(alloc: Global, n: i16) -> Result<Text, AllocError>
-    ensures exact { IfOk result (λ text. text ≡ spec.character_text n) }
+/// Puts a character symbol.
+fn put_symbol(out: &mut Vec<u8>, c: u8) -> Result<(), AllocError>
+    ensures exact { OnOk result (out.new.items ≡ out.old.items ++ (39 ∷ c ∷ 39 ∷ [])) }
+{
+    out.extend_from_slice(&[b'\'', c, b'\''])?;
+    Ok(())
+}
+
+/// Puts a character.
+fn put_character(out: &mut Vec<u8>, n: i16) -> Result<(), AllocError>
+    ensures exact { OnOk result (out.new.items ≡ out.old.items ++ spec.character_text n) }
 {
     if n < 32 || n > 126 {
-        return converted(alloc, n);
+        return put_converted(out, n);
     }
     let c = n.cast_unsigned();
-    symbol(alloc, c as u8)
+    put_symbol(out, c as u8)
 }
 
-/// The constant with this ordinal.
-fn constant(alloc: Global, constants: &[Text], n: i16) -> Result<Text, AllocError>
-    ensures exact { IfOk result (λ text. text ≡ spec.constant_text constants.now n) }
+/// Puts the constant with this ordinal.
+fn put_constant(out: &mut Vec<u8>, constants: &[Text], n: i16) -> Result<(), AllocError>
+    ensures exact { OnOk result (out.new.items ≡ out.old.items ++ spec.constant_text constants.now n) }
 {
     if n < 0 {
-        return number(alloc, n);
+        return put_integer(out, n);
     }
     match constants.get(usize::from(n.cast_unsigned())) {
-        Some(name) => Text::from_slice(alloc, name.as_slice()),
-        None => number(alloc, n),
+        Some(name) => {
+            out.extend_from_slice(name.as_slice())?;
+            Ok(())
+        }
+        None => put_integer(out, n),
     }
 }
 
@@ -83,19 +87,35 @@ fn constants_at(constants: &[Vec<Text>], t: u32) -> &[Text]
     }
 }
 
-/// An elementary value of this type.
-pub(crate) fn ordinal_text(
-    alloc: Global,
+/// Puts an elementary value of this type.
+fn put_ordinal(
+    out: &mut Vec<u8>,
     types: &TypeTable,
     constants: &[Vec<Text>],
     t: u32,
     n: i16,
-) -> Result<Text, AllocError>
-    ensures exact { IfOk result (λ text. text ≡ spec.ordinal_text types.now (constants_of constants.now) t n) }
+) -> Result<(), AllocError>
+    ensures exact { OnOk result (out.new.items ≡ out.old.items ++ spec.ordinal_text types.now (constants_of constants.now) t n) }
 {
     match shape_at(types, t) {
-        Shape::Int => number(alloc, n),
-        Shape::Char => character(alloc, n),
-        _ => constant(alloc, constants_at(constants, t), n),
+        Shape::Int => put_integer(out, n),
+        Shape::Char => put_character(out, n),
+        _ => put_constant(out, constants_at(constants, t), n),
     }
+}
+
+/// Puts an elementary value, which is a part. As everywhere here, the result is how many parts may be told after it.
+pub(crate) fn put_one(
+    out: &mut Vec<u8>,
+    types: &TypeTable,
+    constants: &[Vec<Text>],
+    left: usize,
+    t: u32,
+    n: i16,
+) -> Result<usize, AllocError>
+    ensures exact { OnOk result (out.new.items ≡ out.old.items ++ (spec.ordinal_piece types.now (constants_of constants.now) left t n).text) }
+    ensures left { IfOk result (λ more. more ≡ (spec.ordinal_piece types.now (constants_of constants.now) left t n).left) }
+{
+    put_ordinal(out, types, constants, t, n)?;
+    Ok(left.saturating_sub(1))
 }

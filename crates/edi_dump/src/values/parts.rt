@@ -1,14 +1,11 @@
 //! The types of the parts of a record or an array.
 
-ghost use Rattle.std.specs.Prelude.{◌≡◌, ◌≤ℤ◌, ◌≤◌, length, replicate, take, IfOk};
+ghost use Rattle.std.specs.Prelude.{◌≡◌, ◌∷◌, ◌+◌, ◌<◌, ◌≤ℤ◌, length, drop};
 ghost use Rattle.edi_unit.specs.Types.{element_count, size};
 ghost use Rattle.edi_unit.specs.TypeTables.{part_types};
 ghost use Rattle.edi_unit.specs.ShapeView.{shape_of};
-ghost use Rattle.edi_dump.specs.values.Texts as spec;
 
-use crate::values::brackets::{MOST_SHOWN, shown};
 use edi_unit::{Shape, TypeTable};
-use std::alloc::{AllocError, Global};
 
 /// The words of a value; a number that is not in the table counts as a type of no words.
 #[tactic(auto, using(crate::proofs::valued::Sizes::size_past))]
@@ -44,27 +41,14 @@ pub(crate) fn part_count(shape: &Shape) -> usize
     }
 }
 
-/// So many times the same type, but at most 64 times.
-fn repeated(alloc: Global, count: u32, of: u32) -> Result<Vec<u32>, AllocError>
-    ensures exact { IfOk result (λ parts. parts.items ≡ take spec.most_shown (replicate count of)) }
-{
-    let mut parts = Vec::new(alloc);
-    parts.resize((count as usize).min(MOST_SHOWN), of)?;
-    Ok(parts)
-}
-
-/// The types of the parts that are shown.
-pub(crate) fn shown_parts(alloc: Global, shape: &Shape) -> Result<Vec<u32>, AllocError>
-    ensures exact { IfOk result (λ parts. parts.items ≡ spec.shown_parts (shape_of shape.now)) }
+/// The type of the part at an index.
+pub(crate) fn part_type(shape: &Shape, index: usize) -> u32
+    requires there { index < length (part_types (shape_of shape.now)) }
+    ensures exact { drop index (part_types (shape_of shape.now)) ≡ result ∷ drop (index + 1) (part_types (shape_of shape.now)) }
 {
     match shape {
-        Shape::Record(fields) => Vec::from_slice(alloc, shown(fields.items())),
-        Shape::Array {
-            lo,
-            hi,
-            element,
-            ..
-        } => repeated(alloc, element_count(*lo, *hi), *element),
-        _ => Ok(Vec::new(alloc)),
+        Shape::Record(fields) => fields.items()[index],
+        Shape::Array { element, .. } => *element,
+        _ => unreachable!(),
     }
 }

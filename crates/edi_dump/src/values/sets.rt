@@ -1,13 +1,13 @@
 //! The texts of sets.
 
-ghost use Rattle.std.specs.Prelude.{◌≡◌, ◌∷◌, ◌++◌, [], if◌then◌else◌, pos, map, IfOk, OnOk, slice_index};
+ghost use Rattle.std.specs.Prelude.{◌≡◌, ◌∷◌, ◌++◌, [], if◌then◌else◌, true, IfOk, OnOk, slice_index};
 ghost use Rattle.edi_word.specs.Sets.{word_has};
 ghost use Rattle.edi_word.specs.SetWords.{members_of};
 ghost use Rattle.edi_dump.specs.values.Texts as spec;
 ghost use Rattle.edi_dump.specs.values.Views.{constants_of};
 
-use crate::values::brackets::{bracketed, put_more, shown};
-use crate::values::elementary::ordinal_text;
+use crate::values::brackets::{put_gap, put_more};
+use crate::values::elementary::put_one;
 use edi_lex::Text;
 use edi_unit::TypeTable;
 use std::alloc::{AllocError, Global};
@@ -49,36 +49,50 @@ fn members(alloc: Global, words: &[u16]) -> Result<Vec<u8>, AllocError>
     Ok(members)
 }
 
-/// The texts of these members.
-fn member_texts(
-    alloc: Global,
+/// Puts members of a set of values of this type, which are parts each.
+fn put_members(
+    out: &mut Vec<u8>,
     types: &TypeTable,
     constants: &[Vec<Text>],
+    left: usize,
     base: u32,
     members: &[u8],
-) -> Result<Vec<Text>, AllocError>
-    ensures exact { IfOk result (λ texts. texts.items ≡ map (λ n. spec.ordinal_text types.now (constants_of constants.now) base (pos n)) members.now) }
+) -> Result<usize, AllocError>
+    ensures exact { OnOk result (out.new.items ≡ out.old.items ++
+        (spec.members_piece types.now (constants_of constants.now) true left base members.now).text) }
+    ensures left { IfOk result (λ more. more ≡ (spec.members_piece types.now (constants_of constants.now) true left base members.now).left) }
 {
-    let mut texts = Vec::new(alloc);
+    let mut first = true;
+    let mut more = left;
     for n in members {
-        let text = ordinal_text(alloc, types, constants, base, i16::from(*n))?;
-        texts.push(text)?;
+        if more == 0 {
+            put_more(out, first)?;
+            return Ok(0);
+        }
+        put_gap(out, first)?;
+        more = put_one(out, types, constants, more, base, i16::from(*n))?;
+        first = false;
     }
-    Ok(texts)
+    Ok(more)
 }
 
-/// The set of values of this type that these words are.
-pub(crate) fn set_text(
+/// Puts the set of values of this type that these words are. It is a part itself.
+pub(crate) fn put_set(
+    out: &mut Vec<u8>,
     alloc: Global,
     types: &TypeTable,
     constants: &[Vec<Text>],
+    left: usize,
     base: u32,
     words: &[u16],
-) -> Result<Text, AllocError>
-    ensures exact { IfOk result (λ text. text ≡ spec.set_text types.now (constants_of constants.now) base (members_of words.now)) }
+) -> Result<usize, AllocError>
+    ensures exact { OnOk result (out.new.items ≡ out.old.items ++
+        (spec.set_piece types.now (constants_of constants.now) left base (members_of words.now)).text) }
+    ensures left { IfOk result (λ more. more ≡ (spec.set_piece types.now (constants_of constants.now) left base (members_of words.now)).left) }
 {
     let members = members(alloc, words)?;
-    let mut texts = member_texts(alloc, types, constants, base, shown(members.as_slice()))?;
-    put_more(alloc, members.len(), &mut texts)?;
-    bracketed(alloc, b'[', texts.as_slice(), b']')
+    out.push(b'[')?;
+    let more = put_members(out, types, constants, left, base, members.as_slice())?;
+    out.push(b']')?;
+    Ok(more.saturating_sub(1))
 }

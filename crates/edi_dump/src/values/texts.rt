@@ -1,17 +1,19 @@
 //! The text of a value, read off its words.
 
-ghost use Rattle.std.specs.Prelude.{◌≡◌, drop, slice_index, IfOk};
+ghost use Rattle.std.specs.Prelude.{◌≡◌, ◌++◌, true, drop, slice_index, IfOk, OnOk};
 ghost use Rattle.edi_word.specs.Words.{signed};
 ghost use Rattle.edi_unit.specs.ShapeView.{shape_of};
+ghost use Rattle.edi_unit.specs.Types.{shape_at};
+ghost use Rattle.edi_unit.specs.TypeTables.{part_types};
 ghost use Rattle.edi_dump.specs.values.Words as spec;
-ghost use Rattle.edi_dump.specs.values.Views.{constants_of};
+ghost use Rattle.edi_dump.specs.Views.{constants_in, types_in};
 
-use crate::values::brackets::{bracketed, put_more};
-use crate::values::elementary::{ordinal_text, shape_at};
-use crate::values::parts::{part_count, shown_parts, size_of};
-use crate::values::sets::{set_text, word_at};
-use edi_lex::Text;
-use edi_unit::{Shape, TypeTable};
+use crate::known::Known;
+use crate::values::brackets::{MOST_SHOWN, put_gap, put_more};
+use crate::values::elementary::{put_one, shape_at};
+use crate::values::parts::{part_count, part_type, size_of};
+use crate::values::sets::{put_set, word_at};
+use edi_unit::Shape;
 use std::alloc::{AllocError, Global};
 
 /// What stands behind so many words.
@@ -25,25 +27,6 @@ pub(crate) fn behind(words: &[u16], count: usize) -> &[u16]
     rest
 }
 
-/// A value in which parts stand in parts less deep than this, at the front of the words.
-#[cycle(values)]
-fn text_within(
-    alloc: Global,
-    types: &TypeTable,
-    constants: &[Vec<Text>],
-    deep: u64,
-    t: u32,
-    words: &[u16],
-) -> Result<Text, AllocError>
-    ensures exact { IfOk result (λ text. text ≡ spec.text_within types.now (constants_of constants.now) deep t words.now) }
-{
-    if deep == 0 {
-        return Ok(Text::new(alloc));
-    }
-    let shape = shape_at(types, t);
-    shape_text(alloc, types, constants, deep - 1, t, shape, words)
-}
-
 /// The ordinal that is the first of these words.
 fn first_ordinal(words: &[u16]) -> i16
     ensures exact { result ≡ signed (slice_index words.now 0) }
@@ -51,83 +34,123 @@ fn first_ordinal(words: &[u16]) -> i16
     word_at(words, 0).cast_signed()
 }
 
-/// A value of type `t`, which is this.
+/// Puts a value in which parts stand in parts less deep than this, at the front of the words. The result is how many parts may be told after it.
 #[cycle(values)]
-fn shape_text(
+fn put_within(
+    out: &mut Vec<u8>,
     alloc: Global,
-    types: &TypeTable,
-    constants: &[Vec<Text>],
+    known: &Known,
     deep: u64,
+    left: usize,
     t: u32,
-    shape: &Shape,
     words: &[u16],
-) -> Result<Text, AllocError>
-    ensures exact { IfOk result (λ text. text ≡ spec.shape_text types.now (constants_of constants.now)
-        (spec.text_within types.now (constants_of constants.now) deep) t (shape_of shape.now) words.now) }
+) -> Result<usize, AllocError>
+    ensures exact { OnOk result (out.new.items ≡ out.old.items ++
+        (spec.piece_within (types_in known.now) (constants_in known.now) deep left t words.now).text) }
+    ensures left { IfOk result (λ more. more ≡ (spec.piece_within (types_in known.now) (constants_in known.now) deep left t words.now).left) }
 {
+    if deep == 0 {
+        return Ok(left);
+    }
+    put_shape(out, alloc, known, deep - 1, left, t, words)
+}
+
+/// Puts a value of this type.
+#[cycle(values)]
+fn put_shape(
+    out: &mut Vec<u8>,
+    alloc: Global,
+    known: &Known,
+    deep: u64,
+    left: usize,
+    t: u32,
+    words: &[u16],
+) -> Result<usize, AllocError>
+    ensures exact { OnOk result (out.new.items ≡ out.old.items ++ (spec.shape_piece (types_in known.now) (constants_in known.now)
+        (spec.piece_within (types_in known.now) (constants_in known.now) deep) left t (shape_at (types_in known.now) t) words.now).text) }
+    ensures left { IfOk result (λ more. more ≡ (spec.shape_piece (types_in known.now) (constants_in known.now)
+        (spec.piece_within (types_in known.now) (constants_in known.now) deep) left t (shape_at (types_in known.now) t) words.now).left) }
+{
+    let types = &known.unit.types;
+    let constants = known.names.constants.as_slice();
+    let shape = shape_at(types, t);
     match shape {
-        Shape::Record(_) => compound_text(alloc, types, constants, deep, shape, words),
-        Shape::Array { .. } => compound_text(alloc, types, constants, deep, shape, words),
-        Shape::Set(base) => set_text(alloc, types, constants, *base, words),
-        _ => ordinal_text(alloc, types, constants, t, first_ordinal(words)),
+        Shape::Record(_) => put_compound(out, alloc, known, deep, left, shape, words),
+        Shape::Array { .. } => put_compound(out, alloc, known, deep, left, shape, words),
+        Shape::Set(base) => put_set(out, alloc, types, constants, left, *base, words),
+        _ => put_one(out, types, constants, left, t, first_ordinal(words)),
     }
 }
 
-/// A record or an array.
+/// Puts a record or an array.
 #[cycle(values)]
-fn compound_text(
+fn put_compound(
+    out: &mut Vec<u8>,
     alloc: Global,
-    types: &TypeTable,
-    constants: &[Vec<Text>],
+    known: &Known,
     deep: u64,
+    left: usize,
     shape: &Shape,
     words: &[u16],
-) -> Result<Text, AllocError>
-    ensures exact { IfOk result (λ text. text ≡ spec.compound_by types.now (constants_of constants.now)
-        (spec.text_within types.now (constants_of constants.now) deep) (shape_of shape.now) words.now) }
+) -> Result<usize, AllocError>
+    ensures exact { OnOk result (out.new.items ≡ out.old.items ++ (spec.compound_by (types_in known.now) (constants_in known.now)
+        (spec.piece_within (types_in known.now) (constants_in known.now) deep) left (shape_of shape.now) words.now).text) }
+    ensures left { IfOk result (λ more. more ≡ (spec.compound_by (types_in known.now) (constants_in known.now)
+        (spec.piece_within (types_in known.now) (constants_in known.now) deep) left (shape_of shape.now) words.now).left) }
 {
-    let parts = shown_parts(alloc, shape)?;
-    let mut texts = part_texts(alloc, types, constants, deep, parts.as_slice(), words)?;
-    put_more(alloc, part_count(shape), &mut texts)?;
-    bracketed(alloc, b'(', texts.as_slice(), b')')
+    out.push(b'(')?;
+    let more = put_parts(out, alloc, known, deep, left, shape, words)?;
+    out.push(b')')?;
+    Ok(more)
 }
 
-/// The texts of values of these types, which stand one behind another at the front of the words.
+/// Puts the parts of a record or an array, which stand one after another at the front of the words.
 #[cycle(values)]
-fn part_texts(
+fn put_parts(
+    out: &mut Vec<u8>,
     alloc: Global,
-    types: &TypeTable,
-    constants: &[Vec<Text>],
+    known: &Known,
     deep: u64,
-    parts: &[u32],
+    left: usize,
+    shape: &Shape,
     words: &[u16],
-) -> Result<Vec<Text>, AllocError>
-    ensures exact { IfOk result (λ texts. texts.items ≡ spec.texts_by types.now (constants_of constants.now)
-        (spec.text_within types.now (constants_of constants.now) deep) parts.now words.now) }
+) -> Result<usize, AllocError>
+    ensures exact { OnOk result (out.new.items ≡ out.old.items ++ (spec.parts_by (types_in known.now) (constants_in known.now)
+        (spec.piece_within (types_in known.now) (constants_in known.now) deep) true left (part_types (shape_of shape.now)) words.now).text) }
+    ensures left { IfOk result (λ more. more ≡ (spec.parts_by (types_in known.now) (constants_in known.now)
+        (spec.piece_within (types_in known.now) (constants_in known.now) deep) true left (part_types (shape_of shape.now)) words.now).left) }
 {
-    let mut texts = Vec::new(alloc);
+    let mut first = true;
+    let mut more = left;
     let mut rest = words;
-    for t in parts {
-        let text = text_within(alloc, types, constants, deep, *t, rest)?;
-        texts.push(text)?;
-        rest = behind(rest, size_of(types, *t) as usize);
+    for index in 0..part_count(shape) {
+        let t = part_type(shape, index);
+        if more == 0 {
+            put_more(out, first)?;
+            return Ok(0);
+        }
+        put_gap(out, first)?;
+        more = put_within(out, alloc, known, deep, more, t, rest)?;
+        rest = behind(rest, size_of(&known.unit.types, t) as usize);
+        first = false;
     }
-    Ok(texts)
+    Ok(more)
 }
 
-/// The text of a value of type `t`, whose words stand at the front of these. `constants` has the names of the constants of each type.
+/// Puts the text of a value of type `t`, whose words stand at the front of these.
 ///
 /// # Errors
 ///
 /// Only for want of memory.
-pub(crate) fn value_text(
+pub(crate) fn put_value(
+    out: &mut Vec<u8>,
     alloc: Global,
-    types: &TypeTable,
-    constants: &[Vec<Text>],
+    known: &Known,
     t: u32,
     words: &[u16],
-) -> Result<Text, AllocError>
-    ensures exact { IfOk result (λ text. text ≡ spec.words_text types.now (constants_of constants.now) t words.now) }
+) -> Result<(), AllocError>
+    ensures exact { OnOk result (out.new.items ≡ out.old.items ++ spec.words_text (types_in known.now) (constants_in known.now) t words.now) }
 {
-    text_within(alloc, types, constants, u64::from(t) + 1, t, words)
+    put_within(out, alloc, known, u64::from(t) + 1, MOST_SHOWN, t, words)?;
+    Ok(())
 }

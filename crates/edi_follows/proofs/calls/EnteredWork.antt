@@ -21,11 +21,11 @@ use Rattle.edi_scheme.specs.Stands as code
 use Rattle.edi_follows.specs.values.Words.{ValuesAreLong, ZeroIsZeros}
 use Rattle.edi_follows.specs.places.Coded.{Coded, block, entry, kept}
 use Rattle.edi_follows.specs.places.Spots.{frame_start, address, cells_words}
-use Rattle.edi_follows.specs.places.Located.{frame_of, Room, Links, IsCalledFrom, Matches, Agrees}
+use Rattle.edi_follows.specs.places.Located.{frame_of, list_end, Room, Links, IsCalledFrom, Matches, Agrees}
 use Rattle.edi_follows.specs.places.Scene.{Scene, alone, base_of, Stands}
 use Rattle.edi_follows.specs.places.Steps.{work_at}
 use Rattle.edi_follows.proofs.places.Places.{start_within, roomy}
-use Rattle.edi_follows.proofs.places.Located.{Listed, procedure_listed, matches_kept, matches_acts}
+use Rattle.edi_follows.proofs.places.Located.{Listed, procedure_ends, procedure_listed, matches_kept, matches_acts}
 use Rattle.edi_follows.proofs.calls.Grown.{IsGrown, longer, new_frame, start_old, start_all, frame_old}
 use Rattle.edi_follows.proofs.calls.Comes.{IsCalled, inst, enough, word_before, word_new}
 use Rattle.edi_follows.proofs.calls.Entering as entering
@@ -154,5 +154,6 @@ module _ (g : Coded) (long : ValuesAreLong) (zeros : ZeroIsZeros) (s : Scene) (F
           links,
           from_call,
           matches_kept g lead from (F p) (K p) m new_mem left to d agrees at,
+          procedure_ends g n (no_branch B.kind c.called) bodied ∙ ap (λ (x : Frame). list_end g x.block) (sym frame_is),
         ),
       ))

@@ -33,7 +33,7 @@ use Rattle.edi_follows.specs.places.Spots.{address, block_at, Fine, Holds, Mirro
 use Rattle.edi_follows.specs.places.Located.{frame_of, IsAt, Agrees}
 use Rattle.edi_follows.specs.places.Related.{Lives, activity, IsPlaced}
 use Rattle.edi_follows.proofs.places.Places.{roomy}
-use Rattle.edi_follows.proofs.places.Located.{branch_listed, matches_acts, at_kept}
+use Rattle.edi_follows.proofs.places.Located.{branch_ends, branch_listed, matches_acts, at_kept}
 use Rattle.edi_follows.proofs.places.Free.{slot_within}
 use Rattle.edi_follows.proofs.kernel.Settled.{fine_kept}
 use Rattle.edi_follows.proofs.kernel.Moved.{SameSeg, names_with, names-with, address_moved, words_moved}
@@ -306,7 +306,7 @@ module _ (g : Coded) (p : Name) (f limit share : ℕ) (parent : Spot) (first : N
       matches_acts g false at one_frame t'.memory (block g n).body _ 0 (branch_end ∷ []) (entry g n) branch.end 0
       (branch_listed g n (ap is_branch fit.1)) branch.list bf.statements
       (omega (arith, enough))
-      (0, branch.end, refl, (branch.after, branch.exits, refl, refl, refl))
+      (0, branch.end, refl, (branch.after, branch.exits, refl, refl, refl, branch_ends g n (ap is_branch fit.1) branch))
 
   abbrev made : Activity
   made = record {

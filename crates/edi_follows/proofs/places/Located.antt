@@ -15,8 +15,8 @@ use Rattle.edi_scheme.specs.Sites.{statements, into, nth_statement, body_start, 
 use Rattle.edi_scheme.proofs.Sites.{led_behind}
 use Rattle.edi_follows.specs.places.Coded.{Coded, entry, kept}
 use Rattle.edi_follows.specs.places.Spots.{frame_start}
-use Rattle.edi_follows.specs.places.Located.{frame_of, Room, Links, Sited, IsAwaited, Matches, Agrees, MatchesKept}
-use Rattle.edi_follows.proofs.places.Long.{one_long, act_long}
+use Rattle.edi_follows.specs.places.Located.{frame_of, list_end, Room, Links, Sited, IsAwaited, Matches, Agrees, MatchesKept}
+use Rattle.edi_follows.proofs.places.Long.{one_long, act_long, acts_long}
 
 module _ (g : Coded) where
   pub agrees_less : (from : ℕ) (fs fs' : List Frame) (m m' : List ℕ) (d e : ℕ) → e ≤ d → Agrees g from fs fs' m m' d → Agrees g from fs fs' m m' e
@@ -59,10 +59,12 @@ module _ (g : Coded) where
   matches_kept lead from fs fs' m m' (procedure_end line ∷ ws) pc (suc e) a h =
       let links = links_kept from fs fs' m m' e h.3.1 a h.3.3 in
       let rest = matches_kept lead from fs fs' m m' ws h.3.1 e (agrees_less from fs fs' m m' (suc e) e (omega arith) a) h.3.5 in
-      (h.0, h.1, h.2, (h.3.0, h.3.1, h.3.2, links, h.3.4, rest))
-  matches_kept lead from fs fs' m m' (branch_end ∷ ws) pc d a h = h
+      (h.0, h.1, h.2, (h.3.0, h.3.1, h.3.2, links, h.3.4, rest, h.3.6 ∙ ap (λ x. list_end g x.block) (sym (a.framed (suc e) (omega arith)))))
+  matches_kept lead from fs fs' m m' (branch_end ∷ ws) pc d a h =
+      (h.0, h.1, h.2, (h.3.0, h.3.1, h.3.2, h.3.3, h.3.4, h.3.5 ∙ ap (λ x. list_end g x.block) (sym (a.framed d (omega arith)))))
   matches_kept lead from fs fs' m m' (program_entry ∷ ws) pc d a h = absurd h.3
-  matches_kept lead from fs fs' m m' (program_end ∷ ws) pc d a h = h
+  matches_kept lead from fs fs' m m' (program_end ∷ ws) pc d a h =
+      (h.0, h.1, h.2, (h.3.0, h.3.1, h.3.2, h.3.3, h.3.4, h.3.5 ∙ ap (λ x. list_end g x.block) (sym (a.framed d (omega arith)))))
 
   pub at_kept : MatchesKept g
   at_kept lead from fs fs' m m' ready ws pc d a h = matches_kept lead from fs fs' m m' ws pc d a h
@@ -124,6 +126,21 @@ module _ (g : Coded) where
   procedure_listed n none x =
       body_listed n x.body
       (ap (λ v. if v then entry g n else entry g n + 6) none ∙ sym (one_long g (entry g n) (entry_of g.unit.types (block_at g.unit.blocks n)) x.body x.begins))
+
+  -- and where it ends
+  pub procedure_ends : (n : ℕ) → is_branch (block_at g.unit.blocks n).kind ≡ false → (x : code.IsProcedure g.fetched g.unit.types g.unit.blocks (entry g) n) →
+      x.end ≡ list_end g n
+  procedure_ends n none x =
+      let body = (block_at g.unit.blocks n).body in
+      let begun = one_long g (entry g n) (entry_of g.unit.types (block_at g.unit.blocks n)) x.body x.begins in
+      let start : body_start g.unit.types g.unit.blocks n ≡ entry g n + 6 = ap (λ v. if v then entry g n else entry g n + 6) none in
+      omega (arith, acts_long g n body x.body x.end x.list, begun, start)
+
+  pub branch_ends : (n : ℕ) → is_branch (block_at g.unit.blocks n).kind ≡ true → (x : code.IsBranch g.fetched g.unit.types g.unit.blocks (entry g) n) →
+      x.end ≡ list_end g n
+  branch_ends n is x =
+      let start : body_start g.unit.types g.unit.blocks n ≡ entry g n = ap (λ v. if v then entry g n else entry g n + 6) is in
+      omega (arith, acts_long g n (block_at g.unit.blocks n).body (entry g n) x.end x.list, start)
 
   pub branch_listed : (n : ℕ) → is_branch (block_at g.unit.blocks n).kind ≡ true →
       Listed n (record { of = n; path = [] }) (block_at g.unit.blocks n).body (entry g n) 0

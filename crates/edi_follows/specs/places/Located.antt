@@ -10,8 +10,9 @@ use Rattle.edi_target.specs.Op.{Instruction, address_of_words}
 use Rattle.edi_target.specs.Memory.{word}
 use Rattle.edi_scheme.specs.Pieces.{released, again_code}
 use Rattle.edi_scheme.specs.Stands as code
-use Rattle.edi_scheme.specs.Sites.{site, statement}
-use Rattle.edi_follows.specs.places.Coded.{Coded, entry, kept}
+use Rattle.edi_scheme.specs.Lengths.{acts_length}
+use Rattle.edi_scheme.specs.Sites.{body_start, site, statement}
+use Rattle.edi_follows.specs.places.Coded.{Coded, block, entry, kept}
 use Rattle.edi_follows.specs.places.Spots.{frame_start}
 
 -- the frame at a depth
@@ -27,6 +28,10 @@ module _ (g : Coded) where
   -- a block's frame has room for so many words above its variables
   abbrev pub Room : Frame → ℕ → Type 0
   Room f h = kept g f.block + h ≤ f.need
+
+  -- where the list of a block ends, and the last instruction of the block stands
+  abbrev pub list_end : ℕ → ℕ
+  list_end b = body_start g.unit.types g.unit.blocks b + acts_length g.unit.types g.unit.blocks b (block g b).body
 
   -- the statement at a position, which is one of the block, stands there
   pub record Sited (b : ℕ) (position : Position) (a : Act) (at : ℕ) : Type 0 where
@@ -54,7 +59,8 @@ module _ (g : Coded) where
     by_parameter : (at level offset : ℕ) → code.InstructionStands g.fetched at (op.call_p level offset line) back → IsCalledFrom back line
 
   -- One piece of work for the frame at depth d, before the work `after`, of which `rest` says where it stands. After the end of a branch and of
-  -- the program nothing is left. `lead` says whether this is the first process, which alone comes to the program's end.
+  -- the program nothing is left. `lead` says whether this is the first process, which alone comes to the program's end. Each end stands behind the
+  -- list of the frame's block.
   abbrev pub Item : Bool → ℕ → List Frame → List ℕ → Work → ℕ → ℕ → (after : List Work) → (ℕ → ℕ → Type 0) → Type 0
   Item lead from fs m (doing a position) q d after rest =
       (to : ℕ) × code.IsAct g.fetched g.unit.types g.unit.blocks (entry g) (frame_of fs d).block a q to
@@ -69,10 +75,12 @@ module _ (g : Coded) where
   Item lead from fs m (procedure_end line) q zero after rest = ⊥
   Item lead from fs m (procedure_end line) q (suc e) after rest =
       (next back : ℕ) × code.InstructionStands g.fetched q (op.return 0 0) next × Links from fs m e back × IsCalledFrom back line × rest back e
-  Item lead from fs m branch_end q d after rest = (next : ℕ) × code.InstructionStands g.fetched q op.exit next × (d ≡ 0) × (lead ≡ false) × (after ≡ [])
+      × (q ≡ list_end (frame_of fs (suc e)).block)
+  Item lead from fs m branch_end q d after rest =
+      (next : ℕ) × code.InstructionStands g.fetched q op.exit next × (d ≡ 0) × (lead ≡ false) × (after ≡ []) × (q ≡ list_end (frame_of fs d).block)
   Item lead from fs m program_entry q d after rest = ⊥
   Item lead from fs m program_end q d after rest =
-      (next : ℕ) × code.InstructionStands g.fetched q (op.return 0 0) next × (d ≡ 0) × (lead ≡ true) × (after ≡ [])
+      (next : ℕ) × code.InstructionStands g.fetched q (op.return 0 0) next × (d ≡ 0) × (lead ≡ true) × (after ≡ []) × (q ≡ list_end (frame_of fs d).block)
 
   abbrev pub Matches : Bool → ℕ → List Frame → List ℕ → List Work → ℕ → ℕ → Type 0
   Matches lead from fs m [] pc d = ⊥

@@ -20,7 +20,8 @@ use Rattle.edi_follows.proofs.Arrived.{none_by_names}
 use Rattle.edi_timeline.specs.Stints as meant
 use Rattle.edi_timeline.specs.Stints.{Start, End, arrives, waits, tries, started, start_of, failed_as, end_of}
 use Rattle.edi_timeline.specs.Adding.{is_at}
-use Rattle.edi_timed.specs.Ran.{is_marked, place, spot_as, spot_of, is_spot, Open, end_in}
+use Rattle.edi_waits.specs.Places.{place}
+use Rattle.edi_timed.specs.Ran.{is_marked, spot_as, spot_of, is_spot, Open, end_in}
 use Rattle.edi_timed.proofs.meant.Placed.{place_is}
 
 -- ---- spots

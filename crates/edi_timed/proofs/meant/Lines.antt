@@ -8,7 +8,7 @@ use Rattle.edi_target.specs.Decode.{decode}
 use Rattle.edi_target.specs.Fetch.{fetch}
 use Rattle.edi_target.specs.Reading.{Reads, AreWords}
 use Rattle.edi_target.proofs.Reading.{decode_reads}
-use Rattle.edi_timed.specs.Ran.{line_before}
+use Rattle.edi_waits.specs.Places.{line_before}
 
 module _ (words : List ℕ) (fine : AreWords words) where
   reads_at : (at next : ℕ) (op : Instruction) → fetch words at ≡ Some (op, next) → Reads words at op next

@@ -22,7 +22,7 @@ use Rattle.edi_follows.specs.places.Related.{activity, IsPlaced, Related}
 use Rattle.edi_follows.proofs.Lined.{AreCalled, at_called}
 use Rattle.edi_follows.proofs.places.Places.{start_later, roomy}
 use Rattle.edi_timeline.specs.Stints as meant
-use Rattle.edi_timed.specs.Ran.{line_before, call_lines, place}
+use Rattle.edi_waits.specs.Places.{line_before, call_lines, place}
 use Rattle.edi_timed.proofs.meant.Lines.{line_there}
 use Rattle.edi_timed.proofs.meant.Whens.{line_is}
 

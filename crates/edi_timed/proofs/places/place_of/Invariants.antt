@@ -1,5 +1,5 @@
 use Rattle.std.proofs.Common.{◌≡◌, ◌≤◌, ◌+◌, ◌-◌, ◌^◌, ◌++◌, take, length}
-use Rattle.edi_timed.specs.Ran.{call_lines, place}
+use Rattle.edi_waits.specs.Places.{call_lines, place}
 use Rattle.edi_timed.proofs.places.place_of.Given as goal
 
 abbrev pub invariant-loop-many : goal.invariant-loop-many
