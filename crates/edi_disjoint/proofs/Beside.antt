@@ -28,7 +28,7 @@ use Rattle.edi_disjoint.specs.declared.mentions.Mention.{Mention}
 use Rattle.edi_disjoint.specs.declared.mentions.Mention.TheVariants as mention
 use Rattle.edi_disjoint.specs.Footprints.{Variable, variable_at, Mentions, Reach, called, Encloses, Touches, outside, through, Named, Sees, Writes, IsTarget, IsVar, IsVarParameter}
 use Rattle.edi_disjoint.specs.Footprints.{CallsSystem, CallsParameter, NamesProgram, seen, written}
-use Rattle.edi_disjoint.proofs.Leaves.{Way, reads, assigns, lends, ActsMay, Each}
+use Rattle.edi_disjoint.specs.Leaves.{Way, reads, assigns, lends, ActsMay, Each}
 use Rattle.edi_disjoint.proofs.Pairing.{Pairing}
 use Rattle.edi_disjoint.proofs.Cells.{block_in, root, CellFits, cell_fits}
 use Rattle.edi_disjoint.proofs.Chains.{frame_same, parent_means, FrameFits, InPlace, own_frame, reached_place}

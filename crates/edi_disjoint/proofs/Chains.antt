@@ -11,6 +11,8 @@ use Rattle.edi_meaning.specs.Laws.{Means}
 use Rattle.edi_meaning.proofs.Lasting.{Every}
 use Rattle.edi_meaning.proofs.References.{Refers, reached_means, length_is}
 use Rattle.edi_disjoint.specs.Footprints.{Reach, Encloses}
+use Rattle.edi_disjoint.specs.Open.{OpenReach}
+use Rattle.edi_disjoint.proofs.Opened.{opened_reach}
 use Rattle.edi_disjoint.proofs.Cells.{block_in, StoreFits, parent_block}
 
 -- ---- in a shape
@@ -63,6 +65,20 @@ module _ (unit : ProgramUnit) (b : ℕ) (p : Name) where
   frame_fits [] d l h = absurd (omega arith)
   frame_fits (f ∷ fs) zero l h = h.0
   frame_fits (f ∷ fs) (suc d) l h = frame_fits fs d (omega (arith, l)) h.1
+
+  -- the same of what b gets to outside critical phases
+  pub record OpenFits (f : Frame) : Type 0 where
+    pub reach : OpenReach unit b f.block
+    pub place : (f.parent.0 ≡ p) ⊎ Encloses unit.blocks (block_at unit.blocks f.block).up b
+
+  pub frames_open : (fs : List Frame) → Every OpenFits fs → Every FrameFits fs
+  frames_open [] h = tt
+  frames_open (f ∷ fs) h = (record { reach = opened_reach unit b f.block h.0.reach; place = h.0.place }, frames_open fs h.1)
+
+  pub open_fits : (fs : List Frame) (d : ℕ) → d < length fs → Every OpenFits fs → OpenFits (unwrap_or (slice_get fs d) no_frame)
+  open_fits [] d l h = absurd (omega arith)
+  open_fits (f ∷ fs) zero l h = h.0
+  open_fits (f ∷ fs) (suc d) l h = open_fits fs d (omega (arith, l)) h.1
 
   -- an instance of the process, or of a block round the branch
   abbrev pub InPlace : Shape → Spot → Type 0

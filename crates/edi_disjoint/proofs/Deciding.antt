@@ -1,6 +1,6 @@
 -- What the code answers of two footprints decides whether the branches are disjoint.
-use Rattle.std.proofs.Common.{◌≡◌, ℕ, zero, suc, ◌<◌, ◌⊎◌, inl, inr, Bool, true, false, not, ◌&&◌, ◌||◌, ◌==◌, List, [], ◌∷◌, map, length, Option, Some, None, refl, sym, subst, ap, ◌∙◌, arith}
-use Rattle.std.specs.Prelude.{Contains, slice_get, slice_index_or}
+use Rattle.std.proofs.Common.{◌≡◌, ℕ, ◌⊎◌, inl, inr, Bool, true, false, not, ◌&&◌, ◌||◌, ◌==◌, List, [], ◌∷◌, map, Option, Some, None, refl, sym, subst, ap, ◌∙◌}
+use Rattle.std.specs.Prelude.{Contains, slice_get}
 use Rattle.std.specs.Bool.{Decides}
 use Rattle.std.proofs.lemmas.Bool.{eqb-true, eq-eqb}
 use Rattle.edi_unit.specs.Fits.{Fits}
@@ -13,6 +13,7 @@ use Rattle.edi_disjoint.specs.Exchange.{Exchanges}
 use Rattle.edi_disjoint.specs.Found.{variable_of, IsFootprint, IsFootprintAt, AreFootprints}
 use Rattle.edi_disjoint.specs.Footprints.{IsBranch}
 use Rattle.edi_disjoint.specs.Apart.{is_same, has_variable, do_meet, apart, both_apart, answer_of}
+use Rattle.edi_disjoint.proofs.Contained.{contains_either, contains_first, contains_later, contains_none}
 use Rattle.edi_disjoint.proofs.Theorem.{disjoint_exchange}
 
 -- ---- truth values
@@ -42,25 +43,6 @@ not_true false e f = absurd (cc)
 pub true_not : (a : Bool) → (a ≡ true → ⊥) → not a ≡ true
 true_not true h = absurd (h refl)
 true_not false h = refl
-
--- ---- lists
-
-module _ {A : Type 0} where
-  pub contains_first : (x : A) (xs : List A) → Contains (x ∷ xs) x
-  contains_first x xs = (0, omega arith, refl)
-
-  pub contains_later : (x y : A) (xs : List A) → Contains xs y → Contains (x ∷ xs) y
-  contains_later x y xs h = (suc h.0, omega (arith, h.1), h.2)
-
-  pub contains_either : (x y : A) (xs : List A) → Contains (x ∷ xs) y → (x ≡ y) ⊎ Contains xs y
-  contains_either x y xs h = go h.0 h.1 h.2
-    where
-      go : (k : ℕ) → k < length (x ∷ xs) → slice_index_or (x ∷ xs) k y ≡ y → (x ≡ y) ⊎ Contains xs y
-      go zero l e = inl e
-      go (suc k) l e = inr (k, omega (arith, l), e)
-
-  pub contains_none : (y : A) → Contains [] y → ⊥
-  contains_none y h = omega (arith, h.1)
 
 -- ---- variables
 

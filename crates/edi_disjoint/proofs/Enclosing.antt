@@ -14,7 +14,8 @@ use Rattle.edi_disjoint.specs.Mentions.{in_acts}
 use Rattle.edi_disjoint.specs.Footprints.{Encloses, NamesProgram, calls, passes}
 use Rattle.edi_disjoint.specs.Found.{AreTexts}
 use Rattle.edi_disjoint.specs.Apart.{encloses_by, is_block, is_naming, names_in, any_names}
-use Rattle.edi_disjoint.proofs.Deciding.{or_true, and_true, both_true, left_true, right_true, contains_first, contains_later, contains_either, contains_none}
+use Rattle.edi_disjoint.proofs.Contained.{contains_either, contains_first, contains_later, contains_none}
+use Rattle.edi_disjoint.proofs.Deciding.{or_true, and_true, both_true, left_true, right_true}
 
 -- ---- blocks round a block
 

@@ -21,7 +21,7 @@ use Rattle.edi_meaning.proofs.Own.{instances-same, instances-other}
 use Rattle.edi_meaning.proofs.Frames.{frames-take, HasShape, own_shape, shape-grown, shape-put}
 use Rattle.edi_meaning.proofs.References.{Refers}
 use Rattle.edi_disjoint.specs.Footprints.{IsTarget}
-use Rattle.edi_disjoint.proofs.Leaves.{Each}
+use Rattle.edi_disjoint.specs.Leaves.{Each}
 use Rattle.edi_disjoint.proofs.Cells.{root, Stands, CellFits, CellsFit, InstanceFits, InstancesFit, StoreFits, cells_moved, fits-append, fits-take, fits-with_cell, fits-moved}
 
 -- ---- frames of a list with one more

@@ -14,31 +14,32 @@ use Rattle.edi_disjoint.specs.Found.{Lists, AreTexts, IsReach, IsFootprint}
 use Rattle.edi_disjoint.specs.Footprints.{IsBranch}
 use Rattle.edi_disjoint.specs.Apart.{View, view_of, nothing_in, blocks_in, targets_in, target_in, text_at}
 use Rattle.edi_disjoint.specs.Apart.{with_view, is_branch_kind}
-use Rattle.edi_disjoint.proofs.Deciding.{contains_first, contains_later, contains_either, contains_none}
+use Rattle.edi_disjoint.proofs.Contained.{contains_either, contains_first, contains_later, contains_none}
+use Rattle.edi_disjoint.proofs.Enclosing.{GoInwards, go_inwards}
 use Rattle.edi_disjoint.proofs.Reaching.{text_is}
 use Rattle.edi_disjoint.proofs.Variables.{lists_as, lists_if, decides_as}
 use Rattle.edi_disjoint.proofs.Mentioned.{Outside, VarFound, Called, Holds, holds_as, nothing_holds, blocks_hold}
 
-module _ (unit : ProgramUnit) (ok : Fits unit) (b : ℕ) (low : b < length unit.blocks) where
-  abbrev All : ℕ → Mention → Type 0
+module _ (unit : ProgramUnit) (inwards : GoInwards unit.blocks) (b : ℕ) (low : b < length unit.blocks) where
+  abbrev pub All : ℕ → Mention → Type 0
   All k l = Reach unit b k × Mentions unit k l
 
-  all_hold : (texts : List (Vec Mention)) → AreTexts unit texts → (ns : List ℕ) → IsReach unit b ns → Holds unit b All (blocks_in unit.blocks unit.program b texts ns nothing_in)
+  pub all_hold : (texts : List (Vec Mention)) → AreTexts unit texts → (ns : List ℕ) → IsReach unit b ns → Holds unit b All (blocks_in unit.blocks unit.program b texts ns nothing_in)
   all_hold texts t ns r =
       holds_as unit b (λ k l. ⊥ ⊎ (Contains ns k × Contains (text_at texts k) l)) All _
       (λ k l v. elim v [ inl x ↦ absurd x | inr e ↦ (r.0 k e.0, subst (λ ms. Contains ms l) (text_is unit texts t k) e.1) ])
       (λ k l v. inr (r.1 k v.0, subst (λ ms. Contains ms l) (sym (text_is unit texts t k)) v.1))
-      (blocks_hold unit b ok low texts (λ n m. ⊥) ns nothing_in (nothing_holds unit b))
+      (blocks_hold unit b inwards low texts (λ n m. ⊥) ns nothing_in (nothing_holds unit b))
 
-  record Ends (T : Variable → Type 0) (view : View) : Type 0 where
-    seen_all : Lists view.seen (λ x. Outside unit b seen All x ⊎ (VarFound unit b seen All × T x))
-    written_all : Lists view.written (λ x. Outside unit b written All x ⊎ (VarFound unit b written All × T x))
-    sees : Decides view.sees_var (VarFound unit b seen All)
-    writes : Decides view.writes_var (VarFound unit b written All)
-    system : Decides view.system (Called unit b All (λ n. n ≡ unit.program))
-    parameter : Decides view.parameter (Called unit b All (λ n. n ≡ unit.program → ⊥))
+  pub record Ends (T : Variable → Type 0) (view : View) : Type 0 where
+    pub seen_all : Lists view.seen (λ x. Outside unit b seen All x ⊎ (VarFound unit b seen All × T x))
+    pub written_all : Lists view.written (λ x. Outside unit b written All x ⊎ (VarFound unit b written All × T x))
+    pub sees : Decides view.sees_var (VarFound unit b seen All)
+    pub writes : Decides view.writes_var (VarFound unit b written All)
+    pub system : Decides view.system (Called unit b All (λ n. n ≡ unit.program))
+    pub parameter : Decides view.parameter (Called unit b All (λ n. n ≡ unit.program → ⊥))
 
-  begin_ends : (view : View) → Holds unit b All view → Ends (λ x. ⊥) view
+  pub begin_ends : (view : View) → Holds unit b All view → Ends (λ x. ⊥) view
   begin_ends view h = record {
     seen_all = lists_as view.seen (λ x k. inl k) (λ x k. elim k [ inl o ↦ o | inr e ↦ absurd e.1 ]) h.seen_all;
     written_all = lists_as view.written (λ x k. inl k) (λ x k. elim k [ inl o ↦ o | inr e ↦ absurd e.1 ]) h.written_all;
@@ -82,7 +83,7 @@ module _ (unit : ProgramUnit) (ok : Fits unit) (b : ℕ) (low : b < length unit.
     parameter = h.parameter;
   }
 
-  targets_end : (T : Variable → Type 0) (vs : List Variable) (view : View) → Ends T view → Ends (λ x. T x ⊎ Contains vs x) (targets_in vs view)
+  pub targets_end : (T : Variable → Type 0) (vs : List Variable) (view : View) → Ends T view → Ends (λ x. T x ⊎ Contains vs x) (targets_in vs view)
   targets_end T [] view h = ends_as T _ view (λ x k. inl k) (λ x k. elim k [ inl o ↦ o | inr e ↦ absurd (contains_none x e) ]) h
   targets_end T (v ∷ vs) view h =
       ends_as (λ x. (T x ⊎ (v ≡ x)) ⊎ Contains vs x) (λ x. T x ⊎ Contains (v ∷ vs) x) (targets_in vs (target_in v view))
@@ -133,7 +134,7 @@ module _ (unit : ProgramUnit) (ok : Fits unit) (b : ℕ) (low : b < length unit.
 pub footing : (unit : ProgramUnit) → Fits unit → (texts : List (Vec Mention)) → AreTexts unit texts → (b : ℕ) → IsBranch unit b → (blocks : List ℕ) → IsReach unit b blocks →
     (targets : List Variable) → Lists targets (IsTarget unit) → (found : Footprint) →
     view_of found ≡ targets_in targets (blocks_in unit.blocks unit.program b texts blocks nothing_in) → IsFootprint unit b found
-footing unit ok texts t b is blocks r targets l found e = footprint_is unit ok b is.0 texts t blocks r targets l found e
+footing unit ok texts t b is blocks r targets l found e = footprint_is unit (go_inwards unit ok) b is.0 texts t blocks r targets l found e
 
 -- a block of another kind is no branch
 pub no_branch : (unit : ProgramUnit) (n : ℕ) (block : Block) → is_branch_kind block.kind ≡ false → block ≡ block_at unit.blocks n → IsBranch unit n → ⊥

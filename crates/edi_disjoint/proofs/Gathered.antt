@@ -1,5 +1,8 @@
 -- The footprints of the branches, kept in the order of the blocks.
-use Rattle.std.proofs.Common.{◌≡◌, ℕ, zero, suc, ◌<◌, ◌⊎◌, inl, inr, List, [], ◌∷◌, ◌++◌, length, Some, refl, sym, subst, ap, ◌∙◌, arith}
+use Rattle.std.proofs.Common.{◌≡◌, ℕ, zero, suc, ◌<◌, ◌⊎◌, inl, inr, List, [], ◌∷◌, ◌++◌, map, length, Some, refl, sym, subst, ap, ◌∙◌, arith, get_or}
+use Rattle.edi_unit.specs.declared.units.Block as code_block
+use Rattle.edi_unit.specs.Need.{block_at}
+use Rattle.edi_unit.specs.View.{block_of}
 use Rattle.std.specs.Prelude.{slice_get}
 use Rattle.edi_unit.specs.Tree.{ProgramUnit}
 use Rattle.edi_disjoint.specs.declared.touching.Footprint.{Footprint}
@@ -36,3 +39,9 @@ one_more unit n xs x count all new b h is = go (before_or_at b n h)
     go (inl l) = subst (IsFootprintAt unit b) (sym (appended_before xs x b (omega (arith, l, count)))) (all b l is)
     go (inr e) = subst (λ k. IsFootprintAt unit k (slice_get (xs ++ x ∷ []) k)) (sym e)
         (subst (IsFootprintAt unit n) (sym (ap (slice_get (xs ++ x ∷ [])) (sym count) ∙ appended_last xs x)) (new (subst (IsBranch unit) e is)))
+
+-- a block of the code as the one of the unit with its number
+pub read_block : (bs : List code_block.Block) (i : ℕ) (b : code_block.Block) → i < length bs → b ≡ get_or bs i b → block_of b ≡ block_at (map block_of bs) i
+read_block [] i b h e = absurd (none i h)
+read_block (x ∷ bs) zero b h e = ap block_of e
+read_block (x ∷ bs) (suc i) b h e = read_block bs i b (omega (arith, h)) e

@@ -22,7 +22,7 @@ use Rattle.edi_meaning.proofs.References.{Refers, means_all, cell_means}
 use Rattle.edi_meaning.proofs.Living.{Setting, setting_inside, entered_refers, refers_put, shrunk_refers}
 use Rattle.edi_disjoint.specs.declared.mentions.Mention.TheVariants as mention
 use Rattle.edi_disjoint.specs.Footprints.{Mentions, IsTarget, NamesProgram, calls, passes}
-use Rattle.edi_disjoint.proofs.Leaves.{Each}
+use Rattle.edi_disjoint.specs.Leaves.{Each}
 use Rattle.edi_disjoint.proofs.Cells.{block_in, Stands, CellFits, StoreFits, cell_fits}
 use Rattle.edi_disjoint.proofs.Chains.{now_same, reached_same, leads_to, reached_block}
 use Rattle.edi_disjoint.proofs.Texts.{text_of}

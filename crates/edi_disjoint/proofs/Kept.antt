@@ -1,5 +1,5 @@
 -- The first law is kept by every step, and so it holds along permitted steps.
-use Rattle.std.proofs.Common.{◌≡◌, ℕ, zero, suc, ◌<◌, ◌≤◌, ◌⊎◌, inl, inr, true, false, List, [], ◌∷◌, map, length, Option, Some, None, refl, sym}
+use Rattle.std.proofs.Common.{◌≡◌, ℕ, zero, suc, ◌+◌, ◌<◌, ◌≤◌, ◌⊎◌, inl, inr, true, false, List, [], ◌∷◌, map, length, Option, Some, None, refl, sym}
 use Rattle.std.proofs.Common.{subst, ap, ◌∙◌, arith}
 use Rattle.std.specs.Prelude.{⊤, slice_get, unwrap_or}
 use Rattle.std.proofs.lemmas.Bool.{cases_lt}
@@ -17,7 +17,7 @@ use Rattle.edi_unit.specs.Tree.{ProgramUnit}
 use Rattle.edi_meaning.specs.Store.{Spot, Instance, no_frame, Store, Shape, instances, frames, shape, frame_at, now, IsLive, procedure, system_procedure}
 use Rattle.edi_meaning.specs.Evaluation.{World, Evaluation, gives, ends, turn_from}
 use Rattle.edi_meaning.specs.Whole.{instance_of}
-use Rattle.edi_meaning.specs.Step.{Standing, ready, at_when, waiting, Work, program_entry, body_of, Asks, goes, arrives, again, forks, leaves, Process}
+use Rattle.edi_meaning.specs.Step.{Standing, ready, at_when, waiting, Work, doing, loop_end, procedure_end, branch_end, program_entry, program_end, body_of, Asks, goes, arrives, again, forks, leaves, Process}
 use Rattle.edi_meaning.specs.Step.{Processes, Stepped, went, ended, local_step, kernel, step_of, step, start}
 use Rattle.edi_meaning.specs.Permitted.{is_running, at, permitted}
 use Rattle.edi_meaning.specs.Laws.{IsWaiting}
@@ -31,20 +31,25 @@ use Rattle.edi_meaning.proofs.References.{Refers}
 use Rattle.edi_meaning.proofs.Living.{Setting, local_refers, begun_refers}
 use Rattle.edi_meaning.proofs.Due.{DueAs, DueAsks, due_some, local_due}
 use Rattle.edi_meaning.proofs.Dangling.{Coherent, owner_waits, alone_now, step_coherent, start_coherent}
-use Rattle.edi_disjoint.specs.Footprints.{CallsParameter, NamesProgram}
+use Rattle.edi_disjoint.specs.Footprints.{Variable, CallsParameter, NamesProgram, IsBranch}
+use Rattle.edi_disjoint.specs.Open.{UsesOpenly}
 use Rattle.edi_disjoint.proofs.Pairing.{Pair}
 use Rattle.edi_disjoint.proofs.Locally.{StandingMay}
 use Rattle.edi_disjoint.proofs.Cells.{block_in, InstanceFits, InstancesFit, StoreFits, fits-moved}
-use Rattle.edi_disjoint.proofs.Chains.{FrameFits}
-use Rattle.edi_disjoint.proofs.Texts.{text_of}
+use Rattle.edi_disjoint.proofs.Chains.{FrameFits, OpenFits}
+use Rattle.edi_disjoint.proofs.Texts.{text_of, open_text}
 use Rattle.edi_disjoint.proofs.Beside.{Knows}
 use Rattle.edi_disjoint.proofs.SecondLaw.{Second, second_law}
 use Rattle.edi_disjoint.proofs.Inside.{Known}
 use Rattle.edi_disjoint.proofs.Knowing.{Still, local_fits}
 use Rattle.edi_disjoint.proofs.Effects.{Results, results}
 use Rattle.edi_disjoint.proofs.Exchanged.{agree_self}
-use Rattle.edi_disjoint.proofs.Working.{blocks_of, top_is, WorkAs, WorkAsks, may_of, local_work}
-use Rattle.edi_disjoint.proofs.FirstLaw.{first_block, FirstFits, Stood, Did, Plain, plain_fit, goes_on, has_ended, has_forked}
+use Rattle.edi_disjoint.proofs.Working.{blocks_of, top, top_is, WorkAs, WorkAsks, may_of, local_work, attempt_frames}
+use Rattle.edi_disjoint.proofs.steps.Following.{Follows}
+use Rattle.edi_disjoint.proofs.steps.Stepping as stepping
+use Rattle.edi_disjoint.proofs.steps.Owning.{Owning, Owned, local_owned}
+use Rattle.edi_disjoint.proofs.steps.Stores.{SameOwn}
+use Rattle.edi_disjoint.proofs.FirstLaw.{first_block, FirstFits, nothing_fits, Stood, Did, Plain, plain_fit, goes_on, has_ended, has_forked}
 
 both_after : (K L J : Processes → Type 0) (x : Stepped) → After K x → After L x → ((t : Processes) → K t → L t → J t) → After J x
 both_after K L J (went t next quiet) k l h = h t k l
@@ -85,7 +90,7 @@ module _ (unit : ProgramUnit) (ok : Fits unit) (unnamed : NamesProgram unit → 
     pub knows : (b : ℕ) (quiet : CallsParameter unit b → ⊥) → 0 < length (F p) → first_block (F p) ≡ b → (p ≡ [] → ⊥) → Knows unit ok unnamed b quiet p q.size F s.world
     knows b quiet l e some = record {
       known = known l;
-      frames = subst (λ n. (CallsParameter unit n → ⊥) → Every (FrameFits unit n p) (F p)) e (stood.branches p some) quiet;
+      frames = subst (λ n. (CallsParameter unit n → ⊥) → Every (FrameFits unit n p) (F p)) e (stood.branches p some).closed quiet;
     }
 
     abbrev r : Evaluation Asks
@@ -107,23 +112,77 @@ module _ (unit : ProgramUnit) (ok : Fits unit) (unnamed : NamesProgram unit → 
     still_fits (ends e system turns) h = tt
 
     -- with its oldest instance a process of a branch stays one
-    branch_first : (w : World) → (0 < length (shape w.store p) → frame_at (shape w.store) (p, 0) ≡ frame_at F (p, 0)) →
-        ((CallsParameter unit (first_block (F p)) → ⊥) → Every (FrameFits unit (first_block (F p)) p) (shape w.store p)) → FirstFits unit ok p (shape w.store p)
-    branch_first w oldest h quiet = go (cases_lt 0 (length (shape w.store p)))
+    branch_first : (p ≡ [] → ⊥) → 0 < length (F p) → (w : World) → (0 < length (shape w.store p) → frame_at (shape w.store) (p, 0) ≡ frame_at F (p, 0)) →
+        ((CallsParameter unit (first_block (F p)) → ⊥) → Every (FrameFits unit (first_block (F p)) p) (shape w.store p)) →
+        (((v : Variable) → UsesOpenly unit (first_block (F p)) v → ⊥) → Every (OpenFits unit (first_block (F p)) p) (shape w.store p)) → FirstFits unit ok p (shape w.store p)
+    branch_first some here w oldest h k = go (cases_lt 0 (length (shape w.store p)))
       where
-        go : (0 < length (shape w.store p)) ⊎ (length (shape w.store p) ≤ 0) → Every (FrameFits unit (first_block (shape w.store p)) p) (shape w.store p)
+        go : (0 < length (shape w.store p)) ⊎ (length (shape w.store p) ≤ 0) → FirstFits unit ok p (shape w.store p)
         go (inl l) =
             let e : first_block (shape w.store p) ≡ first_block (F p) = ap (λ f. f.block) (oldest l) in
-            subst (λ n. Every (FrameFits unit n p) (shape w.store p)) (sym e) (h (subst (λ n. CallsParameter unit n → ⊥) e quiet))
-        go (inr l) =
-            let none : shape w.store p ≡ [] = nil_from_length (shape w.store p) (omega (arith, l)) in
-            subst (λ fs. Every (FrameFits unit (first_block (shape w.store p)) p) fs) (sym none) tt
+            record {
+              closed = λ quiet. subst (λ n. Every (FrameFits unit n p) (shape w.store p)) (sym e) (h (subst (λ n. CallsParameter unit n → ⊥) e quiet));
+              apart = λ none. subst (λ n. Every (OpenFits unit n p) (shape w.store p)) (sym e) (k (subst (λ n. (v : Variable) → UsesOpenly unit n v → ⊥) e none));
+              branch = λ l. subst (IsBranch unit) (sym e) ((stood.branches p some).branch here);
+            }
+        go (inr l) = subst (FirstFits unit ok p) (sym (nil_from_length (shape w.store p) (omega (arith, l)))) (nothing_fits unit ok p)
 
-    branch_stays : (r : Evaluation Asks) → Pair (λ a v z. Still unit ok unnamed p q.size F v) r r →
+    branch_stays : (p ≡ [] → ⊥) → 0 < length (F p) → (r : Evaluation Asks) → Pair (λ a v z. Still unit ok unnamed p q.size F v) r r →
         ((quiet : CallsParameter unit (first_block (F p)) → ⊥) →
-        Pair (λ a v z. Second unit ok unnamed (first_block (F p)) quiet p q.size s.world s.world F v z) r r) → Gives (λ a v. FirstFits unit ok p (shape v.store p)) Nothing r
-    branch_stays (gives a w) h k = branch_first w h.1.oldest (λ quiet. (k quiet).1.frames)
-    branch_stays (ends e system turns) h k = tt
+        Pair (λ a v z. Second unit ok unnamed (first_block (F p)) quiet p q.size s.world s.world F v z) r r) →
+        (((v : Variable) → UsesOpenly unit (first_block (F p)) v → ⊥) → Gives (λ a v. Every (OpenFits unit (first_block (F p)) p) (shape v.store p)) Nothing r) →
+        Gives (λ a v. FirstFits unit ok p (shape v.store p)) Nothing r
+    branch_stays some here (gives a w) h k m = branch_first some here w h.1.oldest (λ quiet. (k quiet).1.frames) m
+    branch_stays some here (ends e system turns) h k m = tt
+
+    -- ---- outside critical phases
+
+    pub open_now : 0 < length (F p) → q.standing ≡ ready → stepping.StandingMay ⊥ (open_text unit ok (block_in F (now F p))) ready q.work
+    open_now l e =
+        subst (λ n. stepping.StandingMay ⊥ (open_text unit ok n) ready q.work) (top_is F p)
+        (may_open (blocks_of (F p)) q.work (subst (λ x. DueAs p x q.work (length (F p))) e due) (subst (λ x. WorkAs unit ok (blocks_of (F p)) x q.work) e (stood.work p q found)))
+      where
+        may_open : (ns : List ℕ) (work : List Work) → DueAs p ready work (length (F p)) → WorkAs unit ok ns ready work → stepping.StandingMay ⊥ (open_text unit ok (top ns)) ready work
+        may_open ns [] h k = tt
+        may_open ns (doing a position ∷ work) h k = k.0.1
+        may_open ns (loop_end cs position ∷ work) h k = tt
+        may_open ns (procedure_end line ∷ work) h k = tt
+        may_open ns (branch_end ∷ work) h k = tt
+        may_open ns (program_entry ∷ work) h k = absurd (omega (arith, l, h.1))
+        may_open ns (program_end ∷ work) h k = tt
+
+    module _ (some : p ≡ [] → ⊥) (l : 0 < length (F p)) (none : (v : Variable) → UsesOpenly unit (first_block (F p)) v → ⊥) where
+      -- two worlds in which p finds the same, the first that of the state
+      pub owns_now : (more : ℕ) (u : World) → SameOwn p u.store s.world.store u.store → u.turns ≡ s.world.turns + more →
+          Owning unit ok unnamed (first_block (F p)) none p q.size more s.world u F s.world u
+      owns_now more u same turns = record {
+        known = known l;
+        frames = (stood.branches p some).apart none;
+        store = same;
+        system = refl;
+        turns = turns;
+        few = omega arith;
+      }
+
+      abbrev Fitting : Evaluation Asks → Type 0
+      Fitting x = Gives (λ a v. Every (OpenFits unit (first_block (F p)) p) (shape v.store p)) Nothing x
+
+      followed : (x : Evaluation Asks) → Follows (λ z. s.world.system) 0 (λ a w u. Owned unit ok unnamed (first_block (F p)) none p q.size 0 s.world s.world w u) x x → Fitting x
+      followed (gives a w) h = h.1.frames
+      followed (ends e system turns) h = tt
+
+      attempted : (x : Evaluation Asks) → Keeps (framing unit p q.size) (λ a v. shape v.store p ≡ F p) x → Fitting x
+      attempted (gives a w) h = subst (Every (OpenFits unit (first_block (F p)) p)) (sym h.is) ((stood.branches p some).apart none)
+      attempted (ends e system turns) h = tt
+
+      open_frames : (standing : Standing) → q.standing ≡ standing → Fitting (local_step unit p q.size standing q.work s.world)
+      open_frames ready e =
+          followed (local_step unit p q.size ready q.work s.world)
+          (local_owned unit ok unnamed (first_block (F p)) none p q.size 0 s.world s.world F ready q.work s.world s.world (open_now l e)
+          (owns_now 0 s.world (record { own = refl; alike = λ r o. refl; others = λ r n. refl }) (omega arith))).is
+      open_frames (at_when cs position) e =
+          attempted (local_step unit p q.size (at_when cs position) q.work s.world) (attempt_frames unit ok p q.size cs position q.work s.world)
+      open_frames (waiting n) e = tt
 
     living : 0 < length (F p) → Gives (Did unit ok s p) Nothing r
     living l =
@@ -131,8 +190,9 @@ module _ (unit : ProgramUnit) (ok : Fits unit) (unnamed : NamesProgram unit → 
         collect r (local_refers unit p q.size q.standing q.work s.world (setting l) coherent.refers).is (still_fits r still)
         (local_work unit ok p q.size q.standing q.work s.world (stood.work p q found)) (local_due unit p q.size q.standing q.work s.world due)
         (local_steps unit p q.size q.standing q.work s.world)
-        (λ some. branch_stays r still (λ quiet. (second_law unit ok unnamed (first_block (F p)) quiet p q.size s.world s.world F q.standing q.work (may_now l)
-        (knows (first_block (F p)) quiet l refl some) (agree_self unit (first_block (F p)) p s.world)).is))
+        (λ some. branch_stays some l r still (λ quiet. (second_law unit ok unnamed (first_block (F p)) quiet p q.size s.world s.world F q.standing q.work (may_now l)
+        (knows (first_block (F p)) quiet l refl some) (agree_self unit (first_block (F p)) p s.world)).is)
+        (λ none. open_frames some l none q.standing refl))
 
     -- ---- the program's entry
 
@@ -260,7 +320,7 @@ module _ (unit : ProgramUnit) (ok : Fits unit) (unnamed : NamesProgram unit → 
   start_lawful : (system : State) (bound : ℕ) → Lawful (start unit system bound)
   start_lawful system bound = record {
     coherent = start_coherent unit system bound;
-    stood = record { store = record { shape = own_shape []; each = λ r. tt }; work = work; branches = λ r some quiet. tt };
+    stood = record { store = record { shape = own_shape []; each = λ r. tt }; work = work; branches = λ r some. nothing_fits unit ok r };
   }
     where
       work : (r : Name) (q : Process) → find (start unit system bound).live r ≡ Some q → WorkAs unit ok [] q.standing q.work

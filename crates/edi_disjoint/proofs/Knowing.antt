@@ -23,12 +23,13 @@ use Rattle.edi_meaning.proofs.Frames.{own_shape}
 use Rattle.edi_meaning.proofs.References.{Refers, means_all, cell_means}
 use Rattle.edi_meaning.proofs.Living.{refers_here, shrunk_refers}
 use Rattle.edi_disjoint.specs.Footprints.{Mentions, IsTarget, NamesProgram}
-use Rattle.edi_disjoint.proofs.Leaves.{Way, reads, assigns, lends, ActsMay, Each}
+use Rattle.edi_disjoint.specs.Open.{open_acts}
+use Rattle.edi_disjoint.specs.Leaves.{Way, reads, assigns, lends, ActsMay, Each}
 use Rattle.edi_disjoint.proofs.Pairing.{Pairing, Pairs}
 use Rattle.edi_disjoint.proofs.Locally.{Moving, StandingMay, local_pairs}
 use Rattle.edi_disjoint.proofs.Cells.{block_in, root, CellFits, StoreFits, cell_fits}
 use Rattle.edi_disjoint.proofs.Chains.{frame_same}
-use Rattle.edi_disjoint.proofs.Texts.{mention_of, text_of, body_may}
+use Rattle.edi_disjoint.proofs.Texts.{mention_of, text_of, open_text, body_may, open_body_may}
 use Rattle.edi_disjoint.proofs.Written.{block_past}
 use Rattle.edi_disjoint.proofs.Entered.{Handed, shape_fits, shrunk_fits, grown_frames, shrunk_frames}
 use Rattle.edi_disjoint.proofs.Inside.{Known, Entry, reached_from, spot_means, spot_block, lent_here, block_entry, pass_handed, put_known, block_inside}
@@ -41,6 +42,13 @@ any_body unit ok n = go (cases_lt n (length unit.blocks))
     go : (n < length unit.blocks) ⊎ (length unit.blocks ≤ n) → ActsMay (text_of unit ok n) (block_at unit.blocks n).body
     go (inl l) = body_may unit ok n l
     go (inr l) = subst (λ b. ActsMay (text_of unit ok n) b.body) (sym (block_past unit.blocks n l)) tt
+
+pub any_open_body : (unit : ProgramUnit) (ok : Fits unit) (n : ℕ) → ActsMay (open_text unit ok n) (open_acts (block_at unit.blocks n).body)
+any_open_body unit ok n = go (cases_lt n (length unit.blocks))
+  where
+    go : (n < length unit.blocks) ⊎ (length unit.blocks ≤ n) → ActsMay (open_text unit ok n) (open_acts (block_at unit.blocks n).body)
+    go (inl l) = open_body_may unit ok n l
+    go (inr l) = subst (λ b. ActsMay (open_text unit ok n) (open_acts b.body)) (sym (block_past unit.blocks n l)) tt
 
 abbrev with_turns : World → ℕ → World
 with_turns w n = record w { turns = n }

@@ -11,7 +11,7 @@ use Rattle.edi_disjoint.specs.Footprints.{Variable, variable_at, IsTarget}
 use Rattle.edi_disjoint.specs.Found.{Lists, AreTexts}
 use Rattle.edi_disjoint.specs.Apart.{text_at}
 use Rattle.edi_disjoint.specs.Apart.{with_view, with_lent, with_all_lent, next_block, all_lent}
-use Rattle.edi_disjoint.proofs.Deciding.{contains_first, contains_later, contains_either, contains_none}
+use Rattle.edi_disjoint.proofs.Contained.{contains_either, contains_first, contains_later, contains_none}
 use Rattle.edi_disjoint.proofs.Reaching.{text_is}
 use Rattle.edi_disjoint.proofs.Variables.{lists_with, lists_as}
 

@@ -1,4 +1,5 @@
-pub mod Leaves
+pub mod Contained
+pub mod Opened
 pub mod Pairing
 pub mod Locally
 pub mod Cells
@@ -31,6 +32,8 @@ pub mod Variables
 pub mod Mentioned
 pub mod Footing
 pub mod Lent
+pub mod Placing
+pub mod Using
 pub mod Gathered
 pub mod Ordered
 pub mod One

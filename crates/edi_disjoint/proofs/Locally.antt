@@ -13,7 +13,7 @@ use Rattle.edi_meaning.specs.Whole.{meant, instance_of}
 use Rattle.edi_meaning.specs.Step.{Position, Work, doing, loop_end, procedure_end, branch_end, program_entry, program_end, Standing, ready, at_when, waiting}
 use Rattle.edi_meaning.specs.Step.{Asks, goes, body_of, chosen, called, statement_step, work_step, attempt, local_step}
 use Rattle.edi_meaning.proofs.Lasting.{Any}
-use Rattle.edi_disjoint.proofs.Leaves.{Leaves, ActMay, ClausesMay, Each}
+use Rattle.edi_disjoint.specs.Leaves.{Leaves, ActMay, ClausesMay, Each}
 use Rattle.edi_disjoint.proofs.Pairing.{Pairing, Pairs, At, give, stop_left, bind, turn_pairs, if_pairs, system_pairs}
 use Rattle.edi_disjoint.proofs.Pairing.{whole_arguments_pair, whole_assignment_pairs, whole_condition_pairs, whole_first_pairs}
 

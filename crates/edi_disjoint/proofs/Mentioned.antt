@@ -7,7 +7,6 @@ use Rattle.std.specs.Global.{Vec}
 use Rattle.std.proofs.lemmas.Bool.{eqb-true, eq-eqb}
 use Rattle.edi_unit.specs.declared.expressions.Callee.TheVariants as callee
 use Rattle.edi_unit.specs.Need.{outer, slot_at}
-use Rattle.edi_unit.specs.Fits.{Fits}
 use Rattle.edi_unit.specs.Tree.{Block, ProgramUnit}
 use Rattle.edi_disjoint.specs.declared.mentions.Mention.{Mention}
 use Rattle.edi_disjoint.specs.declared.mentions.Mention.TheVariants as mention
@@ -15,8 +14,8 @@ use Rattle.edi_disjoint.specs.Footprints.{Variable, variable_at, Encloses, IsVar
 use Rattle.edi_disjoint.specs.Found.{Lists}
 use Rattle.edi_disjoint.specs.Apart.{View, nothing_in, blocks_in, take_all_in, take_in, see_in, call_in, text_at}
 use Rattle.edi_disjoint.specs.Apart.{with_view, is_var_slot, encloses_by}
-use Rattle.edi_disjoint.proofs.Deciding.{contains_first, contains_later, contains_either, contains_none}
-use Rattle.edi_disjoint.proofs.Enclosing.{go_inwards, encloses_decides}
+use Rattle.edi_disjoint.proofs.Contained.{contains_either, contains_first, contains_later, contains_none}
+use Rattle.edi_disjoint.proofs.Enclosing.{GoInwards, encloses_decides}
 use Rattle.edi_disjoint.proofs.Variables.{lists_as, lists_if, decides_or, decides_and, decides_as, var_decides}
 
 module _ (unit : ProgramUnit) (b : ℕ) where
@@ -86,7 +85,7 @@ module _ (unit : ProgramUnit) (b : ℕ) where
 
   -- ---- one mention more
 
-  module _ (ok : Fits unit) (low : b < length unit.blocks) where
+  module _ (inwards : GoInwards unit.blocks) (low : b < length unit.blocks) where
     abbrev OneMore : (ℕ → Mention → Type 0) → ℕ → Mention → ℕ → Mention → Type 0
     OneMore V n m k l = V k l ⊎ ((n ≡ k) × (m ≡ l))
 
@@ -172,7 +171,7 @@ module _ (unit : ProgramUnit) (b : ℕ) where
         var = is_var_slot (slot_at unit.blocks n levels number)
 
         round_is : Decides round (Encloses unit.blocks v.home b)
-        round_is = encloses_decides unit.blocks (go_inwards unit ok) v.home b unit.blocks refl low
+        round_is = encloses_decides unit.blocks inwards v.home b unit.blocks refl low
 
         var_is : Decides var (IsVarParameter unit v)
         var_is = var_decides (slot_at unit.blocks n levels number)

@@ -11,7 +11,7 @@ use Rattle.edi_meaning.proofs.Own.{every-append}
 use Rattle.edi_disjoint.specs.Footprints.{IsBranch, Disjoint}
 use Rattle.edi_disjoint.specs.Report.{Fork, forks_in_act, forks_in_acts, forks_in_clause, forks_in_clauses, forks_of, begins_with, forks_from, forks_in_order}
 use Rattle.edi_disjoint.specs.Report.{most_branches, pair_line, pair_lines, branch_lines, many_line, fork_lines, report_of, IsReport}
-use Rattle.edi_disjoint.proofs.Leaves.{ActMay, ActsMay, ClauseMay, ClausesMay}
+use Rattle.edi_disjoint.specs.Leaves.{ActMay, ActsMay, ClauseMay, ClausesMay}
 use Rattle.edi_disjoint.proofs.Texts.{text_of, body_may}
 
 decides_same : (x y : Bool) (A : Type 0) → Decides x A → Decides y A → x ≡ y

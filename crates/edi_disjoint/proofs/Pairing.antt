@@ -23,8 +23,8 @@ use Rattle.edi_meaning.specs.Whole.{entered, left, result_of, named, function_bo
 use Rattle.edi_meaning.specs.Whole.{designated, parts, part, argument, arguments, procedure_body, procedure_call, assigned, act, acts, first, guarded}
 use Rattle.edi_meaning.specs.Whole.{levels_of, whole_arguments, whole_assignment, whole_condition, whole_first}
 use Rattle.edi_meaning.proofs.Lasting.{Any}
-use Rattle.edi_disjoint.proofs.Leaves.{Way, reads, assigns, lends, Leaves, ExpressionMay, ExpressionsMay, LinksMay, LinkMay, PlaceMay, PartsMay, PartMay}
-use Rattle.edi_disjoint.proofs.Leaves.{ArgumentMay, ArgumentsMay, ActMay, ActsMay, ClauseMay, ClausesMay, Each}
+use Rattle.edi_disjoint.specs.Leaves.{Way, reads, assigns, lends, Leaves, ExpressionMay, ExpressionsMay, LinksMay, LinkMay, PlaceMay, PartsMay, PartMay}
+use Rattle.edi_disjoint.specs.Leaves.{ArgumentMay, ArgumentsMay, ActMay, ActsMay, ClauseMay, ClausesMay, Each}
 
 -- ---- two evaluations
 

@@ -14,7 +14,7 @@ use Rattle.edi_meaning.proofs.Lasting.{Every}
 use Rattle.edi_meaning.proofs.Own.{every-take, instances-same}
 use Rattle.edi_meaning.proofs.Frames.{frames-take}
 use Rattle.edi_disjoint.specs.Footprints.{CallsParameter, NamesProgram}
-use Rattle.edi_disjoint.proofs.Leaves.{Each}
+use Rattle.edi_disjoint.specs.Leaves.{Each}
 use Rattle.edi_disjoint.proofs.Pairing.{Pairing, Pairs}
 use Rattle.edi_disjoint.proofs.Locally.{Moving, StandingMay, local_pairs}
 use Rattle.edi_disjoint.proofs.Cells.{block_in}

@@ -8,7 +8,7 @@ use Rattle.edi_unit.specs.Tree.{Block}
 use Rattle.edi_unit.specs.View.{block_of}
 use Rattle.edi_disjoint.specs.Apart.{View, encloses_by, is_var_slot, seen_in, see_in}
 
-encloses_map : {A B : Type 0} (f : A → B) (blocks : List Block) (home here : ℕ) (xs : List A) → encloses_by blocks home here xs ≡ encloses_by blocks home here (map f xs)
+pub encloses_map : {A B : Type 0} (f : A → B) (blocks : List Block) (home here : ℕ) (xs : List A) → encloses_by blocks home here xs ≡ encloses_by blocks home here (map f xs)
 encloses_map f blocks home here [] = refl
 encloses_map f blocks home here (x ∷ xs) =
     ap (λ b. ((block_at blocks here).up == home) || (not ((block_at blocks here).up == here) && b)) (encloses_map f blocks home (block_at blocks here).up xs)

@@ -9,8 +9,8 @@ use Rattle.edi_unit.specs.declared.units.Parameter.TheVariants as parameter
 use Rattle.edi_disjoint.specs.Footprints.{Variable, IsVar}
 use Rattle.edi_disjoint.specs.Found.{Lists}
 use Rattle.edi_disjoint.specs.Apart.{with_view, has_view, is_same_view, is_var_slot}
-use Rattle.edi_disjoint.proofs.Deciding.{or_true, and_true, both_true, left_true, right_true, contains_first, contains_later}
-use Rattle.edi_disjoint.proofs.Reaching.{contains_append, contains_last, contains_more}
+use Rattle.edi_disjoint.proofs.Contained.{contains_append, contains_first, contains_last, contains_later, contains_more}
+use Rattle.edi_disjoint.proofs.Deciding.{or_true, and_true, both_true, left_true, right_true}
 
 pub same_then : (x v : Variable) → is_same_view x v ≡ true → x ≡ v
 same_then x v e =

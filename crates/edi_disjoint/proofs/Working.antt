@@ -21,12 +21,13 @@ use Rattle.edi_meaning.proofs.Lasting.{whole_assignment_keeps, whole_condition_k
 use Rattle.edi_meaning.proofs.Own.{instances-same}
 use Rattle.edi_meaning.proofs.Due.{DueAs}
 use Rattle.edi_meaning.proofs.Frames.{HasShape, own_shape, framing, shape-grown, shape-shrunk}
-use Rattle.edi_disjoint.proofs.Leaves.{Leaves, ActMay, ActsMay, ClausesMay}
+use Rattle.edi_disjoint.specs.Leaves.{Leaves, ActMay, ActsMay, ClausesMay}
 use Rattle.edi_disjoint.proofs.Locally.{StandingMay}
 use Rattle.edi_disjoint.proofs.Cells.{block_in}
-use Rattle.edi_disjoint.proofs.Texts.{text_of}
+use Rattle.edi_disjoint.specs.Open.{open_act, open_acts, open_clauses}
+use Rattle.edi_disjoint.proofs.Texts.{text_of, open_text}
 use Rattle.edi_disjoint.proofs.Inside.{newest_frame}
-use Rattle.edi_disjoint.proofs.Knowing.{any_body}
+use Rattle.edi_disjoint.proofs.Knowing.{any_body, any_open_body}
 
 -- ---- the blocks of a process, the newest first
 
@@ -81,10 +82,23 @@ module _ (unit : ProgramUnit) (ok : Fits unit) where
   abbrev text : List ℕ → Leaves
   text ns = text_of unit ok (top ns)
 
+  -- what stands of it outside critical phases
+  abbrev pub open_part : List ℕ → Leaves
+  open_part ns = open_text unit ok (top ns)
+
+  abbrev pub ActIn : List ℕ → Act → Type 0
+  ActIn ns a = ActMay (text ns) a × ActMay (open_part ns) (open_act a)
+
+  abbrev pub ActsIn : List ℕ → Acts → Type 0
+  ActsIn ns as' = ActsMay (text ns) as' × ActsMay (open_part ns) (open_acts as')
+
+  abbrev pub ClausesIn : List ℕ → Clauses → Type 0
+  ClausesIn ns cs = ClausesMay (text ns) cs × ClausesMay (open_part ns) (open_clauses cs)
+
   abbrev pub WorkIn : List ℕ → List Work → Type 0
   WorkIn ns [] = ⊤
-  WorkIn ns (doing a position ∷ work) = ActMay (text ns) a × WorkIn ns work
-  WorkIn ns (loop_end cs position ∷ work) = ClausesMay (text ns) cs × WorkIn ns work
+  WorkIn ns (doing a position ∷ work) = ActIn ns a × WorkIn ns work
+  WorkIn ns (loop_end cs position ∷ work) = ClausesIn ns cs × WorkIn ns work
   WorkIn ns (procedure_end line ∷ work) = WorkIn (below ns) work
   WorkIn ns (branch_end ∷ work) = ⊤
   WorkIn ns (program_entry ∷ work) = WorkIn (unit.program ∷ []) work
@@ -103,12 +117,12 @@ module _ (unit : ProgramUnit) (ok : Fits unit) where
   WorkAsks p (forks bs line work) w = (text (blocks_of (shape w.store p))).Forks bs × WorkIn (blocks_of (shape w.store p)) work
   WorkAsks p leaves w = ⊤
 
-  pub all_in : (ns : List ℕ) (as' : Acts) (position : Position) (n : ℕ) (work : List Work) → ActsMay (text ns) as' → WorkIn ns work → WorkIn ns (doing_all as' position n work)
+  pub all_in : (ns : List ℕ) (as' : Acts) (position : Position) (n : ℕ) (work : List Work) → ActsIn ns as' → WorkIn ns work → WorkIn ns (doing_all as' position n work)
   all_in ns tree.no_act position n work m k = k
-  all_in ns (tree.act_then a as') position n work m k = (m.0, all_in ns as' position (suc n) work m.1 k)
+  all_in ns (tree.act_then a as') position n work m k = ((m.0.0, m.1.0), all_in ns as' position (suc n) work (m.0.1, m.1.1) k)
 
   pub body_in : (ns : List ℕ) (number : ℕ) (work : List Work) → WorkIn (number ∷ ns) work → WorkIn (number ∷ ns) (body_of unit number work)
-  body_in ns number work k = all_in (number ∷ ns) (block_at unit.blocks number).body _ 0 work (any_body unit ok number) k
+  body_in ns number work k = all_in (number ∷ ns) (block_at unit.blocks number).body _ 0 work (any_body unit ok number, any_open_body unit ok number) k
 
   pub awaits_in : (ns : List ℕ) (work : List Work) (n : ℕ) → WorkIn ns work → WorkAs ns (awaits n) work
   awaits_in ns work zero k = k
@@ -118,7 +132,7 @@ module _ (unit : ProgramUnit) (ok : Fits unit) where
   pub may_of : (ns : List ℕ) (p : Name) (standing : Standing) (work : List Work) (d : ℕ) → 0 < d → DueAs p standing work d → WorkAs ns standing work →
       StandingMay (text ns) standing work
   may_of ns p ready [] d l h k = tt
-  may_of ns p ready (doing a position ∷ work) d l h k = k.0
+  may_of ns p ready (doing a position ∷ work) d l h k = k.0.0
   may_of ns p ready (loop_end cs position ∷ work) d l h k = tt
   may_of ns p ready (procedure_end line ∷ work) d l h k = tt
   may_of ns p ready (branch_end ∷ work) d l h k = tt
@@ -140,7 +154,7 @@ module _ (unit : ProgramUnit) (ok : Fits unit) where
     -- the list that is chosen is one of this text
     abbrev Chosen : Option (Acts × ℕ) → Type 0
     Chosen None = ⊤
-    Chosen (Some c) = ActsMay (text ns) c.0
+    Chosen (Some c) = ActsIn ns c.0
 
     here : (w : World) → HasShape F w.store → ns ≡ blocks_of (shape w.store p)
     here w h = ap blocks_of (sym (h.each p))
@@ -148,10 +162,10 @@ module _ (unit : ProgramUnit) (ok : Fits unit) where
     on : (work : List Work) (w : World) → HasShape F w.store → WorkIn ns work → Rests (gives (goes work) w)
     on work w h d = give s _ _ w (subst (λ x. WorkIn x work) (here w h) d)
 
-    chosen_rests : (cs : Clauses) (n : ℕ) (w : World) → HasShape F w.store → ClausesMay (text ns) cs → Keeps s (At s F Chosen) (chosen unit p size cs n w)
+    chosen_rests : (cs : Clauses) (n : ℕ) (w : World) → HasShape F w.store → ClausesIn ns cs → Keeps s (At s F Chosen) (chosen unit p size cs n w)
     chosen_rests tree.no_clause n w h m = give s _ _ w (tt, h)
     chosen_rests (tree.clause_then (tree.clause e as') cs) n w h m =
-        bind s F Any _ _ _ (whole_condition_keeps s F e w h) (λ holds w _ h. if_keeps s _ holds _ _ (give s _ _ w (m.0.1, h)) (chosen_rests cs (suc n) w h m.1))
+        bind s F Any _ _ _ (whole_condition_keeps s F e w h) (λ holds w _ h. if_keeps s _ holds _ _ (give s _ _ w ((m.0.0.1, m.1.0.1), h)) (chosen_rests cs (suc n) w h (m.0.1, m.1.1)))
 
     in_chosen : (position : Position) (c : Option (Acts × ℕ)) (after work : List Work) → Chosen c → WorkIn ns work → WorkIn ns (after ++ work) →
         WorkIn ns (with_chosen position c after work)
@@ -173,7 +187,7 @@ module _ (unit : ProgramUnit) (ok : Fits unit) where
         sym (ap blocks_of (shape-grown p i w.store) ∙ blocks_more (shape w.store p) i.frame [] ∙ ap (λ x. n ∷ x) (sym (here w h))) in
         give s _ _ _ (subst (λ x. WorkIn x (body_of unit n (procedure_end line ∷ work))) more (body_in ns n (procedure_end line ∷ work) d))))
 
-    statement_rests : (a : Act) (position : Position) (work : List Work) (w : World) → HasShape F w.store → ActMay (text ns) a → WorkIn ns work →
+    statement_rests : (a : Act) (position : Position) (work : List Work) (w : World) → HasShape F w.store → ActIn ns a → WorkIn ns work →
         Rests (statement_step unit p size a position work w)
     statement_rests tree.skip position work w h m d = on work w h d
     statement_rests (tree.assign v e) position work w h m d = bind s F Any _ _ _ (whole_assignment_keeps s F v e w h) (λ _ w _ h. on work w h d)
@@ -185,8 +199,8 @@ module _ (unit : ProgramUnit) (ok : Fits unit) where
     statement_rests (tree.while_act cs) position work w h m d =
         bind s F Chosen _ _ _ (chosen_rests cs 0 w h m) (λ c w g h. on _ w h (in_chosen position c (loop_end cs position ∷ []) work g d (m, d)))
     statement_rests (tree.when_act cs line) position work w h m d =
-        turn_keeps s F _ w.turns w _ refl h (λ w h. give s _ _ w (subst (λ x. ClausesMay (text x) cs × WorkIn x work) (here w h) (m, d)))
-    statement_rests (tree.cobegin bs line) position work w h m d = give s _ _ w (subst (λ x. (text x).Forks bs × WorkIn x work) (here w h) (m, d))
+        turn_keeps s F _ w.turns w _ refl h (λ w h. give s _ _ w (subst (λ x. ClausesMay (text x) cs × WorkIn x work) (here w h) (m.0, d)))
+    statement_rests (tree.cobegin bs line) position work w h m d = give s _ _ w (subst (λ x. (text x).Forks bs × WorkIn x work) (here w h) (m.0, d))
 
     work_rests : (work : List Work) (w : World) → HasShape F w.store → WorkIn ns work → Rests (work_step unit p size work w)
     work_rests [] w h d = record { is = tt }
@@ -209,6 +223,12 @@ module _ (unit : ProgramUnit) (ok : Fits unit) where
         (λ ran w _ h. if_keeps s _ ran _ _ (on work w h d.1)
         (turn_keeps s F _ w.turns w _ refl h (λ w h. give s _ _ w (subst (λ x. ClausesMay (text x) cs × WorkIn x work) (here w h) d))))
 
+    attempt_stays : (cs : Clauses) (position : Position) (work : List Work) (w : World) → HasShape F w.store →
+        Keeps s (λ a v. shape v.store p ≡ F p) (attempt unit p size cs position work w)
+    attempt_stays cs position work w h =
+        bind s F Any _ _ _ (whole_first_keeps s F cs w h)
+        (λ ran w _ h. if_keeps s _ ran _ _ (give s _ _ w (h.each p)) (turn_keeps s F _ w.turns w _ refl h (λ w h. give s _ _ w (h.each p))))
+
     local_rests : (standing : Standing) (work : List Work) (w : World) → HasShape F w.store → WorkAs ns standing work → Rests (local_step unit p size standing work w)
     local_rests ready work w h d = work_rests work w h d
     local_rests (at_when cs position) work w h d = attempt_rests cs position work w h d
@@ -218,3 +238,8 @@ module _ (unit : ProgramUnit) (ok : Fits unit) where
   pub local_work : (p : Name) (size : ℕ) (standing : Standing) (work : List Work) (w : World) → WorkAs (blocks_of (shape w.store p)) standing work →
       Keeps (framing unit p size) (WorkAsks p) (local_step unit p size standing work w)
   local_work p size standing work w d = local_rests p size (shape w.store) standing work w (own_shape w.store) d
+
+  -- and an attempt leaves the frames
+  pub attempt_frames : (p : Name) (size : ℕ) (cs : Clauses) (position : Position) (work : List Work) (w : World) →
+      Keeps (framing unit p size) (λ a v. shape v.store p ≡ shape w.store p) (attempt unit p size cs position work w)
+  attempt_frames p size cs position work w = attempt_stays p size (shape w.store) cs position work w (own_shape w.store)

@@ -16,8 +16,8 @@ use Rattle.edi_disjoint.specs.declared.mentions.Mention.TheVariants as mention
 use Rattle.edi_disjoint.specs.Mentions.{in_expression, in_expressions, in_links, in_parts, in_arguments, in_act, in_acts}
 use Rattle.edi_disjoint.specs.Mentions.{in_clause, in_clauses}
 use Rattle.edi_disjoint.specs.Footprints.{Variable, variable_at, Mentions, Writes, outside, through, written}
-use Rattle.edi_disjoint.proofs.Leaves.{reads, assigns, lends, Leaves, ExpressionMay, ExpressionsMay, LinksMay, PartsMay}
-use Rattle.edi_disjoint.proofs.Leaves.{ArgumentsMay, ActMay, ActsMay, ClauseMay, ClausesMay}
+use Rattle.edi_disjoint.specs.Leaves.{reads, assigns, lends, Leaves, ExpressionMay, ExpressionsMay, LinksMay, PartsMay}
+use Rattle.edi_disjoint.specs.Leaves.{ArgumentsMay, ActMay, ActsMay, ClauseMay, ClausesMay}
 use Rattle.edi_disjoint.proofs.Texts.{text_of, body_may}
 
 -- ---- what is true of the leaves of a text is true of each mention in it

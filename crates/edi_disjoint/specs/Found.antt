@@ -1,18 +1,24 @@
 -- Words of contracts. What the code keeps of a program's texts, and what it stands for.
-use Rattle.std.specs.Prelude.{◌≡◌, ℕ, List, Contains, map, Option, Some, None, slice_get}
+use Rattle.std.specs.Prelude.{◌≡◌, ◌<◌, ℕ, List, Contains, length, map, Option, Some, None, slice_get}
 use Rattle.std.specs.Bool.{Decides}
 use Rattle.std.specs.Global.{Vec}
 use Rattle.edi_unit.specs.Tree.{ProgramUnit}
+use Rattle.edi_unit.specs.declared.expressions.Callee.TheVariants as callee
 use Rattle.edi_disjoint.specs.declared.mentions.Mention.{Mention}
+use Rattle.edi_disjoint.specs.declared.mentions.Mention.TheVariants as mention
 use Rattle.edi_disjoint.specs.declared.touching.Variable as code_variable
 use Rattle.edi_disjoint.specs.declared.touching.Footprint.{Footprint}
 use Rattle.edi_disjoint.specs.declared.touching.Footprints.{Footprints}
 use Rattle.edi_disjoint.specs.Mentions.{in_acts}
-use Rattle.edi_disjoint.specs.Footprints.{IsBranch, Variable, Reach, Sees, Writes, IsTarget, CallsSystem, CallsParameter, NamesProgram}
+use Rattle.edi_disjoint.specs.Footprints.{IsBranch, Variable, Mentions, Reach, Sees, Writes, IsTarget, CallsSystem, CallsParameter, NamesProgram}
 
 -- these are the mentions in the blocks of a unit, by number
 abbrev pub AreTexts : ProgramUnit → List (Vec Mention) → Type 0
 AreTexts unit texts = map (λ t. t.items) texts ≡ map (λ b. in_acts b.body) unit.blocks
+
+-- each block that a text calls by its name is there
+abbrev pub CallsAreThere : ProgramUnit → Type 0
+CallsAreThere unit = (n levels d : ℕ) → Mentions unit n (mention.Calls (callee.Block levels d)) → d < length unit.blocks
 
 -- a list has all of these, and nothing else
 abbrev pub Lists : {A : Type 0} → List A → (A → Type 0) → Type 0

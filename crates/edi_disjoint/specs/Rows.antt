@@ -8,8 +8,9 @@ use Rattle.edi_unit.specs.Need.{block_at}
 use Rattle.edi_unit.specs.Values.{Value, ordinal, zero_value}
 use Rattle.edi_meaning.specs.Store.{get}
 use Rattle.edi_unit.specs.declared.expressions.Callee.TheVariants as callee
-use Rattle.edi_unit.specs.Tree.{assign, call, cobegin, skip, no_argument, Act, Block, ProgramUnit}
-use Rattle.edi_meaning.specs.Rows.{empty_system, list_of, variable, value_of, number}
+use Rattle.edi_unit.specs.declared.expressions.Operator.TheVariants as op
+use Rattle.edi_unit.specs.Tree.{assign, call, cobegin, skip, when_act, no_argument, Act, Block, ProgramUnit}
+use Rattle.edi_meaning.specs.Rows.{empty_system, list_of, one_clause, two, variable, value_of, number}
 use Rattle.edi_meaning.specs.Step.{start}
 use Rattle.edi_meaning.specs.Permitted.{Led, at, permitted}
 use Rattle.edi_disjoint.specs.declared.mentions.Mention.TheVariants as mention
@@ -17,6 +18,7 @@ use Rattle.edi_disjoint.specs.Mentions.{in_acts}
 use Rattle.edi_disjoint.specs.declared.mentions.Mention.{Mention}
 use Rattle.edi_disjoint.specs.Footprints.{Variable, Mentions, Reach, itself, called, Named, Touches, outside, through, IsVarParameter, seen, written}
 use Rattle.edi_disjoint.specs.Footprints.{CallsSystem, CallsParameter, NamesProgram, calls, passes, Disjoint}
+use Rattle.edi_disjoint.specs.Open.{OpenMentions, OpenReach, NamesOpenly, UsesOpenly, outer_one, lent_one, handles, handled, open_unit}
 use Rattle.edi_disjoint.specs.Report.{forks_in_order, report_of, pair_line}
 
 abbrev pub block : (up : ℕ) → List ℕ → List Act → Block
@@ -191,6 +193,44 @@ three_forks = record {
 pub row_forks_in_order : forks_in_order three_forks
     ≡ record { branches = 2 ∷ []; line = 3 } ∷ record { branches = 3 ∷ 6 ∷ []; line = 5 } ∷ record { branches = 4 ∷ 5 ∷ []; line = 5 } ∷ []
 row_forks_in_order = refl
+
+-- ---- uses outside critical phases
+
+-- proc main / var x, y: int / begin cobegin 1 do when y = y do x := 1 end also 2 do x := 2 end end
+abbrev pub one_phase : ProgramUnit
+one_phase = record {
+  types = standard_types;
+  blocks = record (block 0 (0 ∷ 0 ∷ []) (cobegin (1 ∷ 2 ∷ []) 3 ∷ [])) { kind = kind.Program }
+      ∷ block 0 [] (when_act (one_clause (two (value_of 1 1) op.Equal (value_of 1 1) 3) (assign (variable 1 0) (number (pos 1)) ∷ [])) 3 ∷ [])
+      ∷ block 0 [] (assign (variable 1 0) (number (pos 2)) ∷ []) ∷ [];
+  program = 0;
+  calls = [];
+}
+
+-- the second branch uses x openly
+pub row_open_second : UsesOpenly one_phase 2 (variable_of 0)
+row_open_second =
+    outer_one (record { block = 2; reach = itself; mention = mention.Assigns 1 0; stands = (0, omega arith, refl); is = refl }) (record { levels = 0; is = refl })
+
+-- the first mentions nothing outside its phase, so it uses nothing openly
+pub row_open_first : in_acts (block_at (open_unit one_phase).blocks 1).body ≡ []
+row_open_first = refl
+
+pub row_none_first : (v : Variable) → UsesOpenly one_phase 1 v → ⊥
+row_none_first v u = go u
+  where
+    here : (n : ℕ) → OpenReach one_phase 1 n → n ≡ 1
+    here n itself = refl
+    here n (called c levels d r m) =
+        absurd (nothing_in (mention.Calls (callee.Block levels d)) (subst (λ k. OpenMentions one_phase k (mention.Calls (callee.Block levels d))) (here c r) m))
+
+    named : (of : List Block → ℕ → Mention → Option Variable) (x : Variable) → NamesOpenly of one_phase 1 x → ⊥
+    named of x k = nothing_in k.mention (subst (λ n. OpenMentions one_phase n k.mention) (here k.block k.reach) k.stands)
+
+    go : UsesOpenly one_phase 1 v → ⊥
+    go (outer_one k e) = named seen v k
+    go (lent_one x k var target) = named seen x k
+    go (handles k) = named handled v k
 
 -- ---- steps of the three branches
 

@@ -3,6 +3,7 @@
 
 ghost use Rattle.std.specs.Prelude.{◌≡◌, ◌++◌, IfOk, OnOk};
 ghost use Rattle.edi_unit.specs.View.{act_of, acts_of, argument_of, arguments_of, clauses_of, expression_of, expressions_of, links_of, part_of, parts_of};
+ghost use Rattle.edi_disjoint.specs.Open.{open_act, open_acts, open_clauses};
 ghost use Rattle.edi_disjoint.specs.Mentions.{in_act, in_acts, in_argument, in_arguments, in_clauses, in_expression, in_expressions, in_links, in_part, in_parts};
 
 use edi_unit::{
@@ -171,6 +172,43 @@ pub(crate) fn put_acts(list: &mut Vec<Mention>, acts: &Acts) -> Result<(), Alloc
 {
     for act in acts.items() {
         put_act(list, act)?;
+    }
+    Ok(())
+}
+
+// ---- the same outside critical phases
+
+#[cycle(outside)]
+fn put_open_act(list: &mut Vec<Mention>, act: &Act) -> Result<(), AllocError>
+    ensures exact { OnOk result (list.new.items ≡ list.old.items ++ in_act (open_act (act_of act.now))) }
+{
+    match act {
+        Act::When(_, _) => Ok(()),
+        Act::If(clauses) | Act::While(clauses) => put_open_clauses(list, clauses),
+        Act::Skip | Act::Halt(_) | Act::Cobegin(_, _) | Act::Assign(_, _) | Act::Call(_, _, _) => {
+            put_act(list, act)
+        }
+    }
+}
+
+#[cycle(outside)]
+fn put_open_clauses(list: &mut Vec<Mention>, clauses: &Clauses) -> Result<(), AllocError>
+    ensures exact { OnOk result (list.new.items ≡ list.old.items ++ in_clauses (open_clauses (clauses_of clauses.now))) }
+{
+    for clause in clauses.items() {
+        put_value(list, &clause.condition)?;
+        put_open_acts(list, &clause.body)?;
+    }
+    Ok(())
+}
+
+/// Puts what statements mention outside a `when` at the end of a list, as `put_acts` does.
+#[cycle(outside)]
+pub(crate) fn put_open_acts(list: &mut Vec<Mention>, acts: &Acts) -> Result<(), AllocError>
+    ensures exact { OnOk result (list.new.items ≡ list.old.items ++ in_acts (open_acts (acts_of acts.now))) }
+{
+    for act in acts.items() {
+        put_open_act(list, act)?;
     }
     Ok(())
 }

@@ -20,11 +20,11 @@ use std::alloc::{AllocError, Global};
 
 // What a text is looked through for: the program, and the variables that are lent somewhere in it.
 #[derive(Clone, Copy)]
-struct Whole<'a> {
-    alloc: Global,
-    blocks: &'a [Block],
-    program: u32,
-    targets: &'a [Variable],
+pub(crate) struct Whole<'a> {
+    pub(crate) alloc: Global,
+    pub(crate) blocks: &'a [Block],
+    pub(crate) program: u32,
+    pub(crate) targets: &'a [Variable],
 }
 
 // Whether block `home` stands round block `block`: steps out lead to all that do, the program the last, which stands in itself.
@@ -88,7 +88,7 @@ fn names_in(text: &[Mention], program: u32) -> bool
 }
 
 // Whether the program itself is called or passed on.
-fn names_program(texts: &[Vec<Mention>], program: u32) -> bool
+pub(crate) fn names_program(texts: &[Vec<Mention>], program: u32) -> bool
     ensures exact { result ≡ apart.any_names program texts.now }
 {
     for text in texts {
@@ -135,7 +135,7 @@ fn add_lent(
 }
 
 // The variables that are lent somewhere.
-fn targets(
+pub(crate) fn targets(
     alloc: Global,
     blocks: &[Block],
     texts: &[Vec<Mention>],
@@ -280,7 +280,7 @@ impl Footprint {
     }
 
     // All of them.
-    fn take_targets(&mut self, targets: &[Variable]) -> Result<(), AllocError>
+    pub(crate) fn take_targets(&mut self, targets: &[Variable]) -> Result<(), AllocError>
         ensures exact { OnOk result (view_of self.new ≡ apart.targets_in (map variable_of targets.now) (view_of self.old)) }
     {
         for target in targets {
@@ -291,7 +291,7 @@ impl Footprint {
 }
 
 // What the texts of these blocks mention.
-fn take_blocks(
+pub(crate) fn take_blocks(
     found: &mut Footprint,
     whole: &Whole<'_>,
     texts: &[Vec<Mention>],
@@ -340,7 +340,7 @@ fn one_footprint(
 }
 
 // Whether a block is a branch of a `cobegin`.
-fn is_branch(kind: BlockKind) -> bool
+pub(crate) fn is_branch(kind: BlockKind) -> bool
     ensures exact { result ≡ apart.is_branch_kind kind }
 {
     matches!(kind, BlockKind::Branch)

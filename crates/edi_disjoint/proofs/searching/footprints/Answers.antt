@@ -1,5 +1,4 @@
-use Rattle.std.proofs.Common.{rules, ◌≡◌, ◌<◌, [], ◌∷◌, ◌++◌, length, map, ℕ, suc, ◌+◌, List, sym, subst, ap, ◌∙◌, arith, zero, get_or}
-use Rattle.edi_unit.specs.declared.units.Block as code_block
+use Rattle.std.proofs.Common.{rules, ◌≡◌, [], ◌∷◌, ◌++◌, length, map, ℕ, suc, ◌+◌, List, sym, subst, ap, ◌∙◌, arith}
 use Rattle.std.proofs.lemmas.List.{length-map}
 use Rattle.std.specs.Global.{Vec}
 use Rattle.std.specs.Bool.{Decides}
@@ -15,21 +14,12 @@ use Rattle.edi_disjoint.specs.Footprints.{IsBranch}
 use Rattle.edi_disjoint.specs.Footprints.{IsTarget, NamesProgram}
 use Rattle.edi_disjoint.proofs.Enclosing.{naming_decides}
 use Rattle.edi_disjoint.proofs.Lent.{lent_targets}
-use Rattle.edi_disjoint.proofs.Gathered.{Gathered, one_more}
+use Rattle.edi_disjoint.proofs.Gathered.{Gathered, one_more, read_block}
 use Rattle.edi_disjoint.proofs.searching.footprints.Goals as goal
 
 -- as many texts as blocks
 as_many : (unit : ProgramUnit) (texts : List (Vec Mention)) → AreTexts unit texts → length texts ≡ length unit.blocks
 as_many unit texts h = sym (length-map texts (λ t. t.items)) ∙ ap length h ∙ length-map unit.blocks (λ b. in_acts b.body)
-
--- a block of the code as the one of the unit with its number
-none : (i : ℕ) → i < 0 → ⊥
-none i h = omega (arith, h)
-
-read_block : (bs : List code_block.Block) (i : ℕ) (b : code_block.Block) → i < length bs → b ≡ get_or bs i b → block_of b ≡ block_at (map block_of bs) i
-read_block [] i b h e = absurd (none i h)
-read_block (x ∷ bs) zero b h e = ap block_of e
-read_block (x ∷ bs) (suc i) b h e = read_block bs i b (omega (arith, h)) e
 
 one : (n : ℕ) → suc n ≡ n + 1
 one n = omega arith

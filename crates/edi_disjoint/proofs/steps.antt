@@ -1,0 +1,15 @@
+pub mod Following
+pub mod Stepping
+pub mod Anything
+pub mod Differing
+pub mod Kernels
+pub mod Passing
+pub mod Leading
+pub mod Textless
+pub mod Plain
+pub mod PlainSteps
+pub mod Turns
+pub mod First
+pub mod Stores
+pub mod Owning
+pub mod Inner

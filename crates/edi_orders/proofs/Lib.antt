@@ -1,0 +1,15 @@
+pub mod Pending
+pub mod Taking
+pub mod Lasts
+pub mod Reaching
+pub mod Resting
+pub mod Running
+pub mod Beside
+pub mod Others
+pub mod Reducing
+pub mod Beginning
+pub mod Ending
+pub mod Undone
+pub mod FirstEnds
+pub mod Walking
+pub mod Uncut

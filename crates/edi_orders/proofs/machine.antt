@@ -1,0 +1,4 @@
+pub mod Cuts
+pub mod Turned
+pub mod Enough
+pub mod Orders

@@ -1,0 +1,2 @@
+-- Helper. The files of `machine`.
+pub mod Expanded

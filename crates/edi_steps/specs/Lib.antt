@@ -1,4 +1,0 @@
-pub mod Own
-pub mod Plain
-pub mod Turns
-pub mod First
