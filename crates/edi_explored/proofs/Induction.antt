@@ -70,7 +70,7 @@ step_shaped unit s p = go (find s.live p) refl
         of_process unit s p q (Shaped p) e (kernel_handles unit s p q _ _ (Shaped p) (shaped unit s p q) r (any_gives unit s p q r))
 
 -- and what it marks cannot go
-step_marked : (unit : ProgramUnit) (s : Processes) (p : Name) → Marks unit s p (step unit s p)
+pub step_marked : (unit : ProgramUnit) (s : Processes) (p : Name) → Marks unit s p (step unit s p)
 step_marked unit s p = go (find s.live p) refl
   where
     go : (x : Option Process) → find s.live p ≡ x → Marks unit s p (step unit s p)
@@ -83,7 +83,7 @@ module _ (unit : ProgramUnit) where
   abbrev pub AreIdle : Processes → List Name → Type 0
   AreIdle s marks = (m : Name) → has marks m ≡ true → Idle unit s.live s.world.store m
 
-  marks_after : (s t : Processes) (p : Name) (marks : List Name) (quiet : Bool) (next : Next) → Marks unit s p (went t next quiet) → AreIdle s marks
+  pub marks_after : (s t : Processes) (p : Name) (marks : List Name) (quiet : Bool) (next : Next) → Marks unit s p (went t next quiet) → AreIdle s marks
       → AreIdle t (marked quiet p marks)
   marks_after s t p marks false next h k = λ m i. let a : false ≡ true = i in absurd (cc)
   marks_after s t p marks true next h k = λ m i. elim (or_true (same m p) (has marks m) i) [
@@ -105,7 +105,7 @@ module _ (unit : ProgramUnit) where
 but_turns : (s t : Processes) → SameBut s t → SameButTurns s t
 but_turns s t e = record { live = e.live; store = e.store; system = e.system }
 
-nothing_differs : (s : Processes) → SameButTurns s s
+pub nothing_differs : (s : Processes) → SameButTurns s s
 nothing_differs s = record { live = refl; store = refl; system = refl }
 
 module _ (unit : ProgramUnit) (report : Report) (V : Type 0) (Covers : V → Processes → List Name → Type 0) (Has : ℕ → V → Type 0)
@@ -123,7 +123,7 @@ module _ (unit : ProgramUnit) (report : Report) (V : Type 0) (Covers : V → Pro
     -- it has just begun, or p is ready
     pub at : Covered (suc n) s (p ∷ others) ⊎ ((q : Process) × (find s.live p ≡ Some q) × (q.standing ≡ ready))
 
-  begins : (n : ℕ) (s : Processes) (p : Name) (others : List Name) → Covered (suc n) s (p ∷ others) → Going n s p others
+  pub begins : (n : ℕ) (s : Processes) (p : Name) (others : List Name) → Covered (suc n) s (p ∷ others) → Going n s p others
   begins n s p others c = record {
     reports = λ steps ending shown e. f.reports n c.by s p others steps ending shown c.has_it c.covers e;
     leads = λ steps t joined e.
@@ -133,7 +133,7 @@ module _ (unit : ProgramUnit) (report : Report) (V : Type 0) (Covers : V → Pro
   }
 
   -- one step on in the stint
-  goes_on : (n : ℕ) (s t : Processes) (p : Name) (others : List Name) (quiet : Bool) → step unit s p ≡ went t stays quiet →
+  pub goes_on : (n : ℕ) (s t : Processes) (p : Name) (others : List Name) (quiet : Bool) → step unit s p ≡ went t stays quiet →
       (q : Process) × (find t.live p ≡ Some q) × (q.standing ≡ ready) → Going n s p others → Going n t p others
   goes_on n s t p others quiet e r g = record {
     reports = λ steps ending shown h. g.reports (suc steps) ending shown (ap (stint_after (λ u. stint unit steps u p)) e ∙ h);
@@ -164,7 +164,7 @@ module _ (unit : ProgramUnit) (report : Report) (V : Type 0) (Covers : V → Pro
   stands_reported n s names c idle = inr (f.stands n c.by s names c.has_it c.covers (λ x h. cannot_go unit s x (idle x h)))
 
   -- who is ready in the state behind a quiet attempt: the same ones, in another order
-  to_back : (p : Name) (others : List Name) → Reordered (p ∷ others) (others ++ p ∷ [])
+  pub to_back : (p : Name) (others : List Name) → Reordered (p ∷ others) (others ++ p ∷ [])
   to_back p others = record {
     members = λ x. has-append others (p ∷ []) x ∙ turn (has others x) (same x p);
     once = λ o. once-append others (p ∷ []) o.1 (refl, tt) (λ x h. right_false (same x p) ∙ apart o.0 x h (same-or-other x p));
@@ -181,7 +181,7 @@ module _ (unit : ProgramUnit) (report : Report) (V : Type 0) (Covers : V → Pro
       turn false false = refl
 
   -- an attempt that marks its process leaves a state that the same covers
-  quiet_covered : (n : ℕ) (s t : Processes) (p : Name) (others other : List Name) → SameBut s t → Idle unit s.live s.world.store p → Going n s p others →
+  pub quiet_covered : (n : ℕ) (s t : Processes) (p : Name) (others other : List Name) → SameBut s t → Idle unit s.live s.world.store p → Going n s p others →
       Reordered (p ∷ others) other → Covered (suc n) t other
   quiet_covered n s t p others other same i g m = go g.at
     where

@@ -1,4 +1,5 @@
 pub mod Members
 pub mod Choosing
 pub mod Induction
+pub mod Fewer
 pub mod Worked

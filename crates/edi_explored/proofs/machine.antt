@@ -14,5 +14,6 @@ pub mod KernelStints
 pub mod KernelSearch
 pub mod Levels
 pub mod All
+pub mod Ranks
 pub mod Counted
 pub mod Counting

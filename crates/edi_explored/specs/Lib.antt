@@ -1,5 +1,6 @@
 pub mod Moves
 pub mod Reached
+pub mod Within
 pub mod Stint
 pub mod Covered
 pub mod machine

@@ -5,4 +5,5 @@ pub mod Machines
 pub mod PutBacks
 pub mod Kernels
 pub mod Levels
+pub mod Ranks
 pub mod Counted

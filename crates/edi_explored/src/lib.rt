@@ -15,6 +15,7 @@ ghost use Rattle.edi_unit.specs.Tree.{ProgramUnit};
 ghost use Rattle.edi_meaning.specs.Step.{Processes};
 ghost use Rattle.edi_meaning.specs.Rows.{empty_system, program_that_waits, program_where_two_wait};
 ghost use Rattle.edi_explored.specs.Reached.{AreAll, AreAllBelow, AreAllShown, AreAllShownBelow, IsReached, IsShown};
+ghost use Rattle.edi_explored.specs.Within.{MakeFewer};
 ghost use Rattle.edi_explored.specs.Rows.{program_that_loses};
 ghost use Rattle.edi_explored.specs.Covered.{AllTold, AllToldBelow, BeginsWith, Followed, Report, endings, shown_endings};
 
@@ -35,6 +36,12 @@ pub fn followed_is_all<K: Kept>()
         BeginsWith unit system ℕ K.covers v → ((n : ℕ) → K.has n v) → AllTold unit system report }
     ensures below { (unit : ProgramUnit) (system : State) (report : Report) (v most : ℕ) → Followed unit report ℕ K.covers K.has →
         BeginsWith unit system ℕ K.covers v → K.has most v → AllToldBelow most unit system report }
+{}
+
+/// And where it has nothing for no move, no execution makes as many moves as it has followed.
+pub fn followed_is_fewer<K: Kept>()
+    ensures law { (unit : ProgramUnit) (system : State) (report : Report) (v most : ℕ) → Followed unit report ℕ K.covers K.has →
+        ((w : ℕ) → K.has 0 w → ⊥) → BeginsWith unit system ℕ K.covers v → K.has most v → MakeFewer most unit system }
 {}
 
 /// That a report of endings tells all is that these are all; so for endings with what was shown.

@@ -23,6 +23,8 @@ ghost use Rattle.edi_explored.specs.Covered.{AllTold, AllToldBelow, Report};
 ghost use Rattle.edi_explored.specs.machine.Counted.{MovesAreCounted};
 ghost use Rattle.edi_explored.specs.machine.Kernels.{FollowedKernels, IsUnitCode, ReachesAs};
 ghost use Rattle.edi_explored.specs.machine.Levels.{IsClosed, IsLevelled, StateTable};
+ghost use Rattle.edi_explored.specs.Within.{MakeFewer};
+ghost use Rattle.edi_explored.specs.machine.Ranks.{IsLinked, RanksFall};
 ghost use Rattle.edi_explored.specs.machine.Machines.{FollowedMachines, ServesAs};
 ghost use Rattle.edi_explored.specs.machine.PutBacks.{FollowedPutBacks};
 
@@ -98,6 +100,14 @@ pub fn expanded_is_all()
         (table : StateTable) (count : ℕ) → IsClosed code start bound report table count → AllTold unit start report }
     ensures below { (unit : ProgramUnit) → CanBeCoded unit → (code : CodeParts) → IsUnitCode unit code → (start : State) (bound : ℕ) (report : Report)
         (table : StateTable) (starts : ℕ → ℕ) (depth : ℕ) → IsLevelled code start bound report table starts depth → AllToldBelow (suc depth) unit start report }
+{}
+
+/// A search that has expanded each of its states, of which it knows where their stints lead. Where each state has a rank, and the ranks fall from a
+/// state to those to which it leads, no execution makes more moves than `most`, which is above the rank of each state that the first stint leads to.
+pub fn ranked_is_fewer()
+    ensures law { (unit : ProgramUnit) → CanBeCoded unit → (code : CodeParts) → IsUnitCode unit code → (start : State) (bound : ℕ) (report : Report)
+        (table : StateTable) (count most : ℕ) (firsts : List ℕ) (targets : ℕ → List ℕ) (rank : ℕ → ℕ) →
+        IsLinked code start bound report table count targets firsts → RanksFall rank count most firsts targets → MakeFewer (suc most) unit start }
 {}
 
 /// What a run of the code of a unit comes to with some choices and some bound, these choices reach in the meaning, with all that is shown, unless

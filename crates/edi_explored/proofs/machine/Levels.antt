@@ -121,7 +121,7 @@ expanded_later code start bound report report' table table' next next' v later p
 
 module _ (code : CodeParts) (start : State) (bound : ℕ) (report : Report) (table : StateTable) where
   -- the same report and states, of which others are had
-  same_later : (Had Has : ℕ → Type 0) → ((w : ℕ) → Had w → Has w) → IsLater report report table table Had Has
+  pub same_later : (Had Has : ℕ → Type 0) → ((w : ℕ) → Had w → Has w) → IsLater report report table table Had Has
   same_later Had Has h = record { tells = λ e s t. t; alike = refl; states = λ w i. (h w i, refl, refl) }
 
   abbrev Followed : (ℕ → Type 0) → (ℕ → ℕ → Type 0) → Type 0

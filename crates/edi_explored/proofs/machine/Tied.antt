@@ -26,7 +26,9 @@ use Rattle.edi_follows.specs.places.Lands.{LandsTested, Lands, StepClaim, StepsQ
 use Rattle.edi_explored.specs.machine.Alike.{Other}
 use Rattle.edi_explored.specs.Stint.{Stinted, goes_on, behind, over, stint, stint_after}
 use Rattle.edi_explored.specs.Covered.{SameButTurns, Reordered, CannotGo, Report, Tells, tells_shown, IsCutOrTold, AllTold, AllToldBelow, Followed, BeginsWith}
+use Rattle.edi_explored.specs.Within.{MakeFewer}
 use Rattle.edi_explored.proofs.Induction.{followed_below, followed_all}
+use Rattle.edi_explored.proofs.Fewer.{followed_fewer}
 use Rattle.edi_explored.specs.machine.Machines.{Fails, ServesAs, FollowedFrom, FollowedMachines, CoversBy, IsStart, Covers}
 use Rattle.edi_explored.proofs.machine.Calls.{nothing_shown}
 use Rattle.edi_explored.proofs.machine.Landing.{none, Comes, SwitchesTo, LandsAs, passed, stepped, stint_lands}
@@ -377,3 +379,7 @@ module _ (g : Coded) (system : State) (report : Report) (V : Type 0) (begin : V)
 
   pub machines_all : ((n : ℕ) → Has n begin) → AllTold g.unit system report
   machines_all h = followed_all g.unit system report V (Covers g system report V begin Keeps Has) Has begin machines_followed begins h
+
+  -- and no execution makes more moves, where it has nothing for no move
+  pub machines_fewer : ((v : V) → Has zero v → ⊥) → (most : ℕ) → Has most begin → MakeFewer most g.unit system
+  machines_fewer nothing most h = followed_fewer g.unit system report V (Covers g system report V begin Keeps Has) Has begin most machines_followed nothing begins h
