@@ -7,3 +7,4 @@
 mod kernel;
 #[cfg(test)]
 mod rows;
+pub mod syntax;

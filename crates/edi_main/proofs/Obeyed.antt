@@ -19,10 +19,10 @@ use Rattle.edi_statuses.specs.OnFiles.{IsOfFiles}
 use Rattle.edi_statuses.proofs.Causes.{output_rose}
 use Rattle.edi_statuses.proofs.EachLeft.{each_same}
 use Rattle.edi_statuses.proofs.Silent.{idle, nothing_shown}
-use Rattle.edi_commands.specs.disk.OnDisk.{IsOfDisk, MeansOnDisk, RestStays}
-use Rattle.edi_commands.specs.run.Blaming.{Blaming}
-use Rattle.edi_commands.specs.run.RunMeans.{replaying}
-use Rattle.edi_commands.proofs.run.Meaning.{replayed}
+use Rattle.edi_main.specs.disk.OnDisk.{IsOfDisk, MeansOnDisk, RestStays}
+use Rattle.edi_main.specs.run.Blaming.{Blaming}
+use Rattle.edi_main.specs.run.RunMeans.{replaying}
+use Rattle.edi_main.proofs.run.Meaning.{replayed}
 use Rattle.edi_statuses.specs.Lines.{text_of}
 use Rattle.edi_statuses.specs.Facts.{DriveUse, leaves_drive, mounts_last, mounts_first, formats_to, facts_of}
 use Rattle.edi_statuses.specs.EachObject.{CountsBlocks, CountsNew, CountsUsed, FitsCount, FitsGet, Handed, KeepsImage, LeavesEach, RunStays, UnmountedStay, UnusedStay}

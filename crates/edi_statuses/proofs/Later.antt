@@ -12,7 +12,8 @@ use Rattle.edi_statuses.specs.Outside.{Outside, seen, Lent}
 use Rattle.edi_statuses.specs.Steps.{AfterStep, goes, Fetches, Ready}
 use Rattle.edi_statuses.specs.Executions.{Runnable, text, code, BrokeRun}
 use Rattle.edi_statuses.specs.Sessions.{BootSteps, EndedUnkept, EndedWhole, HoldsSession}
-use Rattle.edi_statuses.specs.Commands.{Comes, Does, IsDone, IsNothing, OnlyKeeps, OnlyBlocks, OnlyShows, ShowsReport, KeepsCode, Runs, AreNew, AreMigrated, ArePut}
+use Rattle.edi_statuses.specs.Facts.{Comes}
+use Rattle.edi_statuses.specs.Commands.{Does, IsDone, IsNothing, OnlyKeeps, OnlyBlocks, OnlyShows, ShowsReport, KeepsCode, Runs, AreNew, AreMigrated, ArePut}
 use Rattle.edi_statuses.specs.Commands.{RunSteps, ExecSteps, WatchSteps, Watches, TextSteps, OldSteps, PutSteps, GetSteps, ListSteps, DemoSteps}
 use Rattle.edi_statuses.specs.Commands.{Demonstrates, Explains, OnItsOwn}
 use Rattle.edi_statuses.specs.Broken.{AtRecord, HasBegun, RanWhole, RanUnkept, IsOpen, ArePutInPart}

@@ -21,7 +21,8 @@ use Rattle.edi_statuses.specs.Steps.{AfterStep, goes, stops, Fetches, FindsPoint
 use Rattle.edi_statuses.specs.Executions.{Runnable, text, code, HasRun, record_of}
 use Rattle.edi_statuses.specs.Walked.{Walks}
 use Rattle.edi_statuses.specs.Accounts.{RunsWith, timable, timeline_files}
-use Rattle.edi_statuses.specs.Commands.{Comes, CommandEffect, Demonstrates, DemonstratesWith, Does, Explains, IsDone, IsNothing, KeepsCode, OnlyBlocks}
+use Rattle.edi_statuses.specs.Facts.{Comes}
+use Rattle.edi_statuses.specs.Commands.{CommandEffect, Demonstrates, DemonstratesWith, Does, Explains, IsDone, IsNothing, KeepsCode, OnlyBlocks}
 use Rattle.edi_statuses.specs.Commands.{Runs, ShowsReport, AreMigrated, AreNew, ArePut, RunSteps, ExecSteps, WatchSteps, Watches, TextSteps, OldSteps}
 use Rattle.edi_statuses.specs.Commands.{OnlyKeeps, OnlyShows, ShowsSize, PutSteps, GetSteps, ListSteps, DemoSteps}
 use Rattle.edi_statuses.specs.Decided.{IsTold, is_decided}

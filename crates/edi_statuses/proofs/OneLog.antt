@@ -5,6 +5,7 @@ use Rattle.edi_calls.specs.Names.{Name}
 use Rattle.edi_calls.specs.Outcome.{Ending}
 use Rattle.edi_calls.specs.State.{State, Traced, fresh}
 use Rattle.edi_lex.specs.declared.symbol.Mark.{Mark}
+use Rattle.edi_tree.proofs.Greatest.{levels_small}
 use Rattle.edi_lex.specs.declared.fault.LexFault.{LexFault}
 use Rattle.edi_lex.specs.Symbols.{symbols_of}
 use Rattle.edi_static.specs.Programs.{Sound}
@@ -50,7 +51,7 @@ module _ (text lines : List ℕ) (watched : List Watched) (finds : FindsPoints t
           let same : finds.0 ≡ u.tree = u.tree_is.one finds.0 t.spells in
           let sound : Sound u.tree = record {
             is_bounded = ∣ record { marks = known.0; last = known.1; spells = u.tree_is.spells; is_bounded = symbols_bounded text known e } ∣₁;
-            shallow = u.tree_is.shallow;
+            shallow = levels_small u.tree 64 u.tree_is.shallow;
             resolved = (unit, u.resolved);
           } in
           logs_are_meant u.tree unit watched (fresh system) bound choices order

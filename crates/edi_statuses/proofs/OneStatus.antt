@@ -28,7 +28,8 @@ use Rattle.edi_statuses.specs.declared.status.Status.{Status}
 use Rattle.edi_statuses.specs.declared.status.Status.TheVariants as status
 use Rattle.edi_statuses.specs.Outside.{Outside, Devices, devices_of, system_on, KernelLeft, Lent}
 use Rattle.edi_statuses.specs.Executions.{Runnable, text, code, HasOutcome, HasRun, Ran, status_of}
-use Rattle.edi_statuses.specs.Commands.{Comes, IsDone, OnlyBlocks, OnlyKeeps, OnlyShows, ShowsReport, KeepsCode, Runs, AreNew, AreMigrated, ArePut}
+use Rattle.edi_statuses.specs.Facts.{Comes}
+use Rattle.edi_statuses.specs.Commands.{IsDone, OnlyBlocks, OnlyKeeps, OnlyShows, ShowsReport, KeepsCode, Runs, AreNew, AreMigrated, ArePut}
 use Rattle.edi_statuses.specs.Commands.{RunSteps, ExecSteps, WatchSteps, Watches, TextSteps, OldSteps, PutSteps, GetSteps, ListSteps, DemoSteps}
 use Rattle.edi_statuses.specs.Commands.{CommandEffect, Demonstrates, DemonstratesWith, Explains, IsShownOf, ShowsSize, size_shown, with_own}
 use Rattle.edi_statuses.specs.Steps.{goes, ◌>>=◌, Accepts, Fetches, Ready}

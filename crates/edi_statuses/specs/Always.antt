@@ -1,16 +1,15 @@
 -- Words of contracts. The laws that a status which words and contents decide is always open: want of memory is never the only answer that is left.
-use Rattle.std.specs.Prelude.{◌≡◌, ◌≤◌, ◌⊎◌, ℕ, Bool, true, false, List, [], ◌++◌, Some, None, ⊤}
+use Rattle.std.specs.Prelude.{◌≡◌, ◌⊎◌, ℕ, Bool, true, false, List, [], ◌++◌, Some, None}
 use Rattle.std.specs.List.{list_all}
 use Rattle.edi_host.specs.Blocks.{is_block}
 use Rattle.edi_host.specs.Contents.{Contents}
-use Rattle.edi_calls.specs.State.{is_title}
 use Rattle.edi_words.specs.Words as words
 use Rattle.edi_words.specs.Words.{Command, command_of}
 use Rattle.edi_statuses.specs.declared.status.Status.{Status}
 use Rattle.edi_statuses.specs.Outside.{Outside, Devices, KernelLeft, Lent, idle, outside_with}
-use Rattle.edi_statuses.specs.Steps.{AfterStep, stops, Fetches, Ready}
-use Rattle.edi_statuses.specs.Sessions.{BootSteps}
-use Rattle.edi_statuses.specs.Commands.{CommandEffect, Comes, RunSteps, ExecSteps, WatchSteps, TextSteps, OldSteps, PutSteps, GetSteps, ListSteps, DemoSteps}
+use Rattle.edi_statuses.specs.Steps.{AfterStep, stops}
+use Rattle.edi_statuses.specs.Commands.{CommandEffect}
+use Rattle.edi_statuses.specs.Facts.{Comes, facts_of}
 use Rattle.edi_statuses.specs.Broken.{WentOn}
 use Rattle.edi_statuses.specs.Decided.{IsDecisive}
 use Rattle.edi_statuses.specs.EachObject.{LeavesEach}
@@ -54,27 +53,9 @@ MayEnd c = MayCome c (Comes c)
 abbrev pub OfSteps : Type 1
 OfSteps = (A : Type 0) → (AfterStep A → Type 0) → Type 0
 
--- THE STEPS OF EACH COMMAND, and what is said of them
+-- what is said of the steps of a command
 abbrev pub StepsOf : OfSteps → Command → Outside → Type 0
-StepsOf P (words.run file o) before = P _ (RunSteps before file o.choices)
-StepsOf P (words.replay file choices turns) before = P _ (RunSteps before file (words.file choices))
-StepsOf P (words.exec file o) before = P _ (ExecSteps before file o.choices)
-StepsOf P (words.boot o) before = P _ (BootSteps before o.choices)
-StepsOf P (words.compile file out) before = P _ (TextSteps before file)
-StepsOf P (words.newdisk blocks None) before = P _ (Ready blocks)
-StepsOf P (words.newdisk blocks (Some file)) before = P _ (OldSteps before blocks file)
-StepsOf P (words.put file title) before = P _ (PutSteps before file title)
-StepsOf P (words.get title file) before = P _ (GetSteps before title)
-StepsOf P (words.list file) before = P _ (ListSteps before file)
-StepsOf P (words.demo n o) before = P _ (DemoSteps before o.choices)
-StepsOf P (words.check file) before = P _ (TextSteps before file)
-StepsOf P (words.explain file) before = P _ (Fetches before file)
-StepsOf P (words.walk file choices turns) before = P _ (RunSteps before file (words.file choices))
-StepsOf P (words.watch file points_file out o) before = P _ (WatchSteps before file points_file o.choices)
-StepsOf P (words.explore file o) before = P _ (TextSteps before file)
-StepsOf P (words.run_with file account o) before = P _ (RunSteps before file o.choices)
-StepsOf P (words.exec_with file account o) before = P _ (ExecSteps before file o.choices)
-StepsOf P (words.demo_with n account o) before = P _ (DemoSteps before o.choices)
+StepsOf P c before = P (facts_of c).work.Found ((facts_of c).work.steps before)
 
 -- all of them have gone on
 abbrev pub StepsGo : Command → Outside → Type 0
@@ -99,11 +80,7 @@ SomeStep = (c : Command) (files : Contents) (d : Devices) (kernel : KernelLeft) 
 
 -- what the words of a command give: ranges of numbers, and a title
 abbrev pub IsInRange : Command → Type 0
-IsInRange (words.newdisk blocks old) = (64 ≤ blocks) × (blocks ≤ 4096)
-IsInRange (words.demo n o) = (1 ≤ n) × (n ≤ 1000)
-IsInRange (words.demo_with n account o) = (1 ≤ n) × (n ≤ 1000)
-IsInRange (words.put file title) = is_title title ≡ true
-IsInRange c = ⊤
+IsInRange c = (facts_of c).ranges
 
 -- so of every command that words are
 abbrev pub WordsGiveRanges : Type 0

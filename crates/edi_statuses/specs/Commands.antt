@@ -25,12 +25,10 @@ use Rattle.edi_debug.specs.stops.Stops.{Watched}
 use Rattle.edi_runs.specs.watch.Logs.{IsLogOf}
 use Rattle.edi_disjoint.specs.Report.{IsReport}
 use Rattle.edi_utils.specs.Demo.{demo_text, demo_line}
-use Rattle.edi_utils.specs.Listing.{listing_of}
 use Rattle.edi_texts.specs.Run.{IsCodeFor}
 use Rattle.edi_texts.specs.Texts.{IsRefused, IsUnit}
 use Rattle.edi_explain.specs.told.Explained.{IsExplained, accepted_text}
-use Rattle.edi_words.specs.Words as words
-use Rattle.edi_words.specs.Words.{Account, ChoicesFrom, Command}
+use Rattle.edi_words.specs.Words.{Account, ChoicesFrom}
 use Rattle.edi_statuses.specs.declared.status.Status.{Status}
 use Rattle.edi_statuses.specs.declared.status.Status.TheVariants as status
 use Rattle.edi_statuses.specs.Lines.{line_end}
@@ -38,10 +36,7 @@ use Rattle.edi_statuses.specs.Outside.{Outside, Keeps, SameFiles, SameBlocks, Sa
 use Rattle.edi_statuses.specs.Outside.{system_on, Devices, devices_of, Lent}
 use Rattle.edi_statuses.specs.Steps.{AfterStep, goes, stops, ◌>>=◌, Ready, Fetches, ReadsChoices, Accepts, Mounts, Loads, ChecksOld}
 use Rattle.edi_statuses.specs.Steps.{FitsDisk, FindsPoints, HasRoom}
-use Rattle.edi_statuses.specs.Executions.{Runnable, text, code, status_of, Ran, record_of}
-use Rattle.edi_statuses.specs.Sessions.{BootSteps, HoldsSession}
-use Rattle.edi_statuses.specs.Walked.{Walks}
-use Rattle.edi_statuses.specs.Explored.{ExploresText}
+use Rattle.edi_statuses.specs.Executions.{Runnable, text, status_of, Ran, record_of}
 use Rattle.edi_statuses.specs.Accounts.{RunsWith}
 
 -- ---- the steps of each command
@@ -271,44 +266,3 @@ put_in title bytes slots = slots_stored title (kind_of_bytes bytes) bytes (relea
 
 abbrev pub ArePut : (title bytes : List ℕ) → List (List ℕ) → List (List ℕ) → Type 0
 ArePut title bytes old new = (length new ≡ length old) × Holds new (put_in title bytes (slots_of old))
-
--- ---- THE TABLE OF COMMANDS, by the statuses that the words and the contents decide
-
-abbrev pub Comes : Command → CommandEffect
-Comes (words.run file o) s before after shown kernel =
-    Does (RunSteps before file o.choices) (λ a. Runs (text a.0) o.turns a.1 o.record_file) s before after shown kernel
-Comes (words.replay file choices turns) s before after shown kernel =
-    Does (RunSteps before file (words.file choices)) (λ a. Runs (text a.0) turns a.1 None) s before after shown kernel
-Comes (words.exec file o) s before after shown kernel =
-    Does (ExecSteps before file o.choices) (λ a. Runs (code a.0) o.turns a.1 o.record_file) s before after shown kernel
-Comes (words.boot o) s before after shown kernel =
-    Does (BootSteps before o.choices) (λ choices s b a shown k. HoldsSession o.turns choices o.record_file s b a shown) s before after shown kernel
-Comes (words.compile file out) s before after shown kernel =
-    Does (TextSteps before file) (λ a. IsDone (KeepsCode out a.0 a.1)) s before after shown kernel
-Comes (words.newdisk blocks None) s before after shown kernel =
-    Does (Ready blocks) (λ n. IsDone (OnlyBlocks (AreNew n))) s before after shown kernel
-Comes (words.newdisk blocks (Some file)) s before after shown kernel =
-    Does (OldSteps before blocks file) (λ old. IsDone (OnlyBlocks (AreMigrated blocks old))) s before after shown kernel
-Comes (words.put file title) s before after shown kernel =
-    Does (PutSteps before file title) (λ bytes. IsDone (OnlyBlocks (ArePut title bytes))) s before after shown kernel
-Comes (words.get title file) s before after shown kernel =
-    Does (GetSteps before title) (λ bytes. IsDone (OnlyKeeps ((file, bytes) ∷ []))) s before after shown kernel
-Comes (words.list file) s before after shown kernel =
-    Does (ListSteps before file) (λ parts. IsDone (OnlyShows (listing_of parts.words))) s before after shown kernel
-Comes (words.demo n o) s before after shown kernel =
-    Does (DemoSteps before o.choices) (λ choices. Demonstrates n o.turns choices o.record_file) s before after shown kernel
-Comes (words.check file) s before after shown kernel =
-    Does (TextSteps before file) (λ a. IsDone (ShowsReport a.1)) s before after shown kernel
-Comes (words.explain file) s before after shown kernel = Does (Fetches before file) Explains s before after shown kernel
-Comes (words.walk file choices turns) s before after shown kernel =
-    Does (RunSteps before file (words.file choices)) (λ a. Walks a.0 turns a.1) s before after shown kernel
-Comes (words.watch file points_file out o) s before after shown kernel =
-    Does (WatchSteps before file points_file o.choices) (λ a. Watches a.0 a.2 o.turns a.1 out o.record_file) s before after shown kernel
-Comes (words.explore file o) s before after shown kernel =
-    Does (TextSteps before file) (λ a. ExploresText a.0 a.1 o) s before after shown kernel
-Comes (words.run_with file account o) s before after shown kernel =
-    Does (RunSteps before file o.choices) (λ a. RunsWith (text a.0) o.turns a.1 account o.record_file) s before after shown kernel
-Comes (words.exec_with file account o) s before after shown kernel =
-    Does (ExecSteps before file o.choices) (λ a. RunsWith (code a.0) o.turns a.1 account o.record_file) s before after shown kernel
-Comes (words.demo_with n account o) s before after shown kernel =
-    Does (DemoSteps before o.choices) (λ choices. DemonstratesWith n o.turns choices account o.record_file) s before after shown kernel

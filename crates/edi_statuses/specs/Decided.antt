@@ -10,8 +10,7 @@ use Rattle.edi_statuses.specs.Showing.{ClosesWith}
 use Rattle.edi_statuses.specs.Counts.{Counts, HasCause, OutputRose}
 use Rattle.edi_statuses.specs.Outside.{Outside, Shows, Lent, blaming}
 use Rattle.edi_statuses.specs.EachObject.{LeavesEach, command_does, is_before_drive, uses_devices}
-use Rattle.edi_statuses.specs.Commands.{Comes}
-use Rattle.edi_statuses.specs.Facts.{facts_of}
+use Rattle.edi_statuses.specs.Facts.{Comes, facts_of}
 use Rattle.edi_statuses.specs.Means.{EndsWith, Means}
 
 -- A command, or words that are none, came to this status, and the line of the status is still to be shown. A line feed is due before

@@ -37,6 +37,10 @@ uses_drive c = asks_for_drive (facts_of c).drive
 abbrev pub is_silent : Command → Bool
 is_silent c = (facts_of c).silent
 
+-- only such a one tells a watcher how far it is
+abbrev pub is_exploration : Command → Bool
+is_exploration c = (facts_of c).watched
+
 -- the choices stand in a file
 abbrev pub is_in_file : ChoicesFrom → Bool
 is_in_file words.nowhere = false

@@ -9,7 +9,7 @@ use Rattle.edi_runs.specs.explore.Explorations.{Findings, IsExplorationOf}
 use Rattle.edi_runs.specs.explore.Input.{names_accept, most_input}
 use Rattle.edi_runs.specs.explore.Lines.{report_text, summary_of}
 use Rattle.edi_runs.specs.explore.Records.{most_records, record_names, records_of}
-use Rattle.edi_words.specs.Words.{Command, ExploreOptions, explore}
+use Rattle.edi_words.specs.Words.{ExploreOptions}
 use Rattle.edi_statuses.specs.declared.status.Status.{Status}
 use Rattle.edi_statuses.specs.declared.status.Status.TheVariants as status
 use Rattle.edi_statuses.specs.Fronts.{IsFront}
@@ -23,13 +23,6 @@ status_of_summary summary.Fine = status.Ok
 status_of_summary summary.Endless = status.NoEnding
 status_of_summary summary.NotAll = status.NotAll
 status_of_summary (summary.Found n) = status.Found n
-
--- ---- who is told how far it is
-
--- Only an exploration tells it. What it tells is no part of what the call shows.
-abbrev pub is_exploration : Command → Bool
-is_exploration (explore file o) = true
-is_exploration c = false
 
 -- ---- the input
 

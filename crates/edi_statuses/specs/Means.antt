@@ -13,9 +13,9 @@ use Rattle.edi_statuses.specs.Counts.{Counts, HasCause, OutputRose}
 use Rattle.edi_statuses.specs.Outside.{Outside, seen, SameFiles, SameBut, IsSomeFile, Lent}
 use Rattle.edi_statuses.specs.EachObject.{Uses, command_does, uses_devices}
 use Rattle.edi_statuses.specs.Steps.{ChoicesAreThere}
-use Rattle.edi_statuses.specs.Commands.{Comes, IsNothing}
+use Rattle.edi_statuses.specs.Commands.{IsNothing}
 use Rattle.edi_statuses.specs.Broken.{HasNotBegun, names_in}
-use Rattle.edi_statuses.specs.Facts.{FirstFile, no_file, file_named, file_of_choices, facts_of}
+use Rattle.edi_statuses.specs.Facts.{Comes, FirstFile, no_file, file_named, file_of_choices, facts_of}
 
 -- ---- commands that were broken off, by the table of commands
 

@@ -5,9 +5,8 @@ use Rattle.edi_image.specs.Image.{slots_of}
 use Rattle.edi_words.specs.Words.{Command}
 use Rattle.edi_statuses.specs.declared.status.Status.{Status}
 use Rattle.edi_statuses.specs.Outside.{Devices, KernelLeft}
-use Rattle.edi_statuses.specs.Commands.{Comes}
 use Rattle.edi_statuses.specs.Decided.{is_decided}
-use Rattle.edi_statuses.specs.Facts.{facts_of}
+use Rattle.edi_statuses.specs.Facts.{Comes, facts_of}
 use Rattle.edi_statuses.specs.Always.{lent_from, told_outside}
 
 -- Two calls have left the same: the same files of the host; as many blocks with the same files on them, wherever these lie; the same input, and the

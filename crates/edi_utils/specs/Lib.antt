@@ -1,4 +1,5 @@
 pub mod demonstrated
 pub mod Demo
 pub mod Listing
+pub mod Named
 pub mod Tables

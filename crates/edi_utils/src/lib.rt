@@ -4,6 +4,7 @@
 pub mod demonstrated;
 mod demonstration;
 mod kinds;
+pub mod laws;
 mod lines;
 mod names;
 mod utilities;

@@ -1,4 +1,4 @@
-//! Lists linked by index, each checked by every call that reads them.
+//! Lists of distinct nodes, each checked by every call that reads them.
 
 use edi_ring::Lists;
 use std::process::Abort;

@@ -9,7 +9,8 @@ use Rattle.edi_statuses.specs.declared.status.Status.{Status}
 use Rattle.edi_statuses.specs.declared.status.Status.TheVariants as status
 use Rattle.edi_statuses.specs.Outside.{Outside, Devices, Kept, KernelLeft, Lent, with_kept}
 use Rattle.edi_statuses.specs.Steps.{AfterStep, goes, stops}
-use Rattle.edi_statuses.specs.Commands.{CommandEffect, Comes, Does, IsDone, OnlyBlocks, OnlyKeeps, OnlyShows}
+use Rattle.edi_statuses.specs.Facts.{Comes}
+use Rattle.edi_statuses.specs.Commands.{CommandEffect, Does, IsDone, OnlyBlocks, OnlyKeeps, OnlyShows}
 use Rattle.edi_statuses.specs.Decided.{IsDecisive}
 use Rattle.edi_statuses.specs.EachObject.{KeepsImage, LeavesEach, formats}
 use Rattle.edi_statuses.specs.Always.{MayCome, MayEnd, lent_from, told_outside}

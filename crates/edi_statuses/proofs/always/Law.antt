@@ -4,14 +4,11 @@ use Rattle.std.specs.Prelude.{◌⊎◌}
 use Rattle.edi_host.specs.Contents.{Contents}
 use Rattle.edi_words.specs.Words as words
 use Rattle.edi_words.specs.Words.{Command}
-use Rattle.edi_statuses.specs.declared.status.Status.{Status}
 use Rattle.edi_statuses.specs.Outside.{Devices, KernelLeft, idle}
-use Rattle.edi_statuses.specs.Steps.{AfterStep, goes, stops, Fetches, Ready}
-use Rattle.edi_statuses.specs.Sessions.{BootSteps}
-use Rattle.edi_statuses.specs.Commands.{Comes, IsNothing, RunSteps, ExecSteps, WatchSteps, TextSteps, OldSteps, PutSteps, GetSteps, ListSteps}
-use Rattle.edi_statuses.specs.Commands.{DemoSteps}
-use Rattle.edi_statuses.specs.Broken.{WentOn}
-use Rattle.edi_statuses.specs.Always.{HasBlocks, IsInRange, IsStopped, MayEnd, SomeStatus, SomeStep, StepsGo, StepsStop, is_open, told_outside}
+use Rattle.edi_statuses.specs.Steps.{goes, stops}
+use Rattle.edi_statuses.specs.Commands.{IsNothing}
+use Rattle.edi_statuses.specs.Facts.{facts_of}
+use Rattle.edi_statuses.specs.Always.{HasBlocks, IsInRange, IsStopped, MayEnd, SomeStatus, SomeStep, StepsGo, is_open, told_outside}
 use Rattle.edi_statuses.proofs.always.Steps.{ComesTo, boot_some, choices_some, exec_some, fetches_some, get_some, list_some, old_steps_some, put_some, ready_some, run_some}
 use Rattle.edi_statuses.proofs.always.Steps.{text_some, watch_some}
 use Rattle.edi_statuses.proofs.always.Plain.{compile_may, explore_may, get_may, list_may, new_disk_may}
@@ -27,53 +24,31 @@ module _ (files : Contents) (d : Devices) (kernel : KernelLeft) where
   abbrev nothing : IsNothing (told_outside files d) (told_outside files d) [] (idle kernel)
   nothing = record { shown_ = refl; same = record { files = refl; blocks = refl; input = refl; printed = refl }; kernel_same = refl }
 
-  -- of a command with these steps
-  step_of : {A : Type 0} (c : Command) (steps : AfterStep A → Type 0) → ComesTo steps
-      → ((s : Status) → steps (stops s)
-      → StepsStop s c (told_outside files d) × Comes c s (told_outside files d) (told_outside files d) [] (idle kernel))
-      → IsStopped c files d kernel ⊎ WentOn steps
-  step_of c steps (stops s, h, fine) is = inl (record { answer = s; decisive = fine; stopped = (is s h).0; comes = (is s h).1 })
-  step_of c steps (goes a, h, fine) is = inr (a, h)
+  -- each step comes to something
+  steps_come : (c : Command) → ComesTo ((facts_of c).work.steps (told_outside files d))
+  steps_come (words.run file o) = run_some files d file o.choices
+  steps_come (words.replay file choices turns) = run_some files d file (words.file choices)
+  steps_come (words.exec file o) = exec_some files d file o.choices
+  steps_come (words.boot o) = boot_some files d o.choices
+  steps_come (words.compile file out) = text_some files d file
+  steps_come (words.newdisk blocks None) = ready_some blocks
+  steps_come (words.newdisk blocks (Some file)) = old_steps_some files d blocks file
+  steps_come (words.put file title) = put_some files d file title
+  steps_come (words.get title file) = get_some files d title
+  steps_come (words.list file) = list_some files d file
+  steps_come (words.demo n o) = choices_some files d o.choices
+  steps_come (words.check file) = text_some files d file
+  steps_come (words.explain file) = fetches_some files d file
+  steps_come (words.walk file choices turns) = run_some files d file (words.file choices)
+  steps_come (words.watch file points_file out o) = watch_some files d file points_file o.choices
+  steps_come (words.explore file o) = text_some files d file
+  steps_come (words.run_with file account o) = run_some files d file o.choices
+  steps_come (words.exec_with file account o) = exec_some files d file o.choices
+  steps_come (words.demo_with n account o) = choices_some files d o.choices
 
-  some_of : (c : Command) → IsStopped c files d kernel ⊎ StepsGo c (told_outside files d)
-  some_of (words.run file o) =
-      step_of (words.run file o) (RunSteps (told_outside files d) file o.choices) (run_some files d file o.choices) (λ s h. (h, inl (h, nothing)))
-  some_of (words.replay file choices turns) =
-      step_of (words.replay file choices turns) (RunSteps (told_outside files d) file (words.file choices)) (run_some files d file (words.file choices)) (λ s h. (h, inl (h, nothing)))
-  some_of (words.exec file o) =
-      step_of (words.exec file o) (ExecSteps (told_outside files d) file o.choices) (exec_some files d file o.choices) (λ s h. (h, inl (h, nothing)))
-  some_of (words.boot o) =
-      step_of (words.boot o) (BootSteps (told_outside files d) o.choices) (boot_some files d o.choices) (λ s h. (h, inl (h, nothing)))
-  some_of (words.compile file out) =
-      step_of (words.compile file out) (TextSteps (told_outside files d) file) (text_some files d file) (λ s h. (h, inl (h, nothing)))
-  some_of (words.newdisk blocks None) =
-      step_of (words.newdisk blocks None) (Ready blocks) (ready_some blocks) (λ s h. (h, inl (h, nothing)))
-  some_of (words.newdisk blocks (Some file)) =
-      step_of (words.newdisk blocks (Some file)) (OldSteps (told_outside files d) blocks file) (old_steps_some files d blocks file) (λ s h. (h, inl (h, nothing)))
-  some_of (words.put file title) =
-      step_of (words.put file title) (PutSteps (told_outside files d) file title) (put_some files d file title) (λ s h. (h, inl (h, nothing)))
-  some_of (words.get title file) =
-      step_of (words.get title file) (GetSteps (told_outside files d) title) (get_some files d title) (λ s h. (h, inl (h, nothing)))
-  some_of (words.list file) =
-      step_of (words.list file) (ListSteps (told_outside files d) file) (list_some files d file) (λ s h. (h, inl (h, nothing)))
-  some_of (words.demo n o) =
-      step_of (words.demo n o) (DemoSteps (told_outside files d) o.choices) (choices_some files d o.choices) (λ s h. (h, inl (h, nothing)))
-  some_of (words.check file) =
-      step_of (words.check file) (TextSteps (told_outside files d) file) (text_some files d file) (λ s h. (h, inl (h, nothing)))
-  some_of (words.explain file) =
-      step_of (words.explain file) (Fetches (told_outside files d) file) (fetches_some files d file) (λ s h. (h, inl (h, nothing)))
-  some_of (words.walk file choices turns) =
-      step_of (words.walk file choices turns) (RunSteps (told_outside files d) file (words.file choices)) (run_some files d file (words.file choices)) (λ s h. (h, inl (h, nothing)))
-  some_of (words.watch file points_file out o) =
-      step_of (words.watch file points_file out o) (WatchSteps (told_outside files d) file points_file o.choices) (watch_some files d file points_file o.choices) (λ s h. (h, inl (h, nothing)))
-  some_of (words.explore file o) =
-      step_of (words.explore file o) (TextSteps (told_outside files d) file) (text_some files d file) (λ s h. (h, inl (h, nothing)))
-  some_of (words.run_with file account o) =
-      step_of (words.run_with file account o) (RunSteps (told_outside files d) file o.choices) (run_some files d file o.choices) (λ s h. (h, inl (h, nothing)))
-  some_of (words.exec_with file account o) =
-      step_of (words.exec_with file account o) (ExecSteps (told_outside files d) file o.choices) (exec_some files d file o.choices) (λ s h. (h, inl (h, nothing)))
-  some_of (words.demo_with n account o) =
-      step_of (words.demo_with n account o) (DemoSteps (told_outside files d) o.choices) (choices_some files d o.choices) (λ s h. (h, inl (h, nothing)))
+  some_of : (c : Command) → ComesTo ((facts_of c).work.steps (told_outside files d)) → IsStopped c files d kernel ⊎ StepsGo c (told_outside files d)
+  some_of c (stops s, h, fine) = inl (record { answer = s; decisive = fine; stopped = h; comes = inl (h, nothing) })
+  some_of c (goes a, h, fine) = inr (a, h)
 
   open_of : (c : Command) → is_open c ≡ true → IsInRange c → HasBlocks d → MayEnd c files d kernel
   open_of (words.run file o) is range sized = run_may files d kernel sized file o
@@ -98,7 +73,7 @@ module _ (files : Contents) (d : Devices) (kernel : KernelLeft) where
 
 -- THE LAWS
 pub some_step : SomeStep
-some_step c files d kernel = some_of files d kernel c
+some_step c files d kernel = some_of files d kernel c (steps_come files d kernel c)
 
 pub some_status : SomeStatus
 some_status c files d kernel is range sized = open_of files d kernel c is range sized

@@ -2,9 +2,13 @@
 use Rattle.std.proofs.Common.{◌≡◌, ℕ, zero, suc, ◌+◌, ◌-◌, ◌*◌, ◌≤◌, List, ◌++◌, refl, arith}
 use Rattle.edi_lex.specs.declared.symbol.Symbol.{Symbol}
 use Rattle.edi_lex.specs.declared.symbol.Mark.{Mark}
-use Rattle.edi_tree.specs.Spelled.{Spelled, declarations_then, statements_then, list_then}
-use Rattle.edi_tree.specs.Spells.{Spells, StandAsMarks}
-use Rattle.edi_tree.specs.Depth.{depth, declarations_depth, statements_depth}
+use Rattle.edi_tree.specs.Stands.{Spelled, StandAsMarks}
+use Rattle.edi_tree.specs.Spelled.{declarations_then, statements_then, list_then}
+use Rattle.edi_tree.specs.Spells.{Spells}
+use Rattle.edi_tree.specs.Levels.{most_levels}
+use Rattle.edi_tree.specs.Depth.{declarations_depth, statements_depth}
+use Rattle.edi_tree.proofs.Greatest.{greatest_is_depth}
+use Rattle.edi_tree.proofs.Marks.{parts_spell}
 use Rattle.edi_grammar.specs.derivation.Faults.{IsTheTree}
 use Rattle.edi_grammar.proofs.derivation.Programs.{same_program}
 use Rattle.edi_utils.specs.demonstrated.Symbols.{procedures_marks, next_calls_marks, calls_marks, demo_marks}
@@ -36,10 +40,10 @@ calls_stand n line more marks h = kept (next_calls_stand 2 (n - 1) line more mar
 tree_spells : (n : ℕ) → Spells (demo_tree n) (demo_marks n)
 tree_spells n =
     let line : ℕ = 3 + 2 * n in
-    free (kept (free (kept (free (kept
+    parts_spell (demo_tree n) (demo_marks n) (free (kept (free (kept (free (kept
     (procedures_stand 1 n 3 _ _ (free (kept (free (kept
     (calls_stand n (line + 1) _ _ (kept (free (kept
-    (calls_stand n (line + 2) _ _ (kept (kept tt)))))))))))))))))
+    (calls_stand n (line + 2) _ _ (kept (kept tt))))))))))))))))))
 
 procedures_depth : (i n line : ℕ) → declarations_depth (procedure_trees i n line) ≤ 2
 procedures_depth i zero line = omega arith
@@ -49,10 +53,10 @@ next_calls_depth : (i n line : ℕ) → statements_depth (next_call_trees i n li
 next_calls_depth i zero line = omega arith
 next_calls_depth i (suc n) line = omega (arith, next_calls_depth (suc i) n line)
 
-tree_shallow : (n : ℕ) → depth (demo_tree n) ≤ 64
+tree_shallow : (n : ℕ) → most_levels (demo_tree n) ≤ 64
 tree_shallow n =
     let line : ℕ = 3 + 2 * n in
-    omega (arith, procedures_depth 1 n 3, next_calls_depth 2 (n - 1) (line + 1), next_calls_depth 2 (n - 1) (line + 2))
+    omega (arith, greatest_is_depth (demo_tree n), procedures_depth 1 n 3, next_calls_depth 2 (n - 1) (line + 1), next_calls_depth 2 (n - 1) (line + 2))
 
 pub is_the_tree : (n : ℕ) → IsTheTree (demo_marks n) (demo_tree n)
 is_the_tree n = record {

@@ -3,8 +3,7 @@ use Rattle.edi_words.specs.Words as words
 use Rattle.edi_words.specs.View.{account_of, exploring_of, options_of, view}
 use Rattle.edi_words.specs.declared.commands.Command.{Command}
 use Rattle.edi_words.specs.declared.commands.Command.TheVariants as command
-use Rattle.edi_statuses.specs.EachObject.{command_does, uses_devices}
-use Rattle.edi_statuses.specs.Explored.{is_exploration}
+use Rattle.edi_statuses.specs.EachObject.{command_does, is_exploration, uses_devices}
 use Rattle.edi_statuses.specs.Outside.{kernel_of}
 use Rattle.edi_statuses.proofs.EachLeft.{same_valid, untouched, untouched_alone, untouched_but_input, untouched_but_kernel, untouched_drive}
 use Rattle.edi_statuses.proofs.Silent.{on_files}

@@ -1,0 +1,11 @@
+pub mod TitleTexts
+pub mod Slots
+pub mod Full
+pub mod Over
+pub mod Meant
+pub mod Counted
+pub mod PutMeans
+pub mod GetMeans
+pub mod NewMeans
+pub mod OldMeans
+pub mod Short
