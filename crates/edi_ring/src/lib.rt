@@ -147,8 +147,10 @@ fn lengthen(row: &mut Row, node: usize)
     ensures { row.new ≡ lengthened row.old node }
 {
     make_room(row);
-    row.nodes[row.start + row.len] = node as u8;
-    row.len += 1;
+    // Read once: LLVM does not know that the byte which is written is none of it.
+    let len = row.len;
+    row.nodes[row.start + len] = node as u8;
+    row.len = len + 1;
 }
 
 // The same of a row among others.
