@@ -1,18 +1,17 @@
--- Procedures that are begun, without one of them.
-use Rattle.std.proofs.Common.{◌≡◌, ℕ, Bool, true, false, not, List, [], ◌∷◌, map, filter, if◌then◌else◌, refl, ap}
-use Rattle.std.specs.Str.{bytes_eq}
-use Rattle.edi_static.specs.declared.known.Begun as code_begun
+-- The first procedure that is begun.
+use Rattle.std.proofs.Common.{◌≡◌, ℕ, List, [], ◌∷◌, Some, None, refl, sym, ap, unwrap_or}
+use Rattle.std.specs.Option.{option_map}
+use Rattle.edi_static.specs.declared.faults.StaticKind.TheVariants as kind
+use Rattle.edi_static.specs.Judged.{gives, faults}
 use Rattle.edi_static.specs.Environment.{Begun}
-use Rattle.edi_static.specs.Declarations.{without_begun}
-use Rattle.edi_static.specs.Views.{begun_of}
+use Rattle.edi_static.specs.Declarations.{all_completed}
+use Rattle.edi_static.specs.Waiting.{first_of}
 
-kept : (b : Bool) (x : code_begun.Begun) (ys : List code_begun.Begun) (zs : List Begun) → map begun_of ys ≡ zs →
-    map begun_of (if b then x ∷ ys else ys) ≡ (if b then begun_of x ∷ zs else zs)
-kept true x ys zs e = ap (λ zs. begun_of x ∷ zs) e
-kept false x ys zs e = e
+-- its line is that of the fault
+pub first_waits : (bs : List Begun) (line : ℕ) → Some line ≡ option_map (λ b. b.name.line) (first_of bs) → all_completed bs ≡ faults kind.Split line
+first_waits [] line e = absurd (cc)
+first_waits (b ∷ bs) line e = ap (λ o. faults kind.Split (unwrap_or o 0)) (sym e)
 
-pub without_mapped : (name : List ℕ) (xs : List code_begun.Begun) →
-    map begun_of (filter (λ b. not (bytes_eq b.name.text name)) xs) ≡ without_begun name (map begun_of xs)
-without_mapped name [] = refl
-without_mapped name (x ∷ xs) =
-    kept (not (bytes_eq x.name.text name)) x (filter (λ b. not (bytes_eq b.name.text name)) xs) (without_begun name (map begun_of xs)) (without_mapped name xs)
+pub none_waits : (bs : List Begun) → None ≡ option_map (λ b. b.name.line) (first_of bs) → all_completed bs ≡ gives tt
+none_waits [] e = refl
+none_waits (b ∷ bs) e = absurd (cc)

@@ -1,8 +1,8 @@
 //! The begin and the end of procedures and modules, round their declarations; and declarations without a body.
 
-ghost use Rattle.std.specs.Prelude.{◌≡◌, ◌<◌, [], length, map, IfOk, OnOk};
+ghost use Rattle.std.specs.Prelude.{◌≡◌, ◌<◌, [], length, IfOk, OnOk};
 ghost use Rattle.edi_tree.specs.View.{const_list_of, type_decl_of, var_list_of, list_of};
-ghost use Rattle.edi_static.specs.Prelude.{JudgedAnswers, Proper, begun_of, environment, gives};
+ghost use Rattle.edi_static.specs.Prelude.{JudgedAnswers, Proper, environment, gives};
 ghost use Rattle.edi_static.specs.Environment as environments;
 ghost use Rattle.edi_static.specs.Headings as headings;
 ghost use Rattle.edi_static.specs.Types as types;
@@ -15,7 +15,7 @@ ghost use Rattle.edi_sema.specs.Bodies.{finished, finished_module, inside_module
 use crate::blocks::{add_statements, close_block, enter_around, leave_around};
 use crate::procedures::all_completed;
 use crate::statements::statement_list;
-use edi_static::{Begun, Judged, Known, const_list, type_decl, var_list};
+use edi_static::{Judged, Known, Splits, const_list, type_decl, var_list};
 use edi_tree::{ConstList, List, TypeDecl, VarList};
 use std::alloc::Global;
 
@@ -52,18 +52,18 @@ pub fn variables(known: &mut Known, alloc: Global, export: bool, list: &VarList)
 }
 
 /// Takes out the procedures that are begun.
-fn take_begun(known: &mut Known, alloc: Global) -> Vec<Begun>
+fn take_begun(known: &mut Known, alloc: Global) -> Splits
     ensures exact { environment known.new ≡ with_begun [] (environment known.old) }
-    ensures begun { map begun_of result.items ≡ (environment known.old).begun }
+    ensures begun { result ≡ (environment known.old).begun }
 {
-    std::mem::replace(&mut known.begun, Vec::new(alloc))
+    std::mem::replace(&mut known.begun, Splits::new(alloc))
 }
 
 /// Enters a block whose heading's scope is the innermost, and gives the procedures that are begun round it.
-pub fn open_block(known: &mut Known, alloc: Global, block: u32) -> Judged<Vec<Begun>>
+pub fn open_block(known: &mut Known, alloc: Global, block: u32) -> Judged<Splits>
     requires stands { EnvironmentStands (environment known.old) }
     ensures exact { JudgedAnswers (λ _. environment known.new) result (gives (spec.enter_block block (environment known.old))) }
-    ensures begun { IfOk result (λ begun. map begun_of begun.items ≡ (environment known.old).begun) }
+    ensures begun { IfOk result (λ begun. begun ≡ (environment known.old).begun) }
     ensures stands { OnOk result (EnvironmentStands (environment known.new)) }
 {
     enter_around(known, block)?;
@@ -71,10 +71,10 @@ pub fn open_block(known: &mut Known, alloc: Global, block: u32) -> Judged<Vec<Be
 }
 
 /// Enters a module, and gives the procedures that are begun round it.
-pub fn open_module(known: &mut Known, alloc: Global) -> Judged<Vec<Begun>>
+pub fn open_module(known: &mut Known, alloc: Global) -> Judged<Splits>
     requires stands { EnvironmentStands (environment known.old) }
     ensures exact { JudgedAnswers (λ _. environment known.new) result (gives (inside_module (environment known.old))) }
-    ensures begun { IfOk result (λ begun. map begun_of begun.items ≡ (environment known.old).begun) }
+    ensures begun { IfOk result (λ begun. begun ≡ (environment known.old).begun) }
     ensures stands { OnOk result (EnvironmentStands (environment known.new)) }
 {
     known.enter(alloc, true)?;
@@ -82,10 +82,10 @@ pub fn open_module(known: &mut Known, alloc: Global) -> Judged<Vec<Begun>>
 }
 
 /// Closes the innermost scope. These procedures are begun round it.
-pub fn close_scope(known: &mut Known, begun: Vec<Begun>)
+pub fn close_scope(known: &mut Known, begun: Splits)
     requires depth { 1 < length known.old.scopes }
     requires proper { Proper (environment known.old) }
-    ensures exact { environment known.new ≡ headings.leave (with_begun (map begun_of begun.items) (environment known.old)) }
+    ensures exact { environment known.new ≡ headings.leave (with_begun begun (environment known.old)) }
     ensures proper { Proper (environment known.new) }
 {
     known.begun = begun;
@@ -93,10 +93,10 @@ pub fn close_scope(known: &mut Known, begun: Vec<Begun>)
 }
 
 /// Leaves the innermost block, whose scope is closed with it. These procedures are begun round it.
-pub fn leave_block(known: &mut Known, begun: Vec<Begun>)
+pub fn leave_block(known: &mut Known, begun: Splits)
     requires depth { 1 < length known.old.scopes }
     requires proper { Proper (environment known.old) }
-    ensures exact { environment known.new ≡ headings.leave (with_begun (map begun_of begun.items) (outside_block (environment known.old))) }
+    ensures exact { environment known.new ≡ headings.leave (with_begun begun (outside_block (environment known.old))) }
     ensures proper { Proper (environment known.new) }
 {
     leave_around(known);

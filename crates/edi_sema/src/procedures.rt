@@ -1,10 +1,10 @@
 //! The rules on the headings of procedures, also of split ones.
 
-ghost use Rattle.std.specs.Prelude.{◌≡◌, ◌≤◌, ◌<◌, ◌++◌, ◌∷◌, [], length, map, unwrap_or, Err, IsTrue, IfOk, IfSome, OnErr, OnOk};
+ghost use Rattle.std.specs.Prelude.{◌≡◌, ◌≤◌, ◌<◌, ◌++◌, ◌∷◌, [], length, unwrap_or, Err, IsTrue, IfOk, IfSome, OnErr, OnOk};
 ghost use Rattle.edi_scope.specs.declared.entity.Entity.TheVariants as entity;
 ghost use Rattle.edi_scope.specs.Scope.{in_module, outside};
 ghost use Rattle.edi_tree.specs.View.{heading_of};
-ghost use Rattle.edi_static.specs.Prelude.{JudgedAnswers, Proper, asked_of, begun_of, environment, gives, heading_result};
+ghost use Rattle.edi_static.specs.Prelude.{JudgedAnswers, Proper, asked_of, environment, gives, heading_result};
 ghost use Rattle.edi_static.specs.Environment.{heading_at, same_heading};
 ghost use Rattle.edi_static.specs.Headings.{round};
 ghost use Rattle.edi_static.specs.Environment as environments;
@@ -15,8 +15,8 @@ ghost use Rattle.edi_sema.specs.Splits.{block_named, post_block, posted, with_be
 use edi_lex::Text;
 use edi_scope::Entity;
 use edi_static::{
-    Asked, Begun, Judged, Known, StaticFault, StaticKind, fault, heading_parts, must, no_asked,
-    number, put, same_asked,
+    Asked, Judged, Known, StaticFault, StaticKind, fault, heading_parts, must, no_asked, number,
+    put, same_asked,
 };
 use edi_tree::{Heading, Name};
 use edi_unit::BlockKind;
@@ -82,23 +82,11 @@ pub fn begin_procedure(
     begin_block_of(known, alloc, export, kind, &heading.name, block, asked)
 }
 
-/// The block of the procedure of this name among these, if there is one.
-fn begun_named(begun: &[Begun], name: &[u8]) -> Option<u32>
-    ensures exact { result ≡ block_named (map begun_of begun.now) name.now }
-{
-    for one in begun {
-        if one.name.text.as_slice() == name {
-            return Some(one.block);
-        }
-    }
-    None
-}
-
 /// The block of the procedure of this name that is begun, if there is one.
 fn begun_block(known: &Known, name: &Name) -> Option<u32>
     ensures exact { result ≡ block_named (environment known.now).begun name.now.text }
 {
-    begun_named(known.begun.as_slice(), name.text.as_slice())
+    known.begun.block_of(name.text.as_slice())
 }
 
 /// Whether the heading of a block has this shape; an unknown block asks nothing.
@@ -200,12 +188,12 @@ fn copy_name(alloc: Global, name: &Name) -> Result<Name, StaticFault>
 }
 
 /// A procedure is begun.
-#[tactic(auto, using(edi_static::proofs::Proper::pushed))]
-fn begin_split(known: &mut Known, begun: Begun) -> Judged<()>
+fn begin_split(known: &mut Known, alloc: Global, name: Name, block: u32) -> Judged<()>
     ensures exact { JudgedAnswers (λ _. environment known.new) result
-        (gives (with_begun ((environment known.old).begun ++ begun_of begun ∷ []) (environment known.old))) }
+        (gives (with_begun ((environment known.old).begun ++ record { name = name; block = block } ∷ []) (environment known.old))) }
 {
-    put(&mut known.begun, begun)
+    known.begun.push(alloc, name, block)?;
+    Ok(())
 }
 
 /// A `pre` alone: its heading's scope ends at once.
@@ -217,15 +205,15 @@ pub fn pre_decl(known: &mut Known, alloc: Global, export: bool, heading: &Headin
     let block = begin_procedure(known, alloc, export, heading)?;
     known.leave();
     let name = copy_name(alloc, &heading.name)?;
-    begin_split(known, Begun { name, block })
+    begin_split(known, alloc, name, block)
 }
 
 /// At the `begin` of a scope each procedure that is begun in it has been completed.
 pub(crate) fn all_completed(known: &Known) -> Judged<()>
     ensures exact { JudgedAnswers (λ _. tt) result (spec.all_completed (environment known.now).begun) }
 {
-    match known.begun.first() {
-        Some(begun) => fault(StaticKind::Split, begun.name.line),
+    match known.begun.first_line() {
+        Some(line) => fault(StaticKind::Split, line),
         None => Ok(()),
     }
 }
@@ -234,8 +222,5 @@ pub(crate) fn all_completed(known: &Known) -> Judged<()>
 pub fn completed(known: &mut Known, name: &Name)
     ensures exact { environment known.new ≡ with_begun (spec.without_begun name.now.text (environment known.old).begun) (environment known.old) }
 {
-    let name = name.text.as_slice();
-    known
-        .begun
-        .retain(|begun| begun.name.text.as_slice() != name);
+    known.begun.complete(name.text.as_slice());
 }

@@ -5,6 +5,8 @@ pub mod Steps
 pub mod Behind
 pub mod Fields
 pub mod Spellings
+pub mod Listed
+pub mod Rows
 pub mod Lengths
 pub mod Declared
 pub mod Lasting

@@ -15,6 +15,7 @@ pub mod Statements
 pub mod Declarations
 pub mod Programs
 pub mod Answers
+pub mod Waiting
 pub mod Views
 pub mod Prelude
 pub mod Laws

@@ -7,5 +7,5 @@ pub use Rattle.edi_static.specs.Judged.{gives}
 pub use Rattle.edi_static.specs.Answers.{JudgedAnswers}
 pub use Rattle.edi_static.specs.Proper.{EntityFits, Proper}
 pub use Rattle.edi_static.specs.Declaring.{Declares, MayDeclare}
-pub use Rattle.edi_static.specs.Views.{asked_of, begun_of, environment, formal_of, headed_of, linked_of, listed_of, ordinal_of, parted_of, rooted_of, same_one}
+pub use Rattle.edi_static.specs.Views.{asked_of, environment, formal_of, headed_of, linked_of, listed_of, ordinal_of, parted_of, rooted_of, same_one}
 pub use Rattle.edi_static.specs.Views.{typed_of}

@@ -9,7 +9,6 @@ use Rattle.edi_static.specs.declared.headings.Asked as code_asked
 use Rattle.edi_static.specs.declared.headings.Formal as code_formal
 use Rattle.edi_static.specs.declared.headings.Formal.TheOpen.{Formal-F, Asked-F}
 use Rattle.edi_static.specs.declared.headings.Formal.TheFolds.{fold-Formal, fold-Asked}
-use Rattle.edi_static.specs.declared.known.Begun as code_begun
 use Rattle.edi_static.specs.declared.known.Known.{Known}
 use Rattle.edi_static.specs.declared.operands.Typed as code_typed
 use Rattle.edi_static.specs.declared.operands.Linked as code_linked
@@ -20,7 +19,7 @@ use Rattle.edi_static.specs.Types.{Ordinal, Fields}
 use Rattle.edi_static.specs.declared.parts.Parted as code_parted
 use Rattle.edi_static.specs.Fitting.{Rooted}
 use Rattle.edi_static.specs.Expressions.{Parted}
-use Rattle.edi_static.specs.Environment.{Begun, Environment, same_heading}
+use Rattle.edi_static.specs.Environment.{Environment, same_heading}
 use Rattle.edi_static.specs.Headings.{Listed, Headed}
 use Rattle.edi_static.specs.Operators.{Typed, Linked}
 use Rattle.edi_unit.specs.declared.lists.List as code_list
@@ -64,9 +63,6 @@ parameter_of (value t) = slot.Value t
 parameter_of (variable t) = slot.Var t
 parameter_of (procedure h) = slot.Formal (heading_result h)
 
-abbrev pub begun_of : code_begun.Begun → Begun
-begun_of b = record { name = b.name; block = b.block }
-
 -- the environment that the code knows
 abbrev pub environment : Known → Environment
 environment known = record {
@@ -77,7 +73,7 @@ environment known = record {
   headings = map asked_of known.headings.items;
   shapes = map asked_of known.shapes.items;
   around = known.around.items;
-  begun = map begun_of known.begun.items;
+  begun = known.begun;
 }
 
 -- the environment and the parameters of a heading so far, and after its result

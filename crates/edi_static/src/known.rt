@@ -14,17 +14,11 @@ ghost use Rattle.edi_static.specs.declared.faults.StaticFault.TheVariants as why
 use crate::faults::{Judged, StaticFault, StaticKind};
 use crate::headings::Asked;
 use crate::records::FieldNames;
+use crate::splits::Splits;
 use edi_scope::{Entity, ScopeFault, Scopes};
 use edi_tree::Name;
 use edi_unit::{Block, List, Shape, TypeTable, Value};
 use std::alloc::{AllocError, AllocFailed, Global};
-
-/// A procedure whose `pre` has stood and whose `post` is still to come.
-#[derive(Drop)]
-pub struct Begun {
-    pub name: Name,
-    pub block: u32,
-}
 
 /// What is known at a place.
 #[derive(Drop)]
@@ -41,7 +35,7 @@ pub struct Known {
     /// The blocks round this place, the innermost first.
     pub around: Vec<u32>,
     /// The procedures of the innermost scope that are begun, in the order of the text.
-    pub begun: Vec<Begun>,
+    pub begun: Splits,
 }
 
 /// A fault of this kind at this line.

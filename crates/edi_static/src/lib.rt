@@ -14,7 +14,9 @@ pub mod nesting;
 mod operands;
 mod params;
 mod parts;
+mod places;
 mod records;
+mod splits;
 mod tables;
 mod types;
 mod variables;
@@ -29,7 +31,7 @@ pub use headings::{
     Asked, Formal, asked_formals, asked_result, copy_asked, heading_with, kept_parameters,
     no_asked, parameters_of, plain_formal, procedure_formal, push_formal, same_asked, same_formal,
 };
-pub use known::{Begun, Known, add, boxed, fault, must, number, put};
+pub use known::{Known, add, boxed, fault, must, number, put};
 pub use operands::{
     Linked, Typed, addition_operator, is_set, multiplication_operator, operated, relation_operator,
     signed, with_links,
@@ -37,5 +39,6 @@ pub use operands::{
 pub use params::heading_parts;
 pub use parts::{Parted, element_of, field_of};
 pub use records::FieldNames;
+pub use splits::Splits;
 pub use types::type_decl;
 pub use variables::var_list;

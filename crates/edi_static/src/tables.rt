@@ -11,6 +11,7 @@ use crate::faults::{Judged, StaticFault};
 use crate::headings::{Asked, asked_result, copy_asked, kept_parameters};
 use crate::known::{Known, add, number, put};
 use crate::records::FieldNames;
+use crate::splits::Splits;
 use edi_scope::Scopes;
 use edi_unit::{Block, BlockKind, List, Parameters, Shape, TypeTable};
 use indexmap::IndexSet;
@@ -65,7 +66,7 @@ impl Known {
             headings: Vec::new(alloc),
             shapes: Vec::new(alloc),
             around: Vec::new(alloc),
-            begun: Vec::new(alloc),
+            begun: Splits::new(alloc),
         })
     }
 

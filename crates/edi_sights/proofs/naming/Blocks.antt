@@ -1,5 +1,5 @@
 -- Statements: each branch of a `cobegin` is a block that is named.
-use Rattle.std.proofs.Common.{◌≡◌, ℕ, List, [], ◌∷◌, ◌++◌, length, map, None, nat_le, ◌==◌, refl, ◌∙◌}
+use Rattle.std.proofs.Common.{◌≡◌, ℕ, List, [], ◌∷◌, length, None, nat_le, ◌==◌, refl, ◌∙◌}
 use Rattle.edi_tree.specs.Tree as text
 use Rattle.edi_unit.specs.declared.units.BlockKind.TheVariants as block_kind
 use Rattle.edi_unit.specs.Types.{int_type, bool_type, greatest_size}
@@ -19,7 +19,7 @@ use Rattle.edi_sights.specs.named.Laws.{slot_count, variable_count}
 use Rattle.edi_sights.specs.named.Naming as naming
 use Rattle.edi_sights.specs.named.Naming.{Naming, with_block, nameless}
 use Rattle.edi_sights.proofs.naming.Counts.{slots_same, one_more}
-use Rattle.edi_sights.proofs.naming.Declared.{Agree, Agrees}
+use Rattle.edi_sights.proofs.naming.Declared.{Agrees}
 
 abbrev pub AfterAgrees : {A : Type 0} → (place : List ℕ) → Naming → After A → Type 0
 AfterAgrees place w done = Agrees place w done.env

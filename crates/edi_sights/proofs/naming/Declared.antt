@@ -1,46 +1,33 @@
 -- Constants, types, variables and headings: what they give the environment is named.
-use Rattle.std.proofs.Common.{◌≡◌, ℕ, suc, ◌+◌, ℤ, Bool, true, false, List, [], ◌∷◌, ◌++◌, length, map, get_or, Option, Some, None, nat_lt, nat_le, is_some}
-use Rattle.std.proofs.Common.{◌||◌, ◌&&◌, ◌==◌, refl, sym, ap, ◌∙◌, arith, length-append}
-use Rattle.std.proofs.lemmas.List.{length-map}
-use Rattle.std.specs.Prelude.{int_le, option_to_list}
+use Rattle.std.proofs.Common.{◌≡◌, ℕ, suc, Bool, List, [], ◌∷◌, ◌++◌, length, map, get_or, nat_lt, nat_le, is_some}
+use Rattle.std.proofs.Common.{◌||◌, ◌&&◌, ◌==◌, refl, sym, ap, ◌∙◌, length-append}
+use Rattle.std.specs.Prelude.{int_le}
 use Rattle.edi_scope.specs.declared.entity.Entity.{Entity}
 use Rattle.edi_scope.specs.Scope.{declared, outside}
 use Rattle.edi_tree.specs.declared.names.Name.{Name}
 use Rattle.edi_tree.specs.declared.constants.Constant.{Constant}
 use Rattle.edi_tree.specs.declared.constants.ConstDecl.{ConstDecl}
 use Rattle.edi_tree.specs.Tree as text
-use Rattle.edi_unit.specs.declared.units.BlockKind.{BlockKind}
-use Rattle.edi_unit.specs.declared.units.Parameter.TheVariants as slot
 use Rattle.edi_unit.specs.Types.{Shape, enumeration, record_of, array_of, set_of, is_elementary, shape_size, size, greatest_size}
 use Rattle.edi_unit.specs.Tree.{Block}
-use Rattle.edi_unit.specs.Headings.{Heading, heading, heading_formals, heading_result, Formals, no_formal, value_then, variable_then, procedure_then}
 use Rattle.edi_static.specs.declared.faults.StaticKind.TheVariants as kind
 use Rattle.edi_static.specs.Judged.{gives, must}
-use Rattle.edi_static.specs.Environment.{Begun, Environment, type_named, declare, enter, here, begun_block, with_type, parameters_of, formals_append}
-use Rattle.edi_static.specs.Environment.{formals_count}
+use Rattle.edi_static.specs.Environment.{Begun, Environment, type_named, declare, here, with_type}
 use Rattle.edi_static.specs.Types.{constant, const_decl, const_decls, const_list, most_constants, names_count, enum_constants, enum_decl, fields_of_groups}
 use Rattle.edi_static.specs.Types.{no_fields, declare_type, array_decl, set_decl, type_decl, variable_decl, variables_named, variables_of_group}
 use Rattle.edi_static.specs.Types.{variables_of_groups, var_list}
-use Rattle.edi_static.specs.Headings.{Listed, Headed, leave, round, own_name, formal_one, param_named, params_named, param_group, procedure_named, with_result}
-use Rattle.edi_static.specs.Headings.{result_named, heading_parts, parameters, more_parameters, parameter}
-use Rattle.edi_static.specs.Declarations.{with_heading}
 use Rattle.edi_static.proofs.Judging.{Gives, bind, behind, choose, ruled, weaker}
-use Rattle.edi_sights.specs.declared.named.walk.Begun as code_begun
 use Rattle.edi_sights.specs.named.Laws.{slot_count, variable_count, constant_count}
 use Rattle.edi_sights.specs.named.Names as names
 use Rattle.edi_sights.specs.named.Naming.{Naming, with_block, with_variables, headed}
 use Rattle.edi_sights.specs.named.Naming as naming
 use Rattle.edi_sights.proofs.naming.Counts.{raised, raised_none, raised_twice, variable_raised, names_raised, one_more}
 
--- a procedure that is begun, by its name and its block
-abbrev pub seen : Begun → code_begun.Begun
-seen b = record { name = b.name.text; block = b.block }
-
 -- what is known in these blocks round a place has been named
 pub record Agree (place : List ℕ) (w : Naming) (types : List Shape) (blocks : List Block) (begun : List Begun) (around : List ℕ) : Type 0 where
   pub of_blocks : map slot_count blocks ≡ map variable_count w.blocks
   pub of_types : map constant_count types ≡ map length w.constants
-  pub of_begun : map seen begun ≡ w.begun
+  pub of_begun : begun ≡ w.begun
   pub at : around ≡ place
 
 abbrev pub Agrees : (place : List ℕ) → Naming → Environment → Type 0

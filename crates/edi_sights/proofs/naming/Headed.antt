@@ -1,13 +1,12 @@
 -- Headings: as many variables as they give a block are named.
-use Rattle.std.proofs.Common.{◌≡◌, ℕ, suc, ◌+◌, Bool, true, false, List, [], ◌∷◌, ◌++◌, length, map, Option, Some, None, refl, sym, ap, ◌∙◌, arith, length-append}
-use Rattle.std.proofs.lemmas.List.{length-map}
+use Rattle.std.proofs.Common.{◌≡◌, ℕ, suc, ◌+◌, Bool, true, false, List, [], ◌++◌, length, map, Option, Some, None, refl, ap, ◌∙◌, arith, length-append}
 use Rattle.std.specs.Prelude.{option_to_list}
 use Rattle.edi_scope.specs.declared.entity.Entity.TheVariants as entity
 use Rattle.edi_tree.specs.declared.names.Name.{Name}
 use Rattle.edi_tree.specs.Tree as text
 use Rattle.edi_unit.specs.declared.units.BlockKind.{BlockKind}
 use Rattle.edi_unit.specs.declared.units.Parameter.TheVariants as slot
-use Rattle.edi_unit.specs.Headings.{Heading, heading, heading_formals, heading_result, Formals, no_formal, value_then, variable_then, procedure_then}
+use Rattle.edi_unit.specs.Headings.{Heading, heading_formals, heading_result, Formals, no_formal, value_then, variable_then, procedure_then}
 use Rattle.edi_static.specs.Environment.{Environment, type_named, declare, enter, here, begun_block, parameters_of, formals_append, formals_count}
 use Rattle.edi_static.specs.Headings.{Listed, Headed, leave, round, own_name, formal_one, before_parameters, param_named, params_named, param_group}
 use Rattle.edi_static.specs.Headings.{procedure_named, with_result, result_named, heading_parts, parameters, more_parameters, parameter}

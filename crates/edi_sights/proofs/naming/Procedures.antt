@@ -1,7 +1,5 @@
 -- Procedures, modules and programs: what they give the environment is named.
 use Rattle.std.proofs.Common.{◌≡◌, ℕ, Bool, true, false, List, [], ◌∷◌, ◌++◌, length, map, is_some, refl, sym, ap, ◌∙◌, subst}
-use Rattle.std.proofs.lemmas.List.{map-append}
-use Rattle.edi_scope.specs.declared.entity.Entity.{Entity}
 use Rattle.edi_scope.specs.declared.entity.Entity.TheVariants as entity
 use Rattle.edi_scope.specs.Scope.{declared, outside}
 use Rattle.edi_tree.specs.declared.names.Name.{Name}
@@ -11,10 +9,10 @@ use Rattle.edi_unit.specs.Tree.{ProgramUnit}
 use Rattle.edi_unit.specs.Headings.{heading_result}
 use Rattle.edi_static.specs.Judged.{◌>>=◌}
 use Rattle.edi_static.specs.Environment.{Begun, Environment, at_first, give_outside, enter, here}
-use Rattle.edi_static.specs.Headings.{leave, round, own_name, heading_parts}
+use Rattle.edi_static.specs.Headings.{leave, own_name, heading_parts}
 use Rattle.edi_static.specs.Statements.{statement_list, add_statements}
 use Rattle.edi_static.specs.Declarations.{kind_of, begun_named, without_begun, completes, post_export, all_completed, enter_block, block_of, begin_procedure}
-use Rattle.edi_static.specs.Declarations.{begin_post, pre_decl, procedure_rest, item, module_decl, members, member, declarations, declaration}
+use Rattle.edi_static.specs.Declarations.{begin_post, procedure_rest, item, module_decl, members, member, declarations, declaration}
 use Rattle.edi_static.specs.Programs.{program_heading, global_decl, global_decls, program_procedure, resolve_tree}
 use Rattle.edi_static.proofs.Judging.{Gives, bind, behind, choose}
 use Rattle.edi_sights.specs.named.Laws.{slot_count, variable_count, constant_count, NamesAreSlots}
@@ -22,10 +20,10 @@ use Rattle.edi_sights.specs.named.Names as names
 use Rattle.edi_sights.specs.named.Naming as naming
 use Rattle.edi_sights.specs.named.Naming.{Naming, with_block, headed, first_naming, names_of}
 use Rattle.edi_sights.proofs.naming.Counts.{renamed_same, as_many}
-use Rattle.edi_sights.proofs.naming.Declared.{Agree, Agrees, seen, home, const_list_agrees, type_agrees, var_agrees}
+use Rattle.edi_sights.proofs.naming.Declared.{Agree, Agrees, home, const_list_agrees, type_agrees, var_agrees}
 use Rattle.edi_sights.proofs.naming.Headed.{Heads, heading_agrees, begun_agrees}
 use Rattle.edi_sights.proofs.naming.Blocks.{AfterAgrees, added_agrees, close_agrees, list_agrees}
-use Rattle.edi_sights.proofs.naming.Split.{post_same, without_same}
+use Rattle.edi_sights.proofs.naming.Split.{post_same}
 
 -- ---- headings
 
@@ -60,7 +58,7 @@ newly_named place w n new env a = record {
 }
 
 -- with other procedures begun
-begun_again : (place inner : List ℕ) (w v : Naming) (env after : Environment) (begun : List Begun) → env.around ≡ place → map seen begun ≡ w.begun
+begun_again : (place inner : List ℕ) (w v : Naming) (env after : Environment) (begun : List Begun) → env.around ≡ place → begun ≡ w.begun
     → Agrees inner v after → Agree place (naming.with_begun w.begun v) after.types after.blocks begun env.around
 begun_again place inner w v env after begun e b k = record { of_blocks = k.of_blocks; of_types = k.of_types; of_begun = b; at = e }
 
@@ -112,9 +110,8 @@ mutual
         of_blocks = k.of_blocks;
         of_types = k.of_types;
         of_begun =
-            map-append seen env.begun (record { name = name; block = length env.blocks } ∷ [])
-            ∙ (ap (λ bs. bs ++ record { name = name.text; block = length env.blocks } ∷ []) a.of_begun
-            ∙ ap (λ n. w.begun ++ record { name = name.text; block = n } ∷ []) (as_many slot_count variable_count env.blocks w.blocks a.of_blocks));
+            ap (λ bs. bs ++ record { name = name; block = length env.blocks } ∷ []) a.of_begun
+            ∙ ap (λ n. w.begun ++ record { name = name; block = n } ∷ []) (as_many slot_count variable_count env.blocks w.blocks a.of_blocks);
         at = k.at;
       })
   item_agrees place w m (text.post_item (text.procedure (text.heading name ps r) ds s end)) env a =
@@ -123,18 +120,18 @@ mutual
       let n : ℕ = block_of env (begun_named env.begun name.text) in
       let v : Naming = naming.with_new_names n (names.heading_names h) w in
       let u : Naming = naming.list_named s (naming.declarations_named n ds (naming.with_begun [] v)) in
-      subst (λ k. Gives (Agrees place (naming.with_begun (naming.without_begun name.text w.begun)
+      subst (λ k. Gives (Agrees place (naming.with_begun (without_begun name.text w.begun)
       (naming.procedure_named k p (naming.with_new_names k (names.heading_names h) w)))) (item m (text.post_item p) env))
       (post_same place w env name.text a)
-      (bind (Agrees (n ∷ place) u) (Agrees place (naming.with_begun (naming.without_begun name.text w.begun) (naming.procedure_named n p v)))
+      (bind (Agrees (n ∷ place) u) (Agrees place (naming.with_begun (without_begun name.text w.begun) (naming.procedure_named n p v)))
       (begin_post m h env >>= procedure_rest n p) _
       (bind (Agrees place w) (Agrees (n ∷ place) u) (begin_post m h env) _ (post_agrees place w m h env a)
       (λ e k.
       rest_agrees place v n h ds s end (λ f j. declarations_agree (n ∷ place) (naming.with_begun [] v) ds f j) e
       (newly_named place w n (names.heading_names h) e k)))
       (λ after k.
-      begun_again place (n ∷ place) (naming.with_begun (naming.without_begun name.text w.begun) w) u env after (without_begun name.text env.begun) a.at
-      (without_same env.begun name.text ∙ ap (naming.without_begun name.text) a.of_begun) k))
+      begun_again place (n ∷ place) (naming.with_begun (without_begun name.text w.begun) w) u env after (without_begun name.text env.begun) a.at
+      (ap (without_begun name.text) a.of_begun) k))
 
   module_agrees : (place : List ℕ) (w : Naming) (x : text.Module) (env : Environment) → Agrees place w env
       → Gives (Agrees place (naming.module_named (home place) x w)) (module_decl x env)

@@ -1,5 +1,5 @@
 -- Words of contracts. The names of a program are those of the blocks, variables and types of its unit.
-use Rattle.std.specs.Prelude.{◌≡◌, ℕ, List, length, map}
+use Rattle.std.specs.Prelude.{◌≡◌, ℕ, length, map}
 use Rattle.edi_tree.specs.Tree as text
 use Rattle.edi_unit.specs.Types.{Shape, bool, enumeration}
 use Rattle.edi_unit.specs.Tree.{Block, ProgramUnit}

@@ -1,10 +1,10 @@
 -- Definition. THE NAMES OF A PROGRAM: of each block of its unit the name of its procedure and the names of its variables, and of each
 -- type the names of its constants. Blocks, variables and types have the numbers of the unit, which count them in the order of the text.
-use Rattle.std.specs.Prelude.{ℕ, not, ◌==◌, if◌then◌else◌, List, [], ◌∷◌, ◌++◌, length, filter, codes, Option, Some, None}
-use Rattle.std.specs.Prelude.{slice_index_or, slice_set, unwrap_or}
-use Rattle.std.specs.Str.{bytes_eq}
+use Rattle.std.specs.Prelude.{ℕ, ◌==◌, if◌then◌else◌, List, [], ◌∷◌, ◌++◌, length, codes, option_map, slice_index_or, slice_set, unwrap_or}
 use Rattle.edi_tree.specs.Tree as text
-use Rattle.edi_sights.specs.declared.named.walk.Begun.{Begun}
+use Rattle.edi_static.specs.Environment.{Begun}
+use Rattle.edi_static.specs.Headings.{own_name}
+use Rattle.edi_static.specs.Declarations.{begun_named, heading_of, without_begun}
 use Rattle.edi_sights.specs.named.Names.{constant_names, declared_names, heading_name, heading_names}
 
 -- A block. Its variables are the function variable, the parameters and the declared variables, those of its modules among them.
@@ -61,21 +61,13 @@ with_type names w = record w { constants = w.constants ++ names ∷ [] }
 abbrev pub with_begun : List Begun → Naming → Naming
 with_begun begun w = record w { begun = begun }
 
--- the block of the procedure of this name that is begun
-abbrev pub begun_block : List Begun → List ℕ → Option ℕ
-begun_block [] name = None
-begun_block (b ∷ bs) name = if bytes_eq b.name name then Some b.block else begun_block bs name
-
-abbrev pub without_begun : List ℕ → List Begun → List Begun
-without_begun name bs = filter (λ b. not (bytes_eq b.name name)) bs
-
 -- one more procedure is begun, whose block is the next
 abbrev pub begin : text.Heading → Naming → Naming
-begin h w = with_begun (w.begun ++ record { name = heading_name h; block = length w.blocks } ∷ []) (with_block (headed h) w)
+begin h w = with_begun (w.begun ++ record { name = own_name h; block = length w.blocks } ∷ []) (with_block (headed h) w)
 
 -- the block of a `post`; a `post` of a sound program has one
 abbrev pub post_block : List ℕ → Naming → ℕ
-post_block name w = unwrap_or (begun_block w.begun name) (length w.blocks)
+post_block name w = unwrap_or (option_map (λ b. b.block) (begun_named w.begun name)) (length w.blocks)
 
 -- ---- statements: each branch of a `cobegin` is a block
 
@@ -114,9 +106,6 @@ abbrev mutual
   branches_named (text.next_branch also b bs) w = branches_named bs (branch_named b w)
 
 -- ---- declarations, which stand in a block
-
-abbrev pub heading_of : text.Procedure → text.Heading
-heading_of (text.procedure h ds s end) = h
 
 abbrev mutual
   -- a procedure behind its heading, with its block

@@ -10,6 +10,7 @@ use crate::named::answer::Names;
 use crate::named::declarations::procedure_named;
 use crate::named::walk::{Walk, add_headed, add_type};
 use edi_lex::Text;
+use edi_static::Splits;
 use edi_tree::{Global as Declared, Procedure, Program};
 use std::alloc::{AllocError, Global};
 
@@ -34,7 +35,7 @@ fn first_naming(alloc: Global) -> Result<Walk, AllocError>
     Ok(Walk {
         blocks: Vec::new(alloc),
         constants,
-        begun: Vec::new(alloc),
+        begun: Splits::new(alloc),
     })
 }
 

@@ -3,6 +3,7 @@
 ghost use Rattle.std.specs.Prelude.{◌≡◌, ◌∷◌, ◌++◌, [], map, codes, IfOk, OnOk};
 ghost use Rattle.edi_tree.specs.View.{group_of, groups as groups_listed, heading_of, more_params, names as names_listed, param_of, type_decl_of, var_list_of};
 ghost use Rattle.edi_tree.specs.Sequences.{items_of};
+ghost use Rattle.edi_static.specs.Headings as headings;
 ghost use Rattle.edi_sights.specs.named.Names as spec;
 
 use edi_lex::Text;
@@ -14,6 +15,24 @@ pub(crate) fn name_of(heading: &Heading) -> &[u8]
     ensures exact { result.now ≡ spec.heading_name (heading_of heading.now) }
 {
     heading.name.text.as_slice()
+}
+
+/// A copy of a name.
+fn copy_name(alloc: Global, name: &Name) -> Result<Name, AllocError>
+    ensures exact { IfOk result (λ copy. copy ≡ name.now) }
+{
+    Ok(Name {
+        text: Text::from_slice(alloc, name.text.as_slice())?,
+        line: name.line,
+    })
+}
+
+/// A copy of a heading's name.
+pub(crate) fn own_name(alloc: Global, heading: &Heading) -> Result<Name, AllocError>
+    ensures exact { IfOk result (λ name. name ≡ headings.own_name (heading_of heading.now)) }
+{
+    let name = copy_name(alloc, &heading.name)?;
+    Ok(name)
 }
 
 /// Puts a name behind others.

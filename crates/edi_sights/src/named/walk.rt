@@ -2,23 +2,18 @@
 
 ghost use Rattle.std.specs.Prelude.{◌≡◌, ◌<◌, [], length, map, slice_set, vec_len, IfOk, OnOk};
 ghost use Rattle.edi_tree.specs.View.{heading_of, type_decl_of, var_list_of};
+ghost use Rattle.edi_static.specs.Declarations.{without_begun};
 ghost use Rattle.edi_sights.specs.named.Names.{constant_names, declared_names, heading_name, heading_names};
 ghost use Rattle.edi_sights.specs.named.Naming as spec;
 ghost use Rattle.edi_sights.specs.named.Views.{named_of, naming_of};
 
 use crate::awaits::small;
 use crate::named::answer::NamedBlock;
-use crate::named::spelled::{constant_names, heading_names, name_of, put_declared};
+use crate::named::spelled::{constant_names, heading_names, name_of, own_name, put_declared};
 use edi_lex::Text;
+use edi_static::Splits;
 use edi_tree::{Heading, TypeDecl, VarList};
 use std::alloc::{AllocError, Global};
-
-/// A procedure whose `pre` has stood and whose `post` is still to come.
-#[derive(Drop)]
-pub(crate) struct Begun {
-    pub(crate) name: Text,
-    pub(crate) block: u32,
-}
 
 /// What has been named so far.
 #[derive(Drop)]
@@ -26,7 +21,7 @@ pub(crate) struct Walk {
     pub(crate) blocks: Vec<NamedBlock>,
     pub(crate) constants: Vec<Vec<Text>>,
     /// The procedures of the innermost scope that are begun, in the order of the text.
-    pub(crate) begun: Vec<Begun>,
+    pub(crate) begun: Splits,
 }
 
 /// One more block.
@@ -155,53 +150,39 @@ pub(crate) fn add_type(
 pub(crate) fn begin(walk: &mut Walk, alloc: Global, heading: &Heading) -> Result<(), AllocError>
     ensures exact { OnOk result (naming_of walk.new ≡ spec.begin (heading_of heading.now) (naming_of walk.old)) }
 {
-    let name = Text::from_slice(alloc, name_of(heading))?;
+    let name = own_name(alloc, heading)?;
     let block = add_headed(walk, alloc, heading)?;
-    walk.begun.push(Begun { name, block })?;
-    Ok(())
-}
-
-/// The block of the procedure of this name that is begun.
-fn begun_block(begun: &[Begun], name: &[u8]) -> Option<u32>
-    ensures exact { result ≡ spec.begun_block begun.now name.now }
-{
-    for one in begun {
-        if one.name.as_slice() == name {
-            return Some(one.block);
-        }
-    }
-    None
+    walk.begun.push(alloc, name, block)
 }
 
 /// The block of a `post`.
 pub(crate) fn post_block(walk: &Walk, heading: &Heading) -> Result<u32, AllocError>
     ensures exact { IfOk result (λ n. n ≡ spec.post_block (heading_name (heading_of heading.now)) (naming_of walk.now)) }
 {
-    match begun_block(walk.begun.as_slice(), name_of(heading)) {
+    match walk.begun.block_of(name_of(heading)) {
         Some(block) => Ok(block),
         None => small(walk.blocks.len()),
     }
 }
 
 /// Takes out the procedures that are begun.
-pub(crate) fn take_begun(walk: &mut Walk, alloc: Global) -> Vec<Begun>
+pub(crate) fn take_begun(walk: &mut Walk, alloc: Global) -> Splits
     ensures exact { naming_of walk.new ≡ spec.with_begun [] (naming_of walk.old) }
-    ensures begun { result.items ≡ (naming_of walk.old).begun }
+    ensures begun { result ≡ (naming_of walk.old).begun }
 {
-    std::mem::replace(&mut walk.begun, Vec::new(alloc))
+    std::mem::replace(&mut walk.begun, Splits::new(alloc))
 }
 
 /// These procedures are begun.
-pub(crate) fn put_begun(walk: &mut Walk, begun: Vec<Begun>)
-    ensures exact { naming_of walk.new ≡ spec.with_begun begun.items (naming_of walk.old) }
+pub(crate) fn put_begun(walk: &mut Walk, begun: Splits)
+    ensures exact { naming_of walk.new ≡ spec.with_begun begun (naming_of walk.old) }
 {
     walk.begun = begun;
 }
 
 /// A procedure that is begun no longer waits for its `post`.
 pub(crate) fn complete(walk: &mut Walk, heading: &Heading)
-    ensures exact { naming_of walk.new ≡ spec.with_begun (spec.without_begun (heading_name (heading_of heading.now)) (naming_of walk.old).begun) (naming_of walk.old) }
+    ensures exact { naming_of walk.new ≡ spec.with_begun (without_begun (heading_name (heading_of heading.now)) (naming_of walk.old).begun) (naming_of walk.old) }
 {
-    let name = name_of(heading);
-    walk.begun.retain(|begun| begun.name.as_slice() != name);
+    walk.begun.complete(name_of(heading));
 }

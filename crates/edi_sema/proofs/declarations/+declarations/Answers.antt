@@ -1,9 +1,8 @@
 use Rattle.std.proofs.Common.{◌+◌, drop, refl}
 use Rattle.std.proofs.Math.ListN.{drop_of_length-le}
 use Rattle.std.proofs.lemmas.Result.{err_from_is_err_and}
-use Rattle.std.specs.Prelude.{map}
 use Rattle.edi_unit.proofs.Limits.{drop_item}
-use Rattle.edi_static.specs.Views.{environment, begun_of}
+use Rattle.edi_static.specs.Views.{environment}
 use Rattle.edi_sema.proofs.Opening.{post_comes}
 use Rattle.edi_sema.proofs.Declaring.{declaring, declaration_faults, finish_faults, procedure_given, procedure_leaves}
 use Rattle.edi_sema.proofs.Staying.{comes_self}
@@ -40,11 +39,11 @@ procedure_rest-returns t c =
     c.args.procedure.now c.items-declaration-items.result.now (drop c.loop-declaration.declaration-index c.items-declaration-items.result.now)
     c.in_ok-begun.ensures.exact c.items-declaration-items.ensures.exact c.loop-declaration.invariant.comes c.loop-declaration.invariant.left in
     record {
-      exact = procedure_given _ _ _ _ _ h (environment c.finish_block.new.known) (environment c.leave_block.new.known) (map begun_of c.in_ok-begun.begun.items)
+      exact = procedure_given _ _ _ _ _ h (environment c.finish_block.new.known) (environment c.leave_block.new.known) c.in_ok-begun.begun
           c.in_ok-begun.ensures.begun c.in_ok-finish_block.ensures.comes c.leave_block.ensures.exact
           (drop_of_length-le c.items-declaration-items.result.now c.loop-declaration-test.false) c.in_ok-finish_block.ensures.exact;
       leaves = procedure_leaves _ _ _ _ _ h (environment c.finish_block.new.known) (environment c.leave_block.new.known)
-          (map begun_of c.in_ok-begun.begun.items) c.in_ok-begun.ensures.begun c.in_ok-finish_block.ensures.comes c.leave_block.ensures.exact
+          c.in_ok-begun.begun c.in_ok-begun.ensures.begun c.in_ok-finish_block.ensures.comes c.leave_block.ensures.exact
           c.leave_block.ensures.proper;
     }
 

@@ -1,7 +1,7 @@
-use Rattle.std.proofs.Common.{◌<◌, length, drop, map, ap, sym, ◌∙◌, subst}
+use Rattle.std.proofs.Common.{◌<◌, length, drop, ap, sym, ◌∙◌, subst}
 use Rattle.edi_static.specs.Headings.{leave}
 use Rattle.edi_static.specs.Proper.{Proper}
-use Rattle.edi_static.specs.Views.{environment, begun_of}
+use Rattle.edi_static.specs.Views.{environment}
 use Rattle.edi_static.proofs.Proper.{around_proper}
 use Rattle.edi_sema.specs.Splits.{with_begun}
 use Rattle.edi_sema.proofs.openings.leave_block.Goals as goal
@@ -16,4 +16,4 @@ close_scope-requires-clause-proper c =
 
 pub returns-clause-exact : goal.returns-clause-exact
 returns-clause-exact c =
-    c.close_scope.ensures.exact ∙ ap (λ e. leave (with_begun (map begun_of c.args.begun.items) e)) c.leave_around.ensures.exact
+    c.close_scope.ensures.exact ∙ ap (λ e. leave (with_begun c.args.begun e)) c.leave_around.ensures.exact

@@ -1,17 +1,12 @@
-use Rattle.std.proofs.Common.{not, ap, ◌∙◌, rules}
-use Rattle.std.proofs.lemmas.Fn.{filter_same}
-use Rattle.std.specs.Prelude.{map}
-use Rattle.std.specs.Str.{bytes_eq}
-use Rattle.edi_static.specs.Views.{environment, begun_of}
-use Rattle.edi_sema.proofs.Completing.{without_mapped}
+use Rattle.std.proofs.Common.{ap, ◌∙◌}
+use Rattle.edi_static.specs.Declarations.{without_begun}
+use Rattle.edi_static.specs.Views.{environment}
+use Rattle.edi_sema.specs.Splits.{with_begun}
 use Rattle.edi_sema.proofs.procedures.completed.Goals as goal
 
 pub returns : goal.returns
 returns c =
-    let name = c.args.name.now.text in
+    let env = environment c.args.known.now in
     record {
-      exact =
-          ap (λ bs. record (environment c.args.known.now) { begun = bs })
-          (ap (map begun_of) (filter_same _ (λ b. not (bytes_eq b.name.text name)) _ (λ x b f' k. search rules) _ _ c.retain.ensures.filtered)
-          ∙ without_mapped name c.args.known.now.begun.items);
+      exact = ap (λ begun. with_begun begun env) (c.complete.ensures.exact ∙ ap (λ name. without_begun name env.begun) c.as_slice.ensures.all);
     }

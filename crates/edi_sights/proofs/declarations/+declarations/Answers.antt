@@ -4,7 +4,7 @@ use Rattle.std.specs.Prelude.{map}
 use Rattle.edi_tree.specs.declared.declarations.Declaration.TheViews.{out-Procedure}
 use Rattle.edi_tree.specs.View.{declaration_of, declarations, declarations_of, heading_of, list_of}
 use Rattle.edi_static.specs.Declarations.{enter_block}
-use Rattle.edi_static.specs.Views.{environment, begun_of}
+use Rattle.edi_static.specs.Views.{environment}
 use Rattle.edi_sema.proofs.Declaring.{declaring, all_declared, procedure_given}
 use Rattle.edi_sema.proofs.Opening.{post_comes}
 use Rattle.edi_sema.proofs.Seen.{procedure_seen}
@@ -18,7 +18,7 @@ procedure_met-returns-clause-exact t c =
     let h = declaring c.args.block (environment c.args.known.now) (environment c.open_block.new.known) (environment c.loop-declaration.known)
     c.args.procedure.now c.items-declaration-items.result.now (drop c.loop-declaration.declaration-index c.items-declaration-items.result.now)
     c.in_ok-begun.ensures.exact c.items-declaration-items.ensures.exact c.loop-declaration.invariant.comes c.loop-declaration.invariant.left in
-    procedure_given _ _ _ _ _ h (environment c.finish_block_met.new.known) (environment c.leave_block.new.known) (map begun_of c.in_ok-begun.begun.items)
+    procedure_given _ _ _ _ _ h (environment c.finish_block_met.new.known) (environment c.leave_block.new.known) c.in_ok-begun.begun
     c.in_ok-begun.ensures.begun c.in_ok-finish_block_met.ensures.comes c.leave_block.ensures.exact
     (drop_of_length-le c.items-declaration-items.result.now c.loop-declaration-test.false) c.in_ok-finish_block_met.ensures.exact
 

@@ -1,4 +1,4 @@
-use Rattle.std.proofs.Common.{◌≡◌, [], refl, ap, sym, ◌∙◌}
+use Rattle.std.proofs.Common.{[], refl, ap, sym, ◌∙◌}
 use Rattle.std.specs.Prelude.{map}
 use Rattle.edi_tree.specs.declared.declarations.Declaration.TheViews.{out-Module, out-Procedure}
 use Rattle.edi_tree.specs.View.{declaration_of, declarations, list_of, member_of, members}

@@ -1,6 +1,6 @@
-use Rattle.std.proofs.Common.{◌≡◌, ◌+◌, drop, refl, ap, sym, ◌∙◌}
+use Rattle.std.proofs.Common.{◌+◌, drop, refl, ap, sym, ◌∙◌}
 use Rattle.std.specs.Prelude.{map}
-use Rattle.edi_tree.specs.declared.statements.Statement.TheViews.{out-Branch, out-Cobegin, out-Conditions, out-List}
+use Rattle.edi_tree.specs.declared.statements.Statement.TheViews.{out-Cobegin, out-Conditions, out-List}
 use Rattle.edi_tree.specs.Sequences.{items_of}
 use Rattle.edi_tree.specs.View as tree
 use Rattle.edi_tree.specs.View.{statement_of, condition_of, branch_of}
