@@ -16,8 +16,7 @@ use Rattle.edi_unit.specs.Tree as tree
 use Rattle.edi_unit.specs.Tree.{Block, Argument, Arguments, Expression, Place, ProgramUnit}
 use Rattle.edi_meaning.specs.Parts.{part_at}
 use Rattle.edi_meaning.specs.Store.{Spot, Location, Closure, system_procedure, block_procedure, Cell, value, location, procedure, Instance, Shape}
-use Rattle.edi_meaning.specs.Store.{shape, Frame, no_frame, frame_at, reached, now, cell, located, value_in, get, put, procedure_in, formal, grown, shrunk, Owns, IsLive, Older}
-use Rattle.edi_meaning.specs.Store.{within, above}
+use Rattle.edi_meaning.specs.Store.{shape, Frame, no_frame, frame_at, reached, now, cell, located, value_in, get, put, procedure_in, formal, grown, shrunk, Owns, IsLive}
 use Rattle.edi_meaning.specs.Evaluation.{World}
 use Rattle.edi_meaning.specs.Whole.{Designated, part_of, meant, instance_of, named, result_of}
 use Rattle.edi_meaning.specs.Laws.{Means, CellMeans}

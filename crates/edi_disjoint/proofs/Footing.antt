@@ -20,26 +20,18 @@ use Rattle.edi_disjoint.proofs.Reaching.{text_is}
 use Rattle.edi_disjoint.proofs.Variables.{lists_as, lists_if, decides_as}
 use Rattle.edi_disjoint.proofs.Mentioned.{Outside, VarFound, Called, Holds, holds_as, nothing_holds, blocks_hold}
 
-module _ (unit : ProgramUnit) (inwards : GoInwards unit.blocks) (b : ℕ) (low : b < length unit.blocks) where
-  abbrev pub All : ℕ → Mention → Type 0
-  All k l = Reach unit b k × Mentions unit k l
+-- ---- with the variables that are lent, where a `var` parameter is found
 
-  pub all_hold : (texts : List (Vec Mention)) → AreTexts unit texts → (ns : List ℕ) → IsReach unit b ns → Holds unit b All (blocks_in unit.blocks unit.program b texts ns nothing_in)
-  all_hold texts t ns r =
-      holds_as unit b (λ k l. ⊥ ⊎ (Contains ns k × Contains (text_at texts k) l)) All _
-      (λ k l v. elim v [ inl x ↦ absurd x | inr e ↦ (r.0 k e.0, subst (λ ms. Contains ms l) (text_is unit texts t k) e.1) ])
-      (λ k l v. inr (r.1 k v.0, subst (λ ms. Contains ms l) (sym (text_is unit texts t k)) v.1))
-      (blocks_hold unit b inwards low texts (λ n m. ⊥) ns nothing_in (nothing_holds unit b))
-
+module _ (unit : ProgramUnit) (b : ℕ) (V : ℕ → Mention → Type 0) where
   pub record Ends (T : Variable → Type 0) (view : View) : Type 0 where
-    pub seen_all : Lists view.seen (λ x. Outside unit b seen All x ⊎ (VarFound unit b seen All × T x))
-    pub written_all : Lists view.written (λ x. Outside unit b written All x ⊎ (VarFound unit b written All × T x))
-    pub sees : Decides view.sees_var (VarFound unit b seen All)
-    pub writes : Decides view.writes_var (VarFound unit b written All)
-    pub system : Decides view.system (Called unit b All (λ n. n ≡ unit.program))
-    pub parameter : Decides view.parameter (Called unit b All (λ n. n ≡ unit.program → ⊥))
+    pub seen_all : Lists view.seen (λ x. Outside unit b seen V x ⊎ (VarFound unit b seen V × T x))
+    pub written_all : Lists view.written (λ x. Outside unit b written V x ⊎ (VarFound unit b written V × T x))
+    pub sees : Decides view.sees_var (VarFound unit b seen V)
+    pub writes : Decides view.writes_var (VarFound unit b written V)
+    pub system : Decides view.system (Called unit b V (λ n. n ≡ unit.program))
+    pub parameter : Decides view.parameter (Called unit b V (λ n. n ≡ unit.program → ⊥))
 
-  pub begin_ends : (view : View) → Holds unit b All view → Ends (λ x. ⊥) view
+  pub begin_ends : (view : View) → Holds unit b V view → Ends (λ x. ⊥) view
   begin_ends view h = record {
     seen_all = lists_as view.seen (λ x k. inl k) (λ x k. elim k [ inl o ↦ o | inr e ↦ absurd e.1 ]) h.seen_all;
     written_all = lists_as view.written (λ x k. inl k) (λ x k. elim k [ inl o ↦ o | inr e ↦ absurd e.1 ]) h.written_all;
@@ -49,8 +41,8 @@ module _ (unit : ProgramUnit) (inwards : GoInwards unit.blocks) (b : ℕ) (low :
     parameter = h.parameter;
   }
 
-  one_target : (of : List Block → ℕ → Mention → Option Variable) (T : Variable → Type 0) (v : Variable) (xs : List Variable) (x : Bool) → Decides x (VarFound unit b of All) →
-      Lists xs (λ x. Outside unit b of All x ⊎ (VarFound unit b of All × T x)) → Lists (if x then with_view xs v else xs) (λ x. Outside unit b of All x ⊎ (VarFound unit b of All × (T x ⊎ (v ≡ x))))
+  one_target : (of : List Block → ℕ → Mention → Option Variable) (T : Variable → Type 0) (v : Variable) (xs : List Variable) (x : Bool) → Decides x (VarFound unit b of V) →
+      Lists xs (λ x. Outside unit b of V x ⊎ (VarFound unit b of V × T x)) → Lists (if x then with_view xs v else xs) (λ x. Outside unit b of V x ⊎ (VarFound unit b of V × (T x ⊎ (v ≡ x))))
   one_target of T v xs x d l =
       lists_as (if x then with_view xs v else xs)
       (λ y k. elim k [
@@ -61,7 +53,7 @@ module _ (unit : ProgramUnit) (inwards : GoInwards unit.blocks) (b : ℕ) (low :
         | inl i ↦ inl (inl i)
         | inr e ↦ elim e.1 [ inl o ↦ inl (inr (e.0, o)) | inr q ↦ inr (e.0, q) ]
       ])
-      (lists_if xs v (λ x. Outside unit b of All x ⊎ (VarFound unit b of All × T x)) x (VarFound unit b of All) d l)
+      (lists_if xs v (λ x. Outside unit b of V x ⊎ (VarFound unit b of V × T x)) x (VarFound unit b of V) d l)
 
   target_ends : (T : Variable → Type 0) (v : Variable) (view : View) → Ends T view → Ends (λ x. T x ⊎ (v ≡ x)) (target_in v view)
   target_ends T v view h = record {
@@ -97,6 +89,19 @@ module _ (unit : ProgramUnit) (inwards : GoInwards unit.blocks) (b : ℕ) (low :
       ])
       (targets_end (λ x. T x ⊎ (v ≡ x)) vs (target_in v view) (target_ends T v view h))
 
+-- ---- all that the branch gets to
+
+module _ (unit : ProgramUnit) (inwards : GoInwards unit.blocks) (b : ℕ) (low : b < length unit.blocks) where
+  abbrev pub All : ℕ → Mention → Type 0
+  All k l = Reach unit b k × Mentions unit k l
+
+  pub all_hold : (texts : List (Vec Mention)) → AreTexts unit texts → (ns : List ℕ) → IsReach unit b ns → Holds unit b All (blocks_in unit.blocks unit.program b texts ns nothing_in)
+  all_hold texts t ns r =
+      holds_as unit b (λ k l. ⊥ ⊎ (Contains ns k × Contains (text_at texts k) l)) All _
+      (λ k l v. elim v [ inl x ↦ absurd x | inr e ↦ (r.0 k e.0, subst (λ ms. Contains ms l) (text_is unit texts t k) e.1) ])
+      (λ k l v. inr (r.1 k v.0, subst (λ ms. Contains ms l) (sym (text_is unit texts t k)) v.1))
+      (blocks_hold unit b inwards low texts (λ n m. ⊥) ns nothing_in (nothing_holds unit b))
+
   -- in the words of the definition
   touches : (of : List Block → ℕ → Mention → Option Variable) (targets : List Variable) → Lists targets (IsTarget unit) → (x : Variable) →
       Outside unit b of All x ⊎ (VarFound unit b of All × (⊥ ⊎ Contains targets x)) → Touches of unit b x
@@ -115,12 +120,12 @@ module _ (unit : ProgramUnit) (inwards : GoInwards unit.blocks) (b : ℕ) (low :
   pub footprint_is : (texts : List (Vec Mention)) → AreTexts unit texts → (ns : List ℕ) → IsReach unit b ns → (targets : List Variable) → Lists targets (IsTarget unit) →
       (found : Footprint) → view_of found ≡ targets_in targets (blocks_in unit.blocks unit.program b texts ns nothing_in) → IsFootprint unit b found
   footprint_is texts t ns r targets l found e =
-      let h : Ends (λ x. ⊥ ⊎ Contains targets x) (targets_in targets (blocks_in unit.blocks unit.program b texts ns nothing_in)) =
-      targets_end (λ x. ⊥) targets (blocks_in unit.blocks unit.program b texts ns nothing_in)
-      (begin_ends (blocks_in unit.blocks unit.program b texts ns nothing_in) (all_hold texts t ns r)) in
-      is (subst (Ends (λ x. ⊥ ⊎ Contains targets x)) (sym e) h)
+      let h : Ends unit b All (λ x. ⊥ ⊎ Contains targets x) (targets_in targets (blocks_in unit.blocks unit.program b texts ns nothing_in)) =
+      targets_end unit b All (λ x. ⊥) targets (blocks_in unit.blocks unit.program b texts ns nothing_in)
+      (begin_ends unit b All (blocks_in unit.blocks unit.program b texts ns nothing_in) (all_hold texts t ns r)) in
+      is (subst (Ends unit b All (λ x. ⊥ ⊎ Contains targets x)) (sym e) h)
     where
-      is : Ends (λ x. ⊥ ⊎ Contains targets x) (view_of found) → IsFootprint unit b found
+      is : Ends unit b All (λ x. ⊥ ⊎ Contains targets x) (view_of found) → IsFootprint unit b found
       is h = record {
         seen = lists_as _ (touches seen targets l) (touched seen targets l) h.seen_all;
         written = lists_as _ (touches written targets l) (touched written targets l) h.written_all;

@@ -9,7 +9,7 @@ use Rattle.edi_calls.specs.Ready.{child}
 use Rattle.edi_calls.specs.State.{State, Traced}
 use Rattle.edi_calls.specs.Outcome.{Ending}
 use Rattle.edi_calls.proofs.Names.{some_is}
-use Rattle.edi_calls.proofs.Tables.{same-or-other, same-symmetric}
+use Rattle.edi_calls.proofs.Tables.{same-or-other}
 use Rattle.edi_unit.specs.Need.{block_at, slots}
 use Rattle.edi_unit.specs.Fits.{Fits}
 use Rattle.edi_unit.specs.Headings.{Heading}
@@ -20,17 +20,16 @@ use Rattle.edi_meaning.specs.Whole.{instance_of}
 use Rattle.edi_meaning.specs.Step.{Standing, ready, at_when, waiting, Work, doing, loop_end, procedure_end, branch_end, program_entry, program_end, body_of, Asks, goes, arrives, again, forks, leaves, Process}
 use Rattle.edi_meaning.specs.Step.{Processes, Stepped, went, ended, local_step, kernel, step_of, step, start}
 use Rattle.edi_meaning.specs.Permitted.{is_running, at, permitted}
-use Rattle.edi_meaning.specs.Laws.{IsWaiting}
 use Rattle.edi_meaning.proofs.Lasting.{Every, Gives, Keeps}
 use Rattle.edi_meaning.proofs.Kernel.{After, of_process, permitted_keep}
-use Rattle.edi_meaning.proofs.Own.{owns_first, new_cells_fit, calls_fit, instances-same, instances-other}
+use Rattle.edi_meaning.proofs.Own.{new_cells_fit, calls_fit, instances-same, instances-other}
 use Rattle.edi_meaning.proofs.Frames.{own_shape, framing, Steps, local_steps}
 use Rattle.edi_meaning.proofs.Family.{free_name, free_next}
 use Rattle.edi_meaning.proofs.Private.{none_before}
 use Rattle.edi_meaning.proofs.References.{Refers}
 use Rattle.edi_meaning.proofs.Living.{Setting, local_refers, begun_refers}
 use Rattle.edi_meaning.proofs.Due.{DueAs, DueAsks, due_some, local_due}
-use Rattle.edi_meaning.proofs.Dangling.{Coherent, owner_waits, alone_now, step_coherent, start_coherent}
+use Rattle.edi_meaning.proofs.Dangling.{Coherent, alone_now, step_coherent, start_coherent}
 use Rattle.edi_disjoint.specs.Footprints.{Variable, CallsParameter, NamesProgram, IsBranch}
 use Rattle.edi_disjoint.specs.Open.{UsesOpenly}
 use Rattle.edi_disjoint.proofs.Pairing.{Pair}
@@ -48,6 +47,7 @@ use Rattle.edi_disjoint.proofs.Working.{blocks_of, top, top_is, WorkAs, WorkAsks
 use Rattle.edi_disjoint.proofs.steps.Following.{Follows}
 use Rattle.edi_disjoint.proofs.steps.Stepping as stepping
 use Rattle.edi_disjoint.proofs.steps.Owning.{Owning, Owned, local_owned}
+use Rattle.edi_disjoint.proofs.steps.Referring.{setting_now}
 use Rattle.edi_disjoint.proofs.steps.Stores.{SameOwn}
 use Rattle.edi_disjoint.proofs.FirstLaw.{first_block, FirstFits, nothing_fits, Stood, Did, Plain, plain_fit, goes_on, has_ended, has_forked}
 
@@ -66,18 +66,8 @@ module _ (unit : ProgramUnit) (ok : Fits unit) (unnamed : NamesProgram unit → 
     due : DueAs p q.standing q.work (length (F p))
     due = coherent.due p q found
 
-    first_lives : 0 < length (F p) → 0 < length (F [])
-    first_lives l = go (same-or-other [] p)
-      where
-        waits : IsWaiting s.live [] → 0 < length (F [])
-        waits w = (subst (λ x. DueAs [] x w.process.work (length (F []))) w.standing (coherent.due [] w.process w.found)).0
-
-        go : ([] ≡ p) ⊎ (same [] p ≡ false) → 0 < length (F [])
-        go (inl e) = subst (λ r. 0 < length (F r)) (sym e) l
-        go (inr n) = waits (owner_waits s.live coherent.family.family p [] q found (same-symmetric [] p n) (owns_first p))
-
     pub setting : 0 < length (F p) → Setting p F
-    setting l = record { some = l; alone = alone_now unit s p q found runs coherent; first = first_lives l }
+    setting l = setting_now unit s p q found runs coherent l
 
     pub may_now : 0 < length (F p) → StandingMay (text_of unit ok (block_in F (now F p))) q.standing q.work
     may_now l =
@@ -179,7 +169,7 @@ module _ (unit : ProgramUnit) (ok : Fits unit) (unnamed : NamesProgram unit → 
       open_frames ready e =
           followed (local_step unit p q.size ready q.work s.world)
           (local_owned unit ok unnamed (first_block (F p)) none p q.size 0 s.world s.world F ready q.work s.world s.world (open_now l e)
-          (owns_now 0 s.world (record { own = refl; alike = λ r o. refl; others = λ r n. refl }) (omega arith))).is
+          (owns_now 0 s.world (record { own = refl; alike = λ r o. refl; references = λ r d k o. refl; others = λ r n. refl }) (omega arith))).is
       open_frames (at_when cs position) e =
           attempted (local_step unit p q.size (at_when cs position) q.work s.world) (attempt_frames unit ok p q.size cs position q.work s.world)
       open_frames (waiting n) e = tt

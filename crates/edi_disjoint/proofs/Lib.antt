@@ -33,7 +33,9 @@ pub mod Mentioned
 pub mod Footing
 pub mod Lent
 pub mod Placing
+pub mod ByValue
 pub mod Using
 pub mod Gathered
 pub mod Ordered
+pub mod Filing
 pub mod One

@@ -1,5 +1,5 @@
 -- A program has one report: the report tells of branches alone, and which of them are disjoint is one answer.
-use Rattle.std.proofs.Common.{arith, ◌<◌, ◌≡◌, ℕ, zero, suc, Bool, true, false, if◌then◌else◌, List, [], ◌∷◌, ◌++◌, length, refl, sym, subst, ap, ◌∙◌}
+use Rattle.std.proofs.Common.{arith, ◌<◌, ◌≡◌, ℕ, zero, suc, Bool, true, false, if◌then◌else◌, List, [], ◌∷◌, ◌++◌, length, refl, sym, ap, ◌∙◌}
 use Rattle.std.specs.Prelude.{nat_lt, filter, slice_index_or}
 use Rattle.std.specs.Bool.{Decides}
 use Rattle.edi_unit.specs.Fits.{Fits}

@@ -3,6 +3,8 @@ pub mod Stepping
 pub mod Anything
 pub mod Differing
 pub mod Kernels
+pub mod Locations
+pub mod Referring
 pub mod Passing
 pub mod Leading
 pub mod Textless

@@ -6,7 +6,7 @@ use Rattle.edi_unit.specs.Tree as tree
 use Rattle.edi_unit.specs.Tree.{Act, Acts, Clause, Clauses, Block, ProgramUnit}
 use Rattle.edi_disjoint.specs.declared.mentions.Mention.{Mention}
 use Rattle.edi_disjoint.specs.declared.mentions.Mention.TheVariants as mention
-use Rattle.edi_disjoint.specs.Footprints.{Variable, Mentions, IsBranch, Reach, Named, Encloses, IsVarParameter, IsTarget, NamesProgram, variable_at, seen}
+use Rattle.edi_disjoint.specs.Footprints.{Variable, Mentions, IsBranch, Reach, Named, Encloses, IsVarParameter, IsTarget, NamesProgram, variable_at}
 
 -- ---- a program without its critical phases
 
@@ -50,6 +50,14 @@ OpenReach unit b n = Reach (open_unit unit) b n
 
 -- ---- uses
 
+-- the variable of a mention in a block, if its value is read or it is assigned to there. To lend it is no use of its value.
+abbrev pub used : List Block → ℕ → Mention → Option Variable
+used blocks block (mention.Reads levels number) = Some (variable_at blocks block levels number)
+used blocks block (mention.Assigns levels number) = Some (variable_at blocks block levels number)
+used blocks block (mention.Lends levels number) = None
+used blocks block (mention.Calls c) = None
+used blocks block (mention.Passes c) = None
+
 -- the procedure parameter that a mention in a block calls or passes on. To call one of the program is to call the system.
 abbrev pub parameter_of : List Block → ℕ → Callee → Option Variable
 parameter_of blocks block (callee.Block levels d) = None
@@ -66,11 +74,12 @@ handled blocks block (mention.Passes c) = parameter_of blocks block c
 abbrev pub NamesOpenly : (List Block → ℕ → Mention → Option Variable) → ProgramUnit → ℕ → Variable → Type 0
 NamesOpenly of unit b v = Named of (open_unit unit) b v
 
--- BRANCH b USES THE VARIABLE OPENLY: it is one of a block round b that b mentions outside a `when`; or one that is lent somewhere, where b mentions
--- a `var` parameter so; or it is a procedure parameter that b calls or passes on so. To lend a variable counts, whatever is done with it then.
+-- BRANCH b USES THE VARIABLE OPENLY: it is one of a block round b that b reads or assigns to outside a `when`; or one that is lent somewhere, where b
+-- so reads or assigns to a `var` parameter; or it is a procedure parameter that b calls or passes on so. To lend a variable is none: it counts where a
+-- `var` parameter that may mean it is used.
 pub data UsesOpenly (unit : ProgramUnit) (b : ℕ) (v : Variable) : Type 0 where
-  outer_one : NamesOpenly seen unit b v → Encloses unit.blocks v.home b → UsesOpenly unit b v
-  lent_one : (x : Variable) → NamesOpenly seen unit b x → IsVarParameter unit x → IsTarget unit v → UsesOpenly unit b v
+  outer_one : NamesOpenly used unit b v → Encloses unit.blocks v.home b → UsesOpenly unit b v
+  lent_one : (x : Variable) → NamesOpenly used unit b x → IsVarParameter unit x → IsTarget unit v → UsesOpenly unit b v
   handles : NamesOpenly handled unit b v → UsesOpenly unit b v
 
 -- NO OPEN USES: no branch has one, and the program itself is called and passed on nowhere

@@ -1,5 +1,5 @@
 -- Helper. The list of open uses that the code keeps, and how it puts one in.
-use Rattle.std.specs.Prelude.{◌≡◌, ◌⊎◌, Contains, ℕ, suc, Bool, true, false, not, if◌then◌else◌, List, [], ◌∷◌, Option, Some, None}
+use Rattle.std.specs.Prelude.{◌≡◌, ◌⊎◌, ◌<◌, Contains, ℕ, suc, Bool, true, false, not, if◌then◌else◌, List, [], ◌∷◌, ◌++◌, map, Option, Some, None}
 use Rattle.std.specs.Global.{Vec}
 use Rattle.edi_unit.specs.declared.expressions.Callee.{Callee}
 use Rattle.edi_unit.specs.declared.expressions.Callee.TheVariants as callee
@@ -13,6 +13,22 @@ use Rattle.edi_disjoint.specs.Open.{OpenUse, comes_before, AreInOrder, IsOpenUse
 
 abbrev pub use_of : code_use.OpenUse → OpenUse
 use_of one = record { block = one.block; variable = record { home = one.home; number = one.number } }
+
+-- a list with a mention at its end, unless that lends a variable
+abbrev pub with_value : List Mention → Mention → List Mention
+with_value xs (mention.Reads levels number) = xs ++ mention.Reads levels number ∷ []
+with_value xs (mention.Assigns levels number) = xs ++ mention.Assigns levels number ∷ []
+with_value xs (mention.Lends levels number) = xs
+with_value xs (mention.Calls c) = xs ++ mention.Calls c ∷ []
+with_value xs (mention.Passes c) = xs ++ mention.Passes c ∷ []
+
+abbrev pub with_values : List Mention → List Mention → List Mention
+with_values xs [] = xs
+with_values xs (m ∷ ms) = with_values (with_value xs m) ms
+
+-- the same texts without what they lend
+abbrev pub AreValues : List (Vec Mention) → List (Vec Mention) → Type 0
+AreValues texts values = map (λ t. t.items) values ≡ map (λ t. with_values [] t.items) texts
 
 -- how many of these come before this one
 abbrev pub index_among : OpenUse → List OpenUse → ℕ
@@ -59,6 +75,10 @@ with_text blocks branch here xs (m ∷ ms) = with_text blocks branch here (with_
 abbrev pub with_blocks : List Block → (branch : ℕ) → List (Vec Mention) → List OpenUse → List ℕ → List OpenUse
 with_blocks blocks branch texts xs [] = xs
 with_blocks blocks branch texts xs (n ∷ ns) = with_blocks blocks branch texts (with_text blocks branch n xs (text_at texts n)) ns
+
+-- these are of blocks with smaller numbers
+abbrev pub AreBefore : (block : ℕ) → List OpenUse → Type 0
+AreBefore block xs = (one : OpenUse) → Contains xs one → one.block < block
 
 -- a list with the open uses of one block more
 pub record Adds (unit : ProgramUnit) (block : ℕ) (old new : List OpenUse) : Type 0 where

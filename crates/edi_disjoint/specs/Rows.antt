@@ -3,13 +3,14 @@ use Rattle.std.proofs.Common.{arith, ◌<◌, ◌⊎◌, inl, inr, suc, zero, su
 use Rattle.std.specs.Prelude.{Contains, Option, Some, slice_index_or, ◌≡◌, ℕ, pos, Bool, true, false, ◌&&◌, ◌==◌, List, [], ◌∷◌, ◌++◌, None, refl}
 use Rattle.edi_calls.specs.Names.{Name}
 use Rattle.edi_unit.specs.declared.units.BlockKind.TheVariants as kind
+use Rattle.edi_unit.specs.declared.units.Parameter.TheVariants as parameter
 use Rattle.edi_unit.specs.Types.{standard_types}
 use Rattle.edi_unit.specs.Need.{block_at}
 use Rattle.edi_unit.specs.Values.{Value, ordinal, zero_value}
 use Rattle.edi_meaning.specs.Store.{get}
 use Rattle.edi_unit.specs.declared.expressions.Callee.TheVariants as callee
 use Rattle.edi_unit.specs.declared.expressions.Operator.TheVariants as op
-use Rattle.edi_unit.specs.Tree.{assign, call, cobegin, skip, when_act, no_argument, Act, Block, ProgramUnit}
+use Rattle.edi_unit.specs.Tree.{assign, by_variable, argument_then, call, cobegin, skip, when_act, no_argument, Act, Block, ProgramUnit}
 use Rattle.edi_meaning.specs.Rows.{empty_system, list_of, one_clause, two, variable, value_of, number}
 use Rattle.edi_meaning.specs.Step.{start}
 use Rattle.edi_meaning.specs.Permitted.{Led, at, permitted}
@@ -18,7 +19,7 @@ use Rattle.edi_disjoint.specs.Mentions.{in_acts}
 use Rattle.edi_disjoint.specs.declared.mentions.Mention.{Mention}
 use Rattle.edi_disjoint.specs.Footprints.{Variable, Mentions, Reach, itself, called, Named, Touches, outside, through, IsVarParameter, seen, written}
 use Rattle.edi_disjoint.specs.Footprints.{CallsSystem, CallsParameter, NamesProgram, calls, passes, Disjoint}
-use Rattle.edi_disjoint.specs.Open.{OpenMentions, OpenReach, NamesOpenly, UsesOpenly, outer_one, lent_one, handles, handled, open_unit}
+use Rattle.edi_disjoint.specs.Open.{OpenMentions, OpenReach, NamesOpenly, UsesOpenly, outer_one, lent_one, handles, used, handled, open_unit}
 use Rattle.edi_disjoint.specs.Report.{forks_in_order, report_of, pair_line}
 
 abbrev pub block : (up : ℕ) → List ℕ → List Act → Block
@@ -228,9 +229,71 @@ row_none_first v u = go u
     named of x k = nothing_in k.mention (subst (λ n. OpenMentions one_phase n k.mention) (here k.block k.reach) k.stands)
 
     go : UsesOpenly one_phase 1 v → ⊥
-    go (outer_one k e) = named seen v k
-    go (lent_one x k var target) = named seen x k
+    go (outer_one k e) = named used v k
+    go (lent_one x k var target) = named used x k
     go (handles k) = named handled v k
+
+-- ---- a variable that is lent
+
+-- proc main / var s: int / proc signal(var x: int) begin when x = x do x := 1 end end / begin cobegin 1 do signal(s) end end
+abbrev pub one_lent : ProgramUnit
+one_lent = record {
+  types = standard_types;
+  blocks = record (block 0 (0 ∷ []) (cobegin (2 ∷ []) 4 ∷ [])) { kind = kind.Program }
+      ∷ record (block 0 [] (when_act (one_clause (two (value_of 0 0) op.Equal (value_of 0 0) 3) (assign (variable 0 0) (number (pos 1)) ∷ [])) 3 ∷ [])) {
+        kind = kind.Procedure;
+        parameters = parameter.Var 0 ∷ [];
+      }
+      ∷ block 0 [] (call (callee.Block 1 1) (argument_then (by_variable (variable 1 0)) no_argument) 4 ∷ []) ∷ [];
+  program = 0;
+  calls = [];
+}
+
+-- the branch lends s outside critical phases, and the procedure uses it in one alone
+pub row_open_lent : in_acts (block_at (open_unit one_lent).blocks 2).body ≡ mention.Calls (callee.Block 1 1) ∷ mention.Lends 1 0 ∷ []
+row_open_lent = refl
+
+pub row_open_signal : in_acts (block_at (open_unit one_lent).blocks 1).body ≡ []
+row_open_signal = refl
+
+-- so nothing is used openly
+pub row_none_lent : (v : Variable) → UsesOpenly one_lent 2 v → ⊥
+row_none_lent v u = go u
+  where
+    none : (x : Variable) → None ≡ Some x → ⊥
+    none x e = cc
+
+    callee_of : (levels d : ℕ) → mention.Calls (callee.Block 1 1) ≡ mention.Calls (callee.Block levels d) → 1 ≡ d
+    callee_of levels d e = cc
+
+    no_callee : (levels d : ℕ) → mention.Lends 1 0 ≡ mention.Calls (callee.Block levels d) → ⊥
+    no_callee levels d e = cc
+
+    here : (n : ℕ) → OpenReach one_lent 2 n → (n ≡ 2) ⊎ (n ≡ 1)
+    here n itself = inl refl
+    here n (called c levels d r m) = elim (here c r) [
+      | inl e ↦ elim (two_in (mention.Calls (callee.Block 1 1)) (mention.Lends 1 0) (mention.Calls (callee.Block levels d))
+          (subst (λ k. OpenMentions one_lent k (mention.Calls (callee.Block levels d))) e m)) [
+            | inl q ↦ inr (sym (callee_of levels d q))
+            | inr q ↦ absurd (no_callee levels d q)
+          ]
+      | inr e ↦ absurd (nothing_in (mention.Calls (callee.Block levels d)) (subst (λ k. OpenMentions one_lent k (mention.Calls (callee.Block levels d))) e m))
+    ]
+
+    named : (of : List Block → ℕ → Mention → Option Variable) → ((n : ℕ) → of (open_unit one_lent).blocks n (mention.Calls (callee.Block 1 1)) ≡ None) →
+        ((n : ℕ) → of (open_unit one_lent).blocks n (mention.Lends 1 0) ≡ None) → (x : Variable) → NamesOpenly of one_lent 2 x → ⊥
+    named of f g x k = elim (here k.block k.reach) [
+      | inl e ↦ elim (two_in (mention.Calls (callee.Block 1 1)) (mention.Lends 1 0) k.mention (subst (λ n. OpenMentions one_lent n k.mention) e k.stands)) [
+        | inl q ↦ none x (sym (ap (of (open_unit one_lent).blocks k.block) (sym q) ∙ f k.block) ∙ k.is)
+        | inr q ↦ none x (sym (ap (of (open_unit one_lent).blocks k.block) (sym q) ∙ g k.block) ∙ k.is)
+      ]
+      | inr e ↦ nothing_in k.mention (subst (λ n. OpenMentions one_lent n k.mention) e k.stands)
+    ]
+
+    go : UsesOpenly one_lent 2 v → ⊥
+    go (outer_one k e) = named used (λ n. refl) (λ n. refl) v k
+    go (lent_one x k var target) = named used (λ n. refl) (λ n. refl) x k
+    go (handles k) = named handled (λ n. refl) (λ n. refl) v k
 
 -- ---- steps of the three branches
 

@@ -4,7 +4,7 @@ ghost use Rattle.edi_disjoint.specs.Exchange.{AttemptsToo, DisjointExchange};
 ghost use Rattle.edi_disjoint.specs.Report.{OneReport};
 
 /// Steps of disjoint branches may be exchanged: two processes that are ready, of two disjoint branches, lead to the same state
-/// whichever of them steps first, in every state of every program that fits, where both orders leave the run going.
+/// whichever of them steps first, in every state that permitted steps reach, of a program that fits, where both orders leave the run going.
 pub fn disjoint_exchange()
     ensures law { DisjointExchange }
 {}

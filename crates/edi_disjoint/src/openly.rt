@@ -1,6 +1,6 @@
 //! What branches use outside critical phases.
 
-ghost use Rattle.std.specs.Prelude.{◌≡◌, ◌<◌, ◌≤◌, ◌^◌, ◌&&◌, IfOk, OnOk, length, map, not, slice_get, true};
+ghost use Rattle.std.specs.Prelude.{[], ◌≡◌, ◌<◌, ◌≤◌, ◌^◌, ◌&&◌, IfOk, OnOk, length, map, not, slice_get, true};
 ghost use Rattle.std.specs.Bool.{Decides};
 ghost use Rattle.edi_unit.specs.Fits.{Fits};
 ghost use Rattle.edi_unit.specs.Need.{block_at};
@@ -11,13 +11,13 @@ ghost use Rattle.edi_disjoint.specs.Found.{AreTexts, variable_of};
 ghost use Rattle.edi_disjoint.specs.Apart.{text_at};
 ghost use Rattle.edi_disjoint.specs.Open.{AreOpenUses, NoOpenUses, comes_before, open_unit};
 ghost use Rattle.edi_disjoint.specs.Openly as spec;
-ghost use Rattle.edi_disjoint.specs.Openly.{Adds, put_in, use_of, with_blocks, with_callee, with_handled, with_text, with_variables};
+ghost use Rattle.edi_disjoint.specs.Openly.{Adds, AreBefore, AreValues, put_in, use_of, with_blocks, with_callee, with_handled, with_text, with_variables};
 ghost use Rattle.edi_disjoint.specs.Searched.{IsWhole};
 ghost use Rattle.edi_disjoint.specs.steps.Inner.{InnerStepsKeep};
 ghost use Rattle.edi_calls.specs.State.{State};
 
 use crate::mentions::Mention;
-use crate::reach::{open_texts, reach, texts};
+use crate::reach::{open_texts, reach, texts, value_texts};
 use crate::searching::{Whole, is_branch, names_program, take_blocks, targets};
 use crate::touching::{Footprint, Variable};
 use edi_unit::{Block, Callee, Unit, outer};
@@ -210,22 +210,40 @@ fn put_blocks(
     Ok(())
 }
 
-// Puts all that a branch uses outside critical phases into the list.
+// What a branch uses outside critical phases: of the texts there, and of them without what they lend.
+fn branch_uses(
+    whole: &Whole<'_>,
+    texts: &[Vec<Mention>],
+    values: &[Vec<Mention>],
+    block: u32,
+) -> Result<Vec<OpenUse>, AllocError>
+    ensures exact { IfOk result (λ list. (unit : ProgramUnit) → Fits unit → IsWhole unit whole.now → AreTexts (open_unit unit) texts.now
+        → AreValues texts.now values.now → IsBranch unit block → Adds unit block [] (map use_of list.items)) }
+{
+    let mut list = Vec::new(whole.alloc);
+    let mut found = Footprint::new(whole.alloc);
+    let reached = reach(whole.alloc, texts, block)?;
+    take_blocks(&mut found, whole, values, block, &reached)?;
+    found.take_targets(whole.targets)?;
+    put_variables(&mut list, block, &found.seen)?;
+    put_blocks(&mut list, whole.blocks, block, texts, &reached)?;
+    Ok(list)
+}
+
+// Puts them behind those of the branches before it, so that no use is looked for among those of others.
 fn put_branch(
     list: &mut Vec<OpenUse>,
     whole: &Whole<'_>,
     texts: &[Vec<Mention>],
+    values: &[Vec<Mention>],
     block: u32,
 ) -> Result<(), AllocError>
-    ensures exact { OnOk result ((unit : ProgramUnit) → Fits unit → IsWhole unit whole.now → AreTexts (open_unit unit) texts.now → IsBranch unit block
+    ensures exact { OnOk result ((unit : ProgramUnit) → Fits unit → IsWhole unit whole.now → AreTexts (open_unit unit) texts.now
+        → AreValues texts.now values.now → IsBranch unit block → AreBefore block (map use_of list.old.items)
         → Adds unit block (map use_of list.old.items) (map use_of list.new.items)) }
 {
-    let mut found = Footprint::new(whole.alloc);
-    let reached = reach(whole.alloc, texts, block)?;
-    take_blocks(&mut found, whole, texts, block, &reached)?;
-    found.take_targets(whole.targets)?;
-    put_variables(list, block, &found.seen)?;
-    put_blocks(list, whole.blocks, block, texts, &reached)?;
+    let own = branch_uses(whole, texts, values, block)?;
+    list.extend_from_slice(&own)?;
     Ok(())
 }
 
@@ -234,22 +252,24 @@ fn put_block(
     list: &mut Vec<OpenUse>,
     whole: &Whole<'_>,
     texts: &[Vec<Mention>],
+    values: &[Vec<Mention>],
     block: &Block,
     number: u32,
 ) -> Result<(), AllocError>
     ensures exact { OnOk result ((unit : ProgramUnit) → Fits unit → IsWhole unit whole.now → AreTexts (open_unit unit) texts.now
-        → block_of block.now ≡ block_at unit.blocks number → number < length unit.blocks → Adds unit number (map use_of list.old.items) (map use_of list.new.items)) }
+        → AreValues texts.now values.now → block_of block.now ≡ block_at unit.blocks number → number < length unit.blocks
+        → AreBefore number (map use_of list.old.items) → Adds unit number (map use_of list.old.items) (map use_of list.new.items)) }
 {
     if !is_branch(block.kind) {
         return Ok(());
     }
-    put_branch(list, whole, texts, number)?;
+    put_branch(list, whole, texts, values, number)?;
     Ok(())
 }
 
 // ---- all branches
 
-/// What the branches of a program use outside critical phases: exactly these variables and procedure parameters, by the numbers of the
+/// The open uses of a program: exactly these variables and procedure parameters, by the numbers of the
 /// branches' blocks, then by those of the blocks that declare them, then by their numbers there. It fails only for want of memory.
 pub fn open_uses(alloc: Global, unit: &Unit) -> Result<Vec<OpenUse>, AllocError>
     ensures exact { Fits (unit_of unit.now) → length (blocks_of unit.now.blocks) < 2 ^ 32
@@ -264,10 +284,11 @@ pub fn open_uses(alloc: Global, unit: &Unit) -> Result<Vec<OpenUse>, AllocError>
         targets: &lent,
     };
     let texts = open_texts(alloc, unit)?;
+    let values = value_texts(alloc, &texts)?;
     let mut list = Vec::new(alloc);
     let mut number: u32 = 0;
     for block in unit.blocks.items() {
-        put_block(&mut list, &whole, &texts, block, number)?;
+        put_block(&mut list, &whole, &texts, &values, block, number)?;
         number = number.saturating_add(1);
     }
     Ok(list)

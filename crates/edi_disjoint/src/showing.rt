@@ -1,6 +1,7 @@
 //! The report on a program's branches.
+#![tactic(auto, using(crate::proofs::Filing::all_filed_append))]
 
-ghost use Rattle.std.specs.Prelude.{◌≡◌, ◌+◌, ◌<◌, ◌^◌, ◌++◌, IfOk, OnOk, codes, decimal, length, filter, map, [], ◌∷◌};
+ghost use Rattle.std.specs.Prelude.{◌≡◌, ◌+◌, ◌<◌, ◌^◌, ◌++◌, IfOk, OnOk, codes, decimal, length, map, replicate, [], ◌∷◌};
 ghost use Rattle.edi_unit.specs.Lists.{list_items};
 ghost use Rattle.edi_unit.specs.View.{act_of, acts_of, blocks_of, clauses_of, unit_of};
 ghost use Rattle.edi_unit.specs.Fits.{Fits};
@@ -8,7 +9,7 @@ ghost use Rattle.edi_disjoint.specs.Apart.{answer_of};
 ghost use Rattle.edi_disjoint.specs.Report.{IsReport, ExchangesReported, branch_lines, fork_lines, forks_in_act, forks_in_acts};
 ghost use Rattle.edi_disjoint.specs.Report.{forks_in_clauses, pair_line, pair_lines};
 ghost use Rattle.edi_disjoint.specs.Report as spec;
-ghost use Rattle.edi_disjoint.specs.Shown.{fork_of};
+ghost use Rattle.edi_disjoint.specs.Shown.{all_filed, filed_at, filed_by, fork_of, forks_here};
 
 use crate::searching::footprints;
 use crate::touching::Footprints;
@@ -26,62 +27,103 @@ struct Fork {
     line: u16,
 }
 
-// ---- the `cobegin`s of a program, in the order of its blocks
+// ---- the `cobegin`s of a program, by the blocks of their first branches
 
 #[cycle(forked)]
-fn put_act(alloc: Global, list: &mut Vec<Fork>, act: &Act) -> Result<(), AllocError>
-    ensures exact { OnOk result (map fork_of list.new.items ≡ map fork_of list.old.items ++ forks_in_act (act_of act.now)) }
+fn put_act(alloc: Global, begun: &mut Vec<Vec<Fork>>, act: &Act) -> Result<(), AllocError>
+    ensures exact { OnOk result (map forks_here begun.new.items ≡ all_filed (map forks_here begun.old.items) (forks_in_act (act_of act.now))) }
 {
     match act {
         Act::Skip | Act::Assign(_, _) | Act::Call(_, _, _) | Act::Halt(_) => Ok(()),
         Act::If(clauses) | Act::While(clauses) | Act::When(clauses, _) => {
-            put_clauses(alloc, list, clauses)
+            put_clauses(alloc, begun, clauses)
         }
-        Act::Cobegin(branches, line) => put_fork(alloc, list, branches, *line),
+        Act::Cobegin(branches, line) => put_fork(alloc, begun, branches, *line),
     }
 }
 
 fn put_fork(
     alloc: Global,
-    list: &mut Vec<Fork>,
+    begun: &mut Vec<Vec<Fork>>,
     branches: &Numbers,
     line: u16,
 ) -> Result<(), AllocError>
-    ensures exact { OnOk result (map fork_of list.new.items ≡ map fork_of list.old.items ++ record { branches = list_items branches.now; line = line } ∷ []) }
+    ensures exact { OnOk result (map forks_here begun.new.items
+        ≡ filed_by (map forks_here begun.old.items) (list_items branches.now) (record { branches = list_items branches.now; line = line })) }
 {
-    let branches = Vec::from_slice(alloc, branches.items())?;
-    list.push(Fork { branches, line })?;
+    match branches.items() {
+        [] => Ok(()),
+        [first, ..] => {
+            let kept = Vec::from_slice(alloc, branches.items())?;
+            file(
+                begun,
+                *first,
+                Fork {
+                    branches: kept,
+                    line,
+                },
+            )
+        }
+    }
+}
+
+// Puts a `cobegin` at the end of those that begin with this block.
+fn file(begun: &mut Vec<Vec<Fork>>, block: u32, fork: Fork) -> Result<(), AllocError>
+    ensures exact { OnOk result (map forks_here begun.new.items ≡ filed_at (map forks_here begun.old.items) block (fork_of fork)) }
+{
+    let index = block as usize;
+    if index >= begun.len() {
+        return Ok(());
+    }
+    begun[index].push(fork)?;
     Ok(())
 }
 
 #[cycle(forked)]
-fn put_clauses(alloc: Global, list: &mut Vec<Fork>, clauses: &Clauses) -> Result<(), AllocError>
-    ensures exact { OnOk result (map fork_of list.new.items ≡ map fork_of list.old.items ++ forks_in_clauses (clauses_of clauses.now)) }
+fn put_clauses(
+    alloc: Global,
+    begun: &mut Vec<Vec<Fork>>,
+    clauses: &Clauses,
+) -> Result<(), AllocError>
+    ensures exact { OnOk result (map forks_here begun.new.items ≡ all_filed (map forks_here begun.old.items) (forks_in_clauses (clauses_of clauses.now))) }
 {
     for clause in clauses.items() {
-        put_acts(alloc, list, &clause.body)?;
+        put_acts(alloc, begun, &clause.body)?;
     }
     Ok(())
 }
 
 #[cycle(forked)]
-fn put_acts(alloc: Global, list: &mut Vec<Fork>, acts: &Acts) -> Result<(), AllocError>
-    ensures exact { OnOk result (map fork_of list.new.items ≡ map fork_of list.old.items ++ forks_in_acts (acts_of acts.now)) }
+fn put_acts(alloc: Global, begun: &mut Vec<Vec<Fork>>, acts: &Acts) -> Result<(), AllocError>
+    ensures exact { OnOk result (map forks_here begun.new.items ≡ all_filed (map forks_here begun.old.items) (forks_in_acts (acts_of acts.now))) }
 {
     for act in acts.items() {
-        put_act(alloc, list, act)?;
+        put_act(alloc, begun, act)?;
     }
     Ok(())
 }
 
-fn forks(alloc: Global, blocks: &Blocks) -> Result<Vec<Fork>, AllocError>
-    ensures exact { IfOk result (λ list. map fork_of list.items ≡ spec.forks_of (blocks_of blocks.now)) }
+// So many lists without a `cobegin`.
+fn none_begun(alloc: Global, many: usize) -> Result<Vec<Vec<Fork>>, AllocError>
+    ensures exact { IfOk result (λ begun. map forks_here begun.items ≡ replicate many []) }
 {
-    let mut list = Vec::new(alloc);
-    for block in blocks.items() {
-        put_acts(alloc, &mut list, &block.body)?;
+    let mut begun = Vec::new(alloc);
+    for _block in 0..many {
+        begun.push(Vec::new(alloc))?;
     }
-    Ok(list)
+    Ok(begun)
+}
+
+// For each block of a program the `cobegin`s whose first branch it is.
+fn forks(alloc: Global, blocks: &Blocks) -> Result<Vec<Vec<Fork>>, AllocError>
+    ensures exact { IfOk result (λ begun. map forks_here begun.items
+        ≡ all_filed (replicate (length (blocks_of blocks.now)) []) (spec.forks_of (blocks_of blocks.now))) }
+{
+    let mut begun = none_begun(alloc, blocks.items().len())?;
+    for block in blocks.items() {
+        put_acts(alloc, &mut begun, &block.body)?;
+    }
+    Ok(begun)
 }
 
 // ---- lines
@@ -194,29 +236,12 @@ fn put_report(text: &mut Vec<u8>, found: &Footprints, fork: &Fork) -> Result<(),
     put_branches(text, found, fork.line, &fork.branches)
 }
 
-// Whether a `cobegin` is the one whose first branch is this block.
-fn begins_with(fork: &Fork, block: u32) -> bool
-    ensures exact { result ≡ spec.begins_with block (fork_of fork.now) }
-{
-    match fork.branches.first() {
-        Some(first) => *first == block,
-        None => false,
-    }
-}
-
-// The lines of the `cobegin` whose first branch is this block, if there is one.
-fn put_begun(
-    text: &mut Vec<u8>,
-    found: &Footprints,
-    forks: &[Fork],
-    block: u32,
-) -> Result<(), AllocError>
-    ensures exact { OnOk result (text.new.items ≡ text.old.items ++ spec.report_of (answer_of found.now) (filter (spec.begins_with block) (map fork_of forks.now))) }
+// The lines of these `cobegin`s.
+fn put_forks(text: &mut Vec<u8>, found: &Footprints, forks: &[Fork]) -> Result<(), AllocError>
+    ensures exact { OnOk result (text.new.items ≡ text.old.items ++ spec.report_of (answer_of found.now) (map fork_of forks.now)) }
 {
     for fork in forks {
-        if begins_with(fork, block) {
-            put_report(text, found, fork)?;
-        }
+        put_report(text, found, fork)?;
     }
     Ok(())
 }
@@ -229,12 +254,10 @@ pub fn report(alloc: Global, unit: &Unit) -> Result<Vec<u8>, AllocError>
     ensures exchange { Fits (unit_of unit.now) → length (blocks_of unit.now.blocks) < 2 ^ 32 → IfOk result (λ text. ExchangesReported (unit_of unit.now) text.items) }
 {
     let found = footprints(alloc, unit)?;
-    let forks = forks(alloc, &unit.blocks)?;
+    let begun = forks(alloc, &unit.blocks)?;
     let mut text = Vec::new(alloc);
-    let mut block: u32 = 0;
-    for _block in unit.blocks.items() {
-        put_begun(&mut text, &found, &forks, block)?;
-        block = block.saturating_add(1);
+    for forks in &begun {
+        put_forks(&mut text, &found, forks.as_slice())?;
     }
     Ok(text)
 }

@@ -10,7 +10,7 @@ ghost use Rattle.edi_disjoint.specs.steps.Turns.{MoreTurnsDoTheSame};
 ghost use Rattle.edi_unit.specs.Tree.{ProgramUnit};
 ghost use Rattle.edi_meaning.specs.Step.{Processes};
 
-/// A step that keeps to itself, and a step of any other process, pass by each other, in every state of every program: behind the other step the
+/// A step that keeps to itself, and a step of any other process, pass by each other, in every state that permitted steps reach: after the other step the
 /// process does the same; and the other one does the same, or ends the program so, where the process has done its step.
 pub fn own_steps_pass()
     ensures law { OwnStepsPass }
@@ -32,8 +32,8 @@ pub fn textless_steps_keep()
     ensures law { TextlessStepsKeep }
 {}
 
-/// A step keeps to itself where it goes on and its text names only variables of the process itself, and calls no function: an assignment, the call of
-/// a procedure by its name, and the choice of an `if` or a `while`. It may lend a `var` parameter, whatever that means.
+/// A step keeps to itself where it goes on and its text uses only values of the process itself, and calls no function: an assignment, the call of
+/// a procedure by its name, and the choice of an `if` or a `while`. It may lend any variable, and a `var` parameter, whatever that means.
 pub fn plain_steps_keep()
     ensures law { PlainStepsKeep }
 {}

@@ -1,4 +1,4 @@
--- Words of contracts. HOW FAR EVERY EXECUTION GOES.
+-- Words of contracts. HOW MANY MOVES EVERY EXECUTION MAKES. Of a stint without end nothing is said.
 use Rattle.std.specs.Prelude.{ℕ, ◌<◌}
 use Rattle.edi_calls.specs.State.{State}
 use Rattle.edi_calls.specs.Choice.{Choices}

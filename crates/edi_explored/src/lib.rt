@@ -38,7 +38,7 @@ pub fn followed_is_all<K: Kept>()
         BeginsWith unit system ℕ K.covers v → K.has most v → AllToldBelow most unit system report }
 {}
 
-/// And where it has nothing for no move, no execution makes as many moves as it has followed.
+/// And where it has followed `most` moves, and keeps nothing that has 0 moves left to follow, no execution makes as many as `most`.
 pub fn followed_is_fewer<K: Kept>()
     ensures law { (unit : ProgramUnit) (system : State) (report : Report) (v most : ℕ) → Followed unit report ℕ K.covers K.has →
         ((w : ℕ) → K.has 0 w → ⊥) → BeginsWith unit system ℕ K.covers v → K.has most v → MakeFewer most unit system }

@@ -110,7 +110,7 @@ module _ (unit : ProgramUnit) (system : State) (es : List Ending) (V : Type 0) (
       (g : step unit s p ≡ ended e rest left) where
     inner_ends : (l : Last) (m : ℕ) → Rest unit p m s l → Judged e
     inner_ends l zero r = spent e (last_over unit s p l r e rest left g)
-    inner_ends l (suc m) r = go (r.keep.either s (record { process = refl; own = refl; frames = λ z o. refl }))
+    inner_ends l (suc m) r = go (r.keep.either s (record { process = refl; own = refl; frames = λ z o. refl; references = λ r d k o. refl }))
       where
         go : GoesAlone unit p r.keep.after r.keep.own r.keep.next r.keep.quiet r.keep.taken s ⊎ IsSpent unit p s → Judged e
         go (inl k) = absurd (not_ended k.0 r.keep.next r.keep.quiet e rest left (sym k.1 ∙ g))

@@ -16,13 +16,14 @@ use Rattle.edi_meaning.specs.Permitted.{is_running, is_running_process, may_step
 use Rattle.edi_meaning.specs.Laws.{IsMade, IsPrivate, StepIsPrivate, IsWaiting}
 use Rattle.edi_meaning.proofs.Own.{owns_self, owns_first}
 use Rattle.edi_meaning.proofs.Parents.{waiting_does_not_run}
-use Rattle.edi_meaning.proofs.Private.{cells_are_private}
+use Rattle.edi_meaning.proofs.Private.{cells_are_private, other_than}
 use Rattle.edi_meaning.proofs.Dangling.{Coherent, owner_waits, permitted_coherent}
 use Rattle.edi_disjoint.specs.steps.Own.{FindsSame}
 use Rattle.edi_disjoint.specs.steps.Inner.{IsAlone}
 use Rattle.edi_disjoint.specs.steps.Turns.{with_more, StepsSo, LeadsSo}
 use Rattle.edi_disjoint.proofs.Commuting.{live_off}
 use Rattle.edi_disjoint.proofs.steps.Leading.{further}
+use Rattle.edi_disjoint.proofs.steps.Referring.{references_stay}
 use Rattle.edi_disjoint.proofs.steps.Turns.{more_turns_do_the_same}
 use Rattle.edi_explored.specs.Stint.{Stinted, goes_on, behind, over, stint, stint_after}
 use Rattle.edi_orders.specs.Orders.{IsWhole}
@@ -97,6 +98,9 @@ module _ (unit : ProgramUnit) (system : State) where
     process = still (took unit s p x.process x.found t n quiet e);
     own = own (private.cells q a.below);
     frames = λ z o. frames z o (private.frames z (λ f. a.above (subst (Owns q) f o)));
+    references = λ z depth variable o.
+        references_stay unit system r.bound r.order s t p x.process n quiet r.comes x.found x.running e z depth variable
+        (other_than p z (λ f. a.above (subst (Owns q) f o))) (off_child q p (apart_swap p q a) z o);
   }
     where
       private : IsPrivate s t p

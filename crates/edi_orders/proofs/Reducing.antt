@@ -173,7 +173,7 @@ module _ (unit : ProgramUnit) (system : State) (es : List Ending) (V : Type 0) (
           let but : IsBut p r.keep.after r.keep.own s t = subst (IsBut p r.keep.after r.keep.own s) (went_state g.0 t r.keep.next next r.keep.quiet quiet (sym g.1 ∙ e)) g.2 in
           inner_pending r.keep.after r.keep.own m but
           (rest_kept unit p m r.after t k.last
-          (both_but unit p r.keep.after r.keep.own s s r.after t (record { process = refl; own = refl; frames = λ z o. refl }) r.but but) r.more)
+          (both_but unit p r.keep.after r.keep.own s s r.after t (record { process = refl; own = refl; frames = λ z o. refl; references = λ z d k o. refl }) r.but but) r.more)
       inner_by m r (inr g) = absurd (not_ended t next quiet outcome.turns g.0 g.1 (sym e ∙ g.2))
 
       last_pending : (a : AtLast unit p s k.last) (c : Asks) (w : World) → Took unit s p k.last.process c w t next quiet → c ≡ k.last.asks → w.store ≡ s.world.store →
@@ -230,4 +230,4 @@ module _ (unit : ProgramUnit) (system : State) (es : List Ending) (V : Type 0) (
         where
           by : (m : ℕ) → Rest unit p m s k.last → Regular n t
           by zero r = last_by r
-          by (suc m) r = inner_by m r (r.keep.either s (record { process = refl; own = refl; frames = λ z o. refl }))
+          by (suc m) r = inner_by m r (r.keep.either s (record { process = refl; own = refl; frames = λ z o. refl; references = λ z d k o. refl }))

@@ -1,5 +1,5 @@
 -- The rest of a stint, told by what the process finds: its inner steps, each of which keeps to itself, and its last step.
-use Rattle.std.proofs.Common.{◌≡◌, ℕ, zero, suc, ◌⊎◌, inl, inr, Bool, true, false, if◌then◌else◌, List, [], ◌∷◌, length, Some, refl, sym, ap, ◌∙◌}
+use Rattle.std.proofs.Common.{◌≡◌, ℕ, zero, suc, ◌⊎◌, inl, inr, Bool, true, false, if◌then◌else◌, List, [], ◌∷◌, length, Option, Some, refl, sym, ap, ◌∙◌}
 use Rattle.std.specs.Prelude.{⊤}
 use Rattle.std.specs.List.{list_any}
 use Rattle.edi_calls.specs.Forks.{equal_share}
@@ -7,10 +7,10 @@ use Rattle.edi_calls.specs.Names.{Name, same, find, with_at}
 use Rattle.edi_calls.specs.Ready.{stays}
 use Rattle.edi_calls.proofs.Tables.{same-refl, same-or-other, find-with_at-same, find-with_at-other}
 use Rattle.edi_unit.specs.Tree.{ProgramUnit}
-use Rattle.edi_meaning.specs.Store.{Instance, Owns, instances, frames, room}
+use Rattle.edi_meaning.specs.Store.{Location, Instance, instances, frames, room}
 use Rattle.edi_meaning.specs.Step.{ready, Asks, goes, arrives, again, forks, leaves, Process, Processes, exceeds}
 use Rattle.edi_meaning.specs.Permitted.{is_running}
-use Rattle.edi_disjoint.specs.steps.Own.{IsBut, FindsSame, KeepsToItself}
+use Rattle.edi_disjoint.specs.steps.Own.{IsBut, FindsSame, KeepsToItself, reference_at}
 use Rattle.edi_disjoint.specs.steps.Inner.{IsReady}
 use Rattle.edi_disjoint.proofs.Effects.{instances_with}
 use Rattle.edi_disjoint.proofs.steps.Leading.{keeps_on}
@@ -54,16 +54,22 @@ module _ (unit : ProgramUnit) (p : Name) where
   both_but x own y z s t h a b = record {
     process = ap (λ l. find l p) b.live ∙ find-with_at-same z.live p x ∙ sym (ap (λ l. find l p) a.live ∙ find-with_at-same y.live p x);
     own = b.store p ∙ one (same p p) (same-refl p) ∙ sym (a.store p);
-    frames = λ r o. ap frames (b.store r) ∙ other (same r p) r o ∙ sym (ap frames (a.store r));
+    frames = λ r o. ap frames (b.store r) ∙ other frames (same r p) r (h.frames r o) ∙ sym (ap frames (a.store r));
+    references = λ r d k o.
+        ap (at d k) (b.store r) ∙ other (at d k) (same r p) r (h.references r d k o) ∙ sym (ap (at d k) (a.store r));
   }
     where
       one : (c : Bool) → c ≡ true → (if c then own else instances z.world.store p) ≡ (if c then own else instances y.world.store p)
       one true e = refl
       one false e = absurd (cc)
 
-      other : (c : Bool) (r : Name) → Owns p r → frames (if c then own else instances z.world.store r) ≡ frames (if c then own else instances y.world.store r)
-      other true r o = refl
-      other false r o = h.frames r o
+      at : (depth variable : ℕ) → List Instance → Option Location
+      at depth variable is = reference_at is depth variable
+
+      other : {A : Type 0} (of : List Instance → A) (c : Bool) (r : Name) → of (instances z.world.store r) ≡ of (instances y.world.store r) →
+          of (if c then own else instances z.world.store r) ≡ of (if c then own else instances y.world.store r)
+      other of true r e = refl
+      other of false r e = e
 
   -- the state with p so
   pub become : (x : Process) (own : List Instance) (z : Processes) → (t : Processes) × IsBut p x own z t

@@ -23,7 +23,7 @@ use Rattle.edi_meaning.proofs.Sound.{Each}
 use Rattle.edi_meaning.proofs.Standstill.{Idle, SameBut, Marks, step_marks}
 use Rattle.edi_meaning.proofs.Work.{Falls, standing_size, work_size, step_falls}
 use Rattle.edi_meaning.proofs.Permitted.{May, StepSound, step_sound}
-use Rattle.edi_disjoint.specs.steps.Own.{IsBut, FindsSame, GoesAlone, IsSpent, KeepsToItself}
+use Rattle.edi_disjoint.specs.steps.Own.{IsBut, FindsSame, GoesAlone, IsSpent, KeepsToItself, reference_at}
 use Rattle.edi_disjoint.specs.steps.Inner.{IsReady, IsAlone, InnerStepsKeep}
 use Rattle.edi_disjoint.specs.steps.Turns.{with_more}
 use Rattle.edi_disjoint.proofs.Effects.{live_effect, store_effect}
@@ -120,6 +120,7 @@ module _ (unit : ProgramUnit) (ks : Pending) (p : Name) (apart : ApartAll p ks) 
     process = shifted.live p ∙ live_fixed unit ks p apart (find z.live p);
     own = shifted.store p ∙ store_fixed unit ks p apart p (owns_self p) (instances z.world.store p);
     frames = λ r o. ap frames (shifted.store r ∙ store_fixed unit ks p apart r o (instances z.world.store r));
+    references = λ r d k o. ap (λ (is : List Instance). reference_at is d k) (shifted.store r ∙ store_fixed unit ks p apart r o (instances z.world.store r));
   }
 
   -- where it does the same by itself, all else stays so
@@ -290,7 +291,7 @@ module _ (unit : ProgramUnit) (system : State) (es : List Ending) (calm : AreCal
 
       module _ (k : KeepsToItself unit zz p) where
         zz_same : FindsSame p zz z
-        zz_same = record { process = refl; own = refl; frames = λ r o. refl }
+        zz_same = record { process = refl; own = refl; frames = λ r o. refl; references = λ r d k o. refl }
 
         abbrev kz : KeepsToItself unit z p
         kz = keeps_on unit zz z p k zz_same
@@ -302,7 +303,7 @@ module _ (unit : ProgramUnit) (system : State) (es : List Ending) (calm : AreCal
         alone_is s t e (inr g) = absurd (not_ended t stays false outcome.turns g.0 g.1 (sym e ∙ g.2))
 
         in_z : IsBut p k.after k.own zz z1 × (k.next ≡ stays)
-        in_z = alone_is zz z1 steps (k.either zz (record { process = refl; own = refl; frames = λ r o. refl }))
+        in_z = alone_is zz z1 steps (k.either zz (record { process = refl; own = refl; frames = λ r o. refl; references = λ r d k o. refl }))
 
         in_Z : IsBut p k.after k.own Z Z1 × (k.next ≡ stays)
         in_Z = alone_is Z Z1 f (kz.either Z same_found)

@@ -11,6 +11,7 @@ use Rattle.edi_meaning.specs.Step.{Processes, Stepped, went, ended, step, start}
 use Rattle.edi_meaning.specs.Permitted.{may_step, at, over, nowhere, onward, permitted}
 use Rattle.edi_meaning.proofs.Permitted.{start_may, start_all}
 use Rattle.edi_disjoint.specs.steps.Inner.{InnerStepsKeep}
+use Rattle.edi_disjoint.proofs.steps.Leading.{same_state}
 use Rattle.edi_explored.specs.Covered.{CannotGo, endings, Followed, BeginsWith}
 use Rattle.edi_orders.specs.Orders.{EndsBySteps, AreCalm, Completes, StintsAreEnough}
 use Rattle.edi_orders.proofs.Beginning.{marked_step, beginning_step}
@@ -20,9 +21,6 @@ use Rattle.edi_orders.proofs.Pending.{NotIn}
 use Rattle.edi_orders.proofs.Reaching.{Runs, runs_of, Reached, reached_step}
 use Rattle.edi_orders.proofs.Reducing.{Picked, pick, Regular, Alone, Invariant, pending_step}
 use Rattle.edi_orders.proofs.Running.{ready_unmarked}
-
-same_state : (s t : Processes) → at s ≡ at t → s ≡ t
-same_state s t e = cc
 
 same_end : (d e : Ending) (rest end : Traced) (left turns : ℕ) → over d rest left ≡ over e end turns → d ≡ e
 same_end d e rest end left turns g = cc

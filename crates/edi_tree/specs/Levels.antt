@@ -1,6 +1,6 @@
 -- Definition. The levels of a tree. A level is opened by `proc`, `module`, `if`, `while`, `when`, `cobegin`, `(`, `[` and `not`, and is
 -- closed where its construct ends: `(` and `[` at their `)` and `]`, a procedure at its `end`, a heading alone, which is a
--- parameter or stands behind `pre`, at its last symbol, and `not` at the end of its factor. The elements of a tree are the
+-- parameter or stands after `pre`, at its last symbol, and `not` at the end of its factor. The elements of a tree are the
 -- marks that it spells, with the ends of the levels between them.
 use Rattle.std.specs.Prelude.{◌≡◌, ℕ, zero, suc, max, Bool, true, false, List, [], ◌∷◌, ◌++◌, Option, Some, None, if◌then◌else◌}
 use Rattle.edi_lex.specs.declared.symbol.Symbol.{Symbol}

@@ -2,7 +2,6 @@
 
 ghost use Rattle.std.specs.Prelude.{◌≡◌, ◌∷◌, ◌++◌, replicate, None, Some, OnOk};
 ghost use Rattle.edi_tree.specs.Stands.{addition_symbol, char_mark, chars_mark, just, multiplication_symbol, name_mark, on, relation_symbol};
-ghost use Rattle.edi_tree.specs.Spelled.{};
 ghost use Rattle.edi_tree.specs.Printed.{gap, line_at, text_of};
 ghost use Rattle.edi_tree.specs.Printing.{put, put_text};
 ghost use Rattle.edi_lex.specs.declared.symbol.Symbol.TheVariants as is;

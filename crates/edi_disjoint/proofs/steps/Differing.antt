@@ -184,7 +184,7 @@ module _ (unit : ProgramUnit) (q : Name) (size more : ℕ) (change : Name → Li
     to_pass = λ x c w u may h. (same_meant w u h c, meant_owned unit q size c w h.owned);
     by_value = λ x e v. tt;
     by_location = λ x v l c. c;
-    to_location = λ x a l f. f;
+    to_location = λ x es number a l e f. f;
   }
 
   differing_moves : Moving differing tt (λ w u. Differ w u) ⊤

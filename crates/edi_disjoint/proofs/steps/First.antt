@@ -9,7 +9,7 @@ use Rattle.edi_meaning.specs.Permitted.{is_running_process, may_step, at, nowher
 use Rattle.edi_disjoint.specs.steps.Own.{IsBut, FindsSame, GoesAlone, IsSpent, KeepsToItself, LeadsAlike, ComesBefore}
 use Rattle.edi_disjoint.specs.steps.Turns.{with_more}
 use Rattle.edi_disjoint.specs.steps.First.{IsSameWith, OwnStepsGoFirst}
-use Rattle.edi_disjoint.proofs.steps.Leading.{own_steps_come_before}
+use Rattle.edi_disjoint.proofs.steps.Leading.{same_state, own_steps_come_before}
 
 -- ---- the last of permitted steps
 
@@ -24,10 +24,7 @@ module _ (unit : ProgramUnit) (p : Name) (a : Processes) where
 
   last_alone : (s : Processes) (b : Bool) (x : Stepped) → step unit s p ≡ x → (if b then onward x [] (permitted unit []) else nowhere) ≡ at a → Last [] s
   last_alone s true (went c n quiet) goes e =
-      record { before = s; leads = refl; next = n; quiet = quiet; goes = goes ∙ ap (λ (z : Processes). went z n quiet) (same_state e) }
-    where
-      same_state : at c ≡ at a → c ≡ a
-      same_state e = cc
+      record { before = s; leads = refl; next = n; quiet = quiet; goes = goes ∙ ap (λ (z : Processes). went z n quiet) (same_state c a e) }
   last_alone s true (ended ending system turns) goes e = absurd (cc)
   last_alone s false x goes e = absurd (cc)
 
@@ -71,7 +68,7 @@ module _ (unit : ProgramUnit) (s : Processes) (p : Name) (k : KeepsToItself unit
   -- p's step from s with some turns more
   first_step : GoesAlone unit p k.after k.own k.next k.quiet k.taken (with_more (k.taken + k.enough) s)
   first_step =
-      k.goes (with_more (k.taken + k.enough) s) (record { process = refl; own = refl; frames = λ r o. refl }) (omega arith)
+      k.goes (with_more (k.taken + k.enough) s) (record { process = refl; own = refl; frames = λ r o. refl; references = λ r d k o. refl }) (omega arith)
 
   from_s : (t : Processes) → IsBut p k.after k.own (with_more (k.taken + k.enough) s) t → IsBut p k.after k.own s t
   from_s t h = record { live = h.live; store = h.store; system = h.system }

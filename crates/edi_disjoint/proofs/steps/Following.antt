@@ -79,7 +79,9 @@ pub record Following (unit : ProgramUnit) (p : Name) (size : ℕ) : Type 1 where
       (meant unit p size c w ≡ meant unit p size c u) × Fits x (tree.by_procedure c) (procedure (meant unit p size c w))
   pub by_value : (x : Level) (e : Expression) (v : Value) → Fits x (tree.by_value e) (value v)
   pub by_location : (x : Level) (v : Place) (l : Location) → Comes x lends l → Fits x (tree.by_variable v) (location l)
-  pub to_location : (x : Level) (a : Argument) (l : Location) → Fits x a (location l) → Comes x assigns l
+  -- a call of the system puts its answer there
+  pub to_location : (x : Level) (es : Arguments) (number : ℕ) (a : Argument) (l : Location) → Enters x es (system_procedure number) → Fits x a (location l) →
+      Comes x assigns l
 
 module _ {unit : ProgramUnit} {p : Name} {size : ℕ} (s : Following unit p size) where
   pub record Pairs {A : Type 0} (P : A → World → World → Type 0) (r t : Evaluation A) : Type 0 where
@@ -145,29 +147,35 @@ module _ {unit : ProgramUnit} {p : Name} {size : ℕ} (s : Following unit p size
   element_pairs x way (record_of fs) line l v w u c h = give _ _ w u (c, h)
   element_pairs x way (set_of b) line l v w u c h = give _ _ w u (c, h)
 
-  answer_pairs : (x : s.Level) (es : Arguments) (cells : List Cell) (words : List ℕ) (w u : World) → Each (s.Fits x) es cells → s.Holds x w u →
+  answer_pairs : (x : s.Level) (all : Arguments) (number : ℕ) (es : Arguments) (cells : List Cell) (words : List ℕ) (w u : World) →
+      s.Enters x all (system_procedure number) → Each (s.Fits x) es cells → s.Holds x w u →
       s.Holds x (record w { store = answer_in cells words w.store }) (record u { store = answer_in cells words u.store })
-  answer_pairs x tree.no_argument [] words w u f h = h
-  answer_pairs x tree.no_argument (c ∷ cells) words w u f h = absurd f
-  answer_pairs x (tree.argument_then a es) [] words w u f h = absurd f
-  answer_pairs x (tree.argument_then a es) (location l ∷ cells) [] w u f h = answer_pairs x es cells [] w u f.1 h
-  answer_pairs x (tree.argument_then a es) (location l ∷ cells) (word ∷ words) w u f h = s.stored x l (ordinal (pos word)) w u (s.to_location x a l f.0) h
-  answer_pairs x (tree.argument_then a es) (value v ∷ cells) words w u f h = answer_pairs x es cells words w u f.1 h
-  answer_pairs x (tree.argument_then a es) (procedure c ∷ cells) words w u f h = answer_pairs x es cells words w u f.1 h
+  answer_pairs x all number tree.no_argument [] words w u c f h = h
+  answer_pairs x all number tree.no_argument (d ∷ cells) words w u c f h = absurd f
+  answer_pairs x all number (tree.argument_then a es) [] words w u c f h = absurd f
+  answer_pairs x all number (tree.argument_then a es) (location l ∷ cells) [] w u c f h = answer_pairs x all number es cells [] w u c f.1 h
+  answer_pairs x all number (tree.argument_then a es) (location l ∷ cells) (word ∷ words) w u c f h =
+      s.stored x l (ordinal (pos word)) w u (s.to_location x all number a l c f.0) h
+  answer_pairs x all number (tree.argument_then a es) (value v ∷ cells) words w u c f h = answer_pairs x all number es cells words w u c f.1 h
+  answer_pairs x all number (tree.argument_then a es) (procedure d ∷ cells) words w u c f h = answer_pairs x all number es cells words w u c f.1 h
 
-  answered_pairs : (x : s.Level) (es : Arguments) (result : CallResult) (cells : List Cell) (line : ℕ) (w u : World) → Each (s.Fits x) es cells → s.Holds x w u →
+  answered_pairs : (x : s.Level) (es : Arguments) (number : ℕ) (result : CallResult) (cells : List Cell) (line : ℕ) (w u : World) →
+      s.Enters x es (system_procedure number) → Each (s.Fits x) es cells → s.Holds x w u →
       ((system : State) → s.Holds x (record w { system = after_call system w.system }) (record u { system = after_call system u.system })) →
       Pairs (At x Any) (answered_by result cells line w) (answered_by result cells line u)
-  answered_pairs x es (answered words system) cells line w u f h k =
-      give _ tt _ _ (tt, answer_pairs x es cells words (record w { system = after_call system w.system }) (record u { system = after_call system u.system }) f (k system))
-  answered_pairs x es no_file cells line w u f h k = stop _ x (outcome.failed cause.NoFile line) w u h
-  answered_pairs x es file_limit cells line w u f h k = stop _ x (outcome.failed cause.FileLimit line) w u h
+  answered_pairs x es number (answered words system) cells line w u c f h k =
+      give _ tt _ _ (
+        tt,
+        answer_pairs x es number es cells words (record w { system = after_call system w.system }) (record u { system = after_call system u.system }) c f (k system),
+      )
+  answered_pairs x es number no_file cells line w u c f h k = stop _ x (outcome.failed cause.NoFile line) w u h
+  answered_pairs x es number file_limit cells line w u c f h k = stop _ x (outcome.failed cause.FileLimit line) w u h
 
   pub system_pairs : (x : s.Level) (es : Arguments) (number : ℕ) (cells : List Cell) (line : ℕ) (w u : World) → s.Enters x es (system_procedure number) →
       Each (s.Fits x) es cells → s.Holds x w u → Pairs (At x Any) (system_call number cells line w) (system_call number cells line u)
   system_pairs x es number cells line w u c f h =
       subst (λ z. Pairs (At x Any) (answered_by (call number (words_of_cells cells) w.system.now) cells line w) (answered_by (call number (words_of_cells cells) z) cells line u))
-      (s.asked x es number w u c h).0 (answered_pairs x es (call number (words_of_cells cells) w.system.now) cells line w u f h (s.asked x es number w u c h).1)
+      (s.asked x es number w u c h).0 (answered_pairs x es number (call number (words_of_cells cells) w.system.now) cells line w u c f h (s.asked x es number w u c h).1)
 
   -- a block is entered
   entered_pairs : {A : Type 0} (x : s.Level) (P : A → World → World → Type 0) (es : Arguments) (number : ℕ) (parent : Spot) (cells : List Cell) (line : ℕ) (w u : World)

@@ -80,7 +80,7 @@ module _ (unit : ProgramUnit) (s : Processes) (p : Name) (q : Process) (found : 
       m = s.world.turns
 
       richer_alone : Alone (with_more m t)
-      richer_alone = goes_too (with_more m t) (record { process = f.process; own = f.own; frames = f.frames }) (omega arith)
+      richer_alone = goes_too (with_more m t) (record { process = f.process; own = f.own; frames = f.frames; references = f.references }) (omega arith)
 
       world_of : (a : Processes) (n : Next) (quiet : Bool) (b : Processes) → went a stays false ≡ went b n quiet → (a ≡ b) × (went b stays false ≡ went b n quiet)
       world_of a n quiet b e = (first e, ap (λ z. went z stays false) (sym (first e)) ∙ e)
@@ -238,7 +238,7 @@ module _ (unit : ProgramUnit) (ok : Fits unit) (none : NoOpenUses unit) (s : Pro
           (local_owned unit ok none.unnamed (first_block (F p)) no_use p q.size more s.world t.world F ready q.work s.world t.world
           (open_now unit ok none.unnamed s p q found runs lawful.coherent lawful.stood lives standing)
           (owns_now unit ok none.unnamed s p q found runs lawful.coherent lawful.stood other lives no_use more t.world
-          (record { own = f.own; alike = f.frames; others = λ r n. refl }) turns)).is
+          (record { own = f.own; alike = f.frames; references = f.references; others = λ r n. refl }) turns)).is
 
     abbrev Kept : ℕ → Processes → Asks → World → World → Type 0
     Kept more t a w u = Owned unit ok none.unnamed (first_block (F p)) no_use p q.size more s.world t.world w u

@@ -14,7 +14,7 @@ use Rattle.edi_disjoint.proofs.steps.Passing.{own_steps_pass}
 
 -- ---- an order of steps with one more at its end
 
-same_state : (s t : Processes) → at s ≡ at t → s ≡ t
+pub same_state : (s t : Processes) → at s ≡ at t → s ≡ t
 same_state s t e = cc
 
 module _ (unit : ProgramUnit) (q : Name) (s a : Processes) (n : Next) (quiet : Bool) (may : may_step s q ≡ true) (goes : step unit s q ≡ went a n quiet) where
@@ -37,10 +37,15 @@ module _ (unit : ProgramUnit) (q : Name) (s a : Processes) (n : Next) (quiet : B
 -- ---- what p finds
 
 pub finds_itself : (p : Name) (s : Processes) → FindsSame p s s
-finds_itself p s = record { process = refl; own = refl; frames = λ r o. refl }
+finds_itself p s = record { process = refl; own = refl; frames = λ r o. refl; references = λ r d k o. refl }
 
 pub finds_on : (p : Name) (s a t : Processes) → FindsSame p s a → FindsSame p a t → FindsSame p s t
-finds_on p s a t h k = record { process = k.process ∙ h.process; own = k.own ∙ h.own; frames = λ r o. k.frames r o ∙ h.frames r o }
+finds_on p s a t h k = record {
+  process = k.process ∙ h.process;
+  own = k.own ∙ h.own;
+  frames = λ r o. k.frames r o ∙ h.frames r o;
+  references = λ r depth variable o. k.references r depth variable o ∙ h.references r depth variable o;
+}
 
 -- where p finds the same its next step keeps to itself as well
 abbrev pub keeps_on : (unit : ProgramUnit) (s a : Processes) (p : Name) → KeepsToItself unit s p → FindsSame p s a → KeepsToItself unit a p

@@ -2,7 +2,7 @@
 -- are: each change keeps that, and changes nothing but its own instances.
 use Rattle.std.proofs.Common.{◌≡◌, ℕ, zero, suc, ◌+◌, ◌-◌, ◌≤◌, ◌⊎◌, inl, inr, List, [], ◌∷◌, ◌++◌, take, length, Option, Some, refl, sym, subst, ap, ◌∙◌, arith}
 use Rattle.std.specs.Prelude.{⊤, slice_get, slice_index_or, unwrap_or}
-use Rattle.edi_calls.specs.Names.{Name, same}
+use Rattle.edi_calls.specs.Names.{Name}
 use Rattle.edi_unit.specs.declared.expressions.Callee.{Callee}
 use Rattle.edi_unit.specs.declared.expressions.Callee.TheVariants as callee
 use Rattle.edi_unit.specs.Need.{block_at, outer, slots, slot_type}
@@ -18,15 +18,15 @@ use Rattle.edi_meaning.specs.Store.{grown, shrunk, Owns, IsLive}
 use Rattle.edi_meaning.specs.Evaluation.{World}
 use Rattle.edi_meaning.specs.Whole.{Designated, part_of, meant, instance_of, named}
 use Rattle.edi_meaning.specs.Step.{Standing, Work, local_step}
-use Rattle.edi_meaning.specs.Laws.{Means}
+use Rattle.edi_meaning.specs.Laws.{Means, CellMeans}
 use Rattle.edi_meaning.proofs.Lasting.{Every}
 use Rattle.edi_meaning.proofs.Own.{owns_self, every-append, every-take, instances-same}
 use Rattle.edi_meaning.proofs.Frames.{frames-take}
-use Rattle.edi_meaning.proofs.References.{means_all}
+use Rattle.edi_meaning.proofs.References.{means_all, cell_means}
 use Rattle.edi_disjoint.specs.declared.mentions.Mention.{Mention}
 use Rattle.edi_disjoint.specs.declared.mentions.Mention.TheVariants as mention
-use Rattle.edi_disjoint.specs.Footprints.{Variable, variable_at, called, Encloses, IsTarget, IsVar, NamesProgram, seen}
-use Rattle.edi_disjoint.specs.Open.{OpenReach, OpenMentions, NamesOpenly, UsesOpenly, outer_one, lent_one, handles, handled, open_acts, open_unit}
+use Rattle.edi_disjoint.specs.Footprints.{Variable, variable_at, called, Encloses, IsTarget, IsVar, NamesProgram}
+use Rattle.edi_disjoint.specs.Open.{OpenReach, OpenMentions, NamesOpenly, UsesOpenly, outer_one, lent_one, handles, used, handled, open_acts, open_unit}
 use Rattle.edi_disjoint.proofs.Opened.{variable_opened, stands_opened}
 use Rattle.edi_disjoint.specs.Leaves.{Way, reads, assigns, lends, ActsMay, Each}
 use Rattle.edi_disjoint.proofs.Cells.{block_in, root, CellFits, cell_fits}
@@ -36,6 +36,7 @@ use Rattle.edi_disjoint.proofs.Entered.{Handed}
 use Rattle.edi_disjoint.proofs.Inside.{older_owns, Known, Entry, lives, reached_from, spot_means, spot_block, lent_here, block_entry, pass_handed, put_known, grown_shape}
 use Rattle.edi_disjoint.proofs.Inside.{block_inside, entered_known, left_known}
 use Rattle.edi_disjoint.proofs.Knowing.{any_open_body}
+use Rattle.edi_disjoint.proofs.steps.Locations.{same_located}
 use Rattle.edi_disjoint.proofs.steps.Stores.{SameOwn, same_with, same_put}
 use Rattle.edi_disjoint.proofs.steps.Following.{Following, Pairs}
 use Rattle.edi_disjoint.proofs.steps.Stepping.{Moving, StandingMay, local_pairs}
@@ -46,13 +47,11 @@ module _ (unit : ProgramUnit) (ok : Fits unit) (unnamed : NamesProgram unit → 
 
   -- ---- locations and procedures
 
-  abbrev pub Aimed : Shape → Way → Location → Type 0
-  Aimed F reads l = ⊤
-  Aimed F assigns l = ⊤
-  Aimed F lends l = IsTarget unit (root F l)
-
+  -- what is read or assigned to is in an instance of p; what is lent may be anywhere
   abbrev pub Comes : Shape → Way → Location → Type 0
-  Comes F way l = Means F (now F p) l.spot × (l.spot.0 ≡ p) × Aimed F way l
+  Comes F reads l = Means F (now F p) l.spot × (l.spot.0 ≡ p)
+  Comes F assigns l = Means F (now F p) l.spot × (l.spot.0 ≡ p)
+  Comes F lends l = Means F (now F p) l.spot × IsTarget unit (root F l)
 
   pub record MayEnter (F : Shape) (es : Arguments) (m : ℕ) (parent : Spot) : Type 0 where
     pub entry : Entry unit ok p F es m parent
@@ -63,11 +62,11 @@ module _ (unit : ProgramUnit) (ok : Fits unit) (unnamed : NamesProgram unit → 
   Enters F es (system_procedure number) = ⊥
   Enters F es (block_procedure m parent) = MayEnter F es m parent
 
-  abbrev pub Mine : Location → Type 0
-  Mine l = l.spot.0 ≡ p
+  abbrev pub Anywhere : Location → Type 0
+  Anywhere l = ⊤
 
   abbrev pub HandedOn : Shape → Argument → Cell → Type 0
-  HandedOn F a c = Handed unit ok F (now F p) (block_in F (now F p)) Mine a c
+  HandedOn F a c = Handed unit ok F (now F p) (block_in F (now F p)) Anywhere a c
 
   module _ (more : ℕ) (w0 u0 : World) where
     -- F is the shape of the first world
@@ -146,29 +145,36 @@ module _ (unit : ProgramUnit) (ok : Fits unit) (unnamed : NamesProgram unit → 
         is_x : Some (variable_at (open_unit unit).blocks n levels v) ≡ Some x
         is_x = ap (λ (y : Variable). Some y) (variable_opened unit.blocks n levels v)
 
-        names : (way : Way) → OpenMentions unit n (mention_of way levels v) → NamesOpenly seen unit b x
-        names reads m = named_by seen (mention.Reads levels v) m is_x
-        names assigns m = named_by seen (mention.Assigns levels v) m is_x
-        names lends m = named_by seen (mention.Lends levels v) m is_x
+        -- a use by value
+        by_value : (m : Mention) → OpenMentions unit n m → used (open_unit unit).blocks n m ≡ Some (variable_at (open_unit unit).blocks n levels v) → NamesOpenly used unit b x
+        by_value m stands e = named_by used m stands (e ∙ is_x)
 
-        held : NamesOpenly seen unit b x → t.0 ≡ p
+        held : NamesOpenly used unit b x → t.0 ≡ p
         held m = go t_place
           where
             go : InPlace unit b p F t → t.0 ≡ p
             go (inl e) = e
             go (inr e) = absurd (none x (outer_one m (subst (λ m. Encloses unit.blocks m b) t_block e)))
 
-        aimed : (way : Way) → OpenMentions unit n (mention_of way levels v) → Aimed F way (record { spot = t; variable = v; path = [] })
-        aimed reads m = tt
-        aimed assigns m = tt
-        aimed lends m = lent_here unit ok p F w k levels v (stands_opened unit n (mention.Lends levels v) m)
+        abbrev Fit : Cell → Type 0
+        Fit c = CellFits unit H F (block_in F t) v (slice_get (slots (block_at unit.blocks (block_in F t))) v) c
 
-        comes : (way : Way) → OpenMentions unit n (mention_of way levels v) → (c : Cell) →
-            CellFits unit H F (block_in F t) v (slice_get (slots (block_at unit.blocks (block_in F t))) v) c → Comes F way (located t v c)
-        comes way m (value y) f = (t_means, held (names way m), aimed way m)
-        comes way m (procedure c) f = (t_means, held (names way m), aimed way m)
-        comes way m (location l) f =
-            absurd (none (root F l) (lent_one x (names way m) (subst (λ i. IsVar (slice_get (slots (block_at unit.blocks i)) v)) t_block f.0) f.1))
+        -- of a use by value: it is in p, since no `var` parameter is so used
+        mine : NamesOpenly used unit b x → (c : Cell) → Fit c → Means F here (located t v c).spot × ((located t v c).spot.0 ≡ p)
+        mine m (value y) f = (t_means, held m)
+        mine m (procedure c) f = (t_means, held m)
+        mine m (location l) f =
+            absurd (none (root F l) (lent_one x m (subst (λ i. IsVar (slice_get (slots (block_at unit.blocks i)) v)) t_block f.0) f.1))
+
+        lent : OpenMentions unit n (mention.Lends levels v) → (c : Cell) → CellMeans F t c → Fit c → Comes F lends (located t v c)
+        lent m (value y) g f = (t_means, lent_here unit ok p F w k levels v (stands_opened unit n (mention.Lends levels v) m))
+        lent m (procedure c) g f = (t_means, lent_here unit ok p F w k levels v (stands_opened unit n (mention.Lends levels v) m))
+        lent m (location l) g f = (means_all F here t l.spot t_means g, f.1)
+
+        comes : (way : Way) → OpenMentions unit n (mention_of way levels v) → Comes F way (located t v (cell w.store t v))
+        comes reads m = mine (by_value (mention.Reads levels v) m refl) (cell w.store t v) (cell_fits unit H F w.store k.store t v)
+        comes assigns m = mine (by_value (mention.Assigns levels v) m refl) (cell w.store t v) (cell_fits unit H F w.store k.store t v)
+        comes lends m = lent m (cell w.store t v) (cell_means F w.store k.refers t v) (cell_fits unit H F w.store k.store t v)
 
         abbrev designed : Spot → Frame → Cell → Designated
         designed s f c = record { at = located s v c; of = slot_type (slice_get (slots (block_at unit.blocks f.block)) v) }
@@ -185,9 +191,10 @@ module _ (unit : ProgramUnit) (ok : Fits unit) (unnamed : NamesProgram unit → 
             (named unit p size levels v w.store ≡ named unit p size levels v u.store) × Comes F way (named unit p size levels v w.store).at
         slot_pairs way m = (
           named_w
-              ∙ ap (λ is. designed t (frame_at F t) (slice_index_or (cells_in is t.1) v no_cell)) (same_of t.0 (held (names way m)))
+              ∙ ap (λ (l : Location). record { at = l; of = slot_type (slice_get (slots (block_at unit.blocks (frame_at F t).block)) v) })
+              (same_located t v (cell w.store t v) (cell u.store t v) (sym (h.store.references t.0 t.1 v (means_owns t t_means))))
               ∙ sym named_u,
-          subst (λ d. Comes F way d.at) (sym named_w) (comes way m (cell w.store t v) (cell_fits unit H F w.store k.store t v)),
+          subst (λ d. Comes F way d.at) (sym named_w) (comes way m),
         )
 
         -- ---- procedures
@@ -221,7 +228,7 @@ module _ (unit : ProgramUnit) (ok : Fits unit) (unnamed : NamesProgram unit → 
           (meant unit p size c w ≡ meant unit p size c u) × HandedOn F (tree.by_procedure c) (procedure (meant unit p size c w))
       to_pass (callee.Block levels m) a = (
         block_same levels 0 m,
-        pass_handed unit ok p F w k unnamed size Mine (callee.Block levels m) (stands_opened unit n (mention.Passes (callee.Block levels m)) a.0, a.1),
+        pass_handed unit ok p F w k unnamed size Anywhere (callee.Block levels m) (stands_opened unit n (mention.Passes (callee.Block levels m)) a.0, a.1),
       )
       to_pass (callee.Formal levels v) a = absurd (no_pass levels v a.0)
 
@@ -251,8 +258,8 @@ module _ (unit : ProgramUnit) (ok : Fits unit) (unnamed : NamesProgram unit → 
 
         pub entered : Owning G (record w { store = grown p i w.store }) (record u { store = grown p i u.store })
         entered = record {
-          known = entered_known unit ok p F w k size Mine es number parent cells m.entry each;
-          frames = subst (Every (OpenFits unit b p)) (sym (grown_shape unit ok p F w k size Mine es number parent cells m.entry each))
+          known = entered_known unit ok p F w k size Anywhere es number parent cells m.entry each;
+          frames = subst (Every (OpenFits unit b p)) (sym (grown_shape unit ok p F w k size Anywhere es number parent cells m.entry each))
               (every-append (OpenFits unit b p) (F p) (i.frame ∷ []) h.frames (record { reach = m.reach; place = m.place }, tt));
           store = same_with p u0.store w.store u.store h.store (λ is. is ++ i ∷ []);
           system = h.system;
@@ -262,7 +269,7 @@ module _ (unit : ProgramUnit) (ok : Fits unit) (unnamed : NamesProgram unit → 
 
         pub back : (v z : World) → Owning G v z → Owning F (record v { store = shrunk p v.store }) (record z { store = shrunk p z.store })
         back v z j = record {
-          known = left_known unit ok p F w k size Mine es number parent cells m.entry each v j.known;
+          known = left_known unit ok p F w k size Anywhere es number parent cells m.entry each v j.known;
           frames = h.frames;
           store = same_with p u0.store v.store z.store j.store (λ is. take (length is - 1) is);
           system = j.system;
@@ -272,7 +279,7 @@ module _ (unit : ProgramUnit) (ok : Fits unit) (unnamed : NamesProgram unit → 
 
         pub body : ActsMay (open_text unit ok (block_in G (now G p))) (open_acts (block_at unit.blocks number).body)
         body = subst (λ j. ActsMay (open_text unit ok j) (open_acts (block_at unit.blocks number).body))
-            (sym (block_inside unit ok p F w k size Mine es number parent cells m.entry each)) (any_open_body unit ok number)
+            (sym (block_inside unit ok p F w k size Anywhere es number parent cells m.entry each)) (any_open_body unit ok number)
 
       pub turned : (m j : ℕ) → w.turns ≡ suc m → u.turns ≡ suc j → Owning F (record w { turns = m }) (record u { turns = j })
       turned m j d e = record {
@@ -288,11 +295,6 @@ module _ (unit : ProgramUnit) (ok : Fits unit) (unnamed : NamesProgram unit → 
     part_comes F reads l n c = c
     part_comes F assigns l n c = c
     part_comes F lends l n c = c
-
-    pub handed_location : (F : Shape) (a : Argument) (l : Location) → HandedOn F a (location l) → Comes F assigns l
-    handed_location F (tree.by_value e) l c = absurd c
-    handed_location F (tree.by_variable v) l c = (c.0, c.2, tt)
-    handed_location F (tree.by_procedure d) l c = absurd c
 
     abbrev pub owning : Following unit p size
     owning = record {
@@ -323,8 +325,8 @@ module _ (unit : ProgramUnit) (ok : Fits unit) (unnamed : NamesProgram unit → 
       to_call = λ F c es w u a h. to_call F w u h c es a;
       to_pass = λ F c w u a h. to_pass F w u h c a;
       by_value = λ F e v. tt;
-      by_location = λ F v l c. (c.0, c.2, c.1);
-      to_location = λ F a l c. handed_location F a l c;
+      by_location = λ F v l c. (c.0, c.1, tt);
+      to_location = λ F es number a l e c. absurd e;
     }
 
     -- ---- a step

@@ -12,6 +12,7 @@ use Rattle.edi_meaning.specs.Step.{Asks, Process, Processes, Stepped, went, ende
 use Rattle.edi_meaning.specs.Permitted.{is_running, is_running_process, at, permitted}
 use Rattle.edi_meaning.specs.Laws.{IsMade, IsPrivate, StepIsPrivate, IsWaiting}
 use Rattle.edi_meaning.proofs.Kernel.{After}
+use Rattle.edi_meaning.proofs.Own.{owns_all}
 use Rattle.edi_meaning.proofs.Private.{cells_are_private, other_than}
 use Rattle.edi_meaning.proofs.Parents.{Family, waiting_does_not_run}
 use Rattle.edi_meaning.proofs.Dangling.{Coherent, owner_waits, permitted_coherent}
@@ -20,6 +21,7 @@ use Rattle.edi_disjoint.proofs.Commuting.{live_off}
 use Rattle.edi_disjoint.specs.steps.Own.{IsBut, FindsSame, KeepsToItself, GoesAlike, OwnStepsPass}
 use Rattle.edi_disjoint.proofs.steps.Differing.{Differ, local_alike}
 use Rattle.edi_disjoint.proofs.steps.Kernels.{other_at, kernel_alike}
+use Rattle.edi_disjoint.proofs.steps.Referring.{references_stay}
 
 -- who may step is live, and ready or at its `when`
 running : (o : Option Process) → is_running_process o ≡ true → (y : Process) × (o ≡ Some y) × (is_running y.standing ≡ true)
@@ -94,6 +96,9 @@ module _ (unit : ProgramUnit) (system : State) (bound : ℕ) (order : List Name)
     process = still a n quiet e;
     own = own (private.cells p not_above);
     frames = λ r o. frames r o (private.frames r (λ f. not_below (subst (Owns p) f o)));
+    references = λ r depth variable o.
+        references_stay unit system bound order s a q y n quiet comes there runs e r depth variable (other_than q r (λ f. not_below (subst (Owns p) f o)))
+        (other_than q (parent_of r) (λ f. not_below (subst (Owns p) f (owns_all p r (parent_of r) o (own_parent r)))));
   }
     where
       private : IsPrivate s a q

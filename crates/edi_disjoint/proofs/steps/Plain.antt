@@ -10,7 +10,7 @@ use Rattle.edi_unit.specs.Values.{Value, is_true, decides, apply, sign, converte
 use Rattle.edi_unit.specs.Tree as tree
 use Rattle.edi_unit.specs.Tree.{Expression, Expressions, Link, Links, Place, Part, Parts, Argument, Arguments, Acts, Clauses, ProgramUnit}
 use Rattle.edi_meaning.specs.Parts.{part_at}
-use Rattle.edi_meaning.specs.Store.{Spot, Location, block_procedure, Cell, procedure, Instance, Frame, instances, shape, no_frame, frame_at}
+use Rattle.edi_meaning.specs.Store.{Spot, Location, block_procedure, procedure, Frame, instances, shape, no_frame, frame_at}
 use Rattle.edi_meaning.specs.Store.{reached, now, cells_in, no_cell, cell, located, slot, value_in, get, Owns}
 use Rattle.edi_meaning.specs.Evaluation.{World, Evaluation, gives, ends, ◌>>=◌}
 use Rattle.edi_meaning.specs.Whole.{in_range, Designated, part_of, element_of, meant, named, expression, expressions, members_of, linked, operated, designated}
@@ -19,12 +19,15 @@ use Rattle.edi_meaning.specs.Step.{chosen}
 use Rattle.edi_meaning.proofs.Own.{owns_self, owns_all, Owned}
 use Rattle.edi_disjoint.specs.Leaves.{Way, reads, assigns, lends, ExpressionMay, ExpressionsMay, LinksMay, LinkMay, PlaceMay, PartsMay, PartMay, ArgumentMay}
 use Rattle.edi_disjoint.specs.Leaves.{ArgumentsMay}
-use Rattle.edi_disjoint.specs.steps.Plain.{IsHeld, NamesOwn, IsByName, plain, ConditionsMay}
+use Rattle.edi_disjoint.specs.steps.Own.{reference_at}
+use Rattle.edi_disjoint.specs.steps.Plain.{NamesOwn, IsByName, plain, ConditionsMay}
 use Rattle.edi_disjoint.proofs.steps.Differing.{parent_owned, reached_by}
+use Rattle.edi_disjoint.proofs.steps.Locations.{same_located}
 
 -- two evaluations of p from two worlds in which it finds the same
 module _ (unit : ProgramUnit) (p : Name) (size : ℕ) (w u : World) (owned : Owned w.store) (own : instances u.store p ≡ instances w.store p)
-    (alike : (r : Name) → Owns p r → shape u.store r ≡ shape w.store r) where
+    (alike : (r : Name) → Owns p r → shape u.store r ≡ shape w.store r)
+    (lent : (r : Name) (depth variable : ℕ) → Owns p r → reference_at (instances u.store r) depth variable ≡ reference_at (instances w.store r) depth variable) where
   same_frame : (s : Spot) → Owns p s.0 → frame_at (shape u.store) s ≡ frame_at (shape w.store) s
   same_frame s o = ap (λ fs. unwrap_or (slice_get fs s.1) no_frame) (alike s.0 o)
 
@@ -43,15 +46,17 @@ module _ (unit : ProgramUnit) (p : Name) (size : ℕ) (w u : World) (owned : Own
   same_held : (r : Name) → r ≡ p → instances u.store r ≡ instances w.store r
   same_held r e = ap (instances u.store) e ∙ own ∙ sym (ap (instances w.store) e)
 
-  same_named : (levels variable : ℕ) → IsHeld w.store p levels → named unit p size levels variable w.store ≡ named unit p size levels variable u.store
-  same_named levels variable held =
+  same_named : (levels variable : ℕ) → named unit p size levels variable w.store ≡ named unit p size levels variable u.store
+  same_named levels variable =
       let here : Spot = reached (shape w.store) levels (now (shape w.store) p) in
-      sym (ap (λ (s : Spot). of_spot s (cell u.store s variable) (frame_at (shape u.store) s)) (same_here levels)
-      ∙ ap (λ (is : List Instance). of_spot here (slice_index_or (cells_in is here.1) variable no_cell) (frame_at (shape u.store) here)) (same_held here.0 held)
-      ∙ ap (λ (f : Frame). of_spot here (cell w.store here variable) f) (same_frame here (reached_by w.store levels (now (shape w.store) p) owned)))
+      let mine : Owns p here.0 = reached_by w.store levels (now (shape w.store) p) owned in
+      sym (ap (λ (s : Spot). of_spot s (located s variable (cell u.store s variable)) (frame_at (shape u.store) s)) (same_here levels)
+      ∙ ap (λ (l : Location). of_spot here l (frame_at (shape u.store) here))
+      (same_located here variable (cell u.store here variable) (cell w.store here variable) (lent here.0 here.1 variable mine))
+      ∙ ap (λ (f : Frame). of_spot here (located here variable (cell w.store here variable)) f) (same_frame here mine))
     where
-      of_spot : Spot → Cell → Frame → Designated
-      of_spot s c f = record { at = located s variable c; of = slot_type (slice_get (slots (block_at unit.blocks f.block)) variable) }
+      of_spot : Spot → Location → Frame → Designated
+      of_spot s l f = record { at = l; of = slot_type (slice_get (slots (block_at unit.blocks f.block)) variable) }
 
   pub same_meant : (c : Callee) → IsByName c → meant unit p size c w ≡ meant unit p size c u
   same_meant (callee.Block levels number) h = ap (λ (s : Spot). block_procedure number s) (sym (same_here levels))
@@ -120,11 +125,6 @@ module _ (unit : ProgramUnit) (p : Name) (size : ℕ) (w u : World) (owned : Own
   element_pairs way (record_of fs) line l v c = give (Located way) _ c
   element_pairs way (set_of b) line l v c = give (Located way) _ c
 
-  held_of : (way : Way) (levels variable : ℕ) → NamesOwn w.store p way levels variable → IsHeld w.store p levels
-  held_of reads levels variable h = h.held
-  held_of assigns levels variable h = h.held
-  held_of lends levels variable h = h
-
   comes_of : (way : Way) (levels variable : ℕ) → NamesOwn w.store p way levels variable → Comes way (slot w.store p levels variable)
   comes_of reads levels variable h = h.means
   comes_of assigns levels variable h = h.means
@@ -176,7 +176,7 @@ module _ (unit : ProgramUnit) (p : Name) (size : ℕ) (w u : World) (owned : Own
           Pairs (Located way) (designated unit p size deeper v w) (designated unit p size deeper' v u)
       designated_pairs way (tree.place levels variable ps) m =
           subst (λ d. Pairs (Located way) (parts unit p size deeper (named unit p size levels variable w.store) ps w) (parts unit p size deeper' d ps u))
-          (same_named levels variable (held_of way levels variable m.0))
+          (same_named levels variable)
           (parts_pairs way (named unit p size levels variable w.store) ps m.1 (comes_of way levels variable m.0))
 
       parts_pairs : (way : Way) (d : Designated) (ps : Parts) → PartsMay (plain w.store p) ps → Located way d →

@@ -39,16 +39,16 @@ module _ (unit : ProgramUnit) (s : Processes) (p : Name) (q : Process) (found : 
 
   module _ {A : Type 0} (V : A → Type 0) where
     -- what the first gives, which does not end the program
-    gave : (f : FindsSame p s s) (r : Evaluation A) → Pairs unit p q.size s.world s.world owned f.own f.frames V r r → (IsEnd r → ⊥) → (a : A) × (r ≡ gives a s.world) × V a
+    gave : (f : FindsSame p s s) (r : Evaluation A) → Pairs unit p q.size s.world s.world owned f.own f.frames f.references V r r → (IsEnd r → ⊥) → (a : A) × (r ≡ gives a s.world) × V a
     gave f (gives a v) h lasts = (a, ap (gives a) h.is.1, h.is.3)
     gave f (ends e system turns) h lasts = absurd (lasts tt)
 
     -- the second gives the same
-    gives_too : (t : Processes) (f : FindsSame p s t) (r r' : Evaluation A) → Pairs unit p q.size s.world t.world owned f.own f.frames V r r' → (a : A) →
+    gives_too : (t : Processes) (f : FindsSame p s t) (r r' : Evaluation A) → Pairs unit p q.size s.world t.world owned f.own f.frames f.references V r r' → (a : A) →
         r ≡ gives a s.world → r' ≡ gives a t.world
-    gives_too t f r r' h a e = go r' (subst (λ x. Alike unit p q.size s.world t.world owned f.own f.frames V x r') e h.is)
+    gives_too t f r r' h a e = go r' (subst (λ x. Alike unit p q.size s.world t.world owned f.own f.frames f.references V x r') e h.is)
       where
-        go : (x : Evaluation A) → Alike unit p q.size s.world t.world owned f.own f.frames V (gives a s.world) x → x ≡ gives a t.world
+        go : (x : Evaluation A) → Alike unit p q.size s.world t.world owned f.own f.frames f.references V (gives a s.world) x → x ≡ gives a t.world
         go (gives b z) k = ap (λ c. gives c z) (sym k.0) ∙ ap (gives a) k.2
         go (ends e system turns) k = absurd k
 
@@ -117,12 +117,12 @@ module _ (unit : ProgramUnit) (s : Processes) (p : Name) (q : Process) (found : 
 
       d : (d : Designated) × (place_in s ≡ gives d s.world) × (d.at.spot.0 ≡ p)
       d = gave (λ d. d.at.spot.0 ≡ p) myself (place_in s)
-          (designated_pairs unit p q.size s.world s.world owned myself.own myself.frames (below unit p q.size s.world) (below unit p q.size s.world) assigns v place)
+          (designated_pairs unit p q.size s.world s.world owned myself.own myself.frames myself.references (below unit p q.size s.world) (below unit p q.size s.world) assigns v place)
           (not_ended (λ d. d.at.spot.0 ≡ p) (of_place (λ w. expression unit p q.size (below unit p q.size s.world) e w)) (λ e system turns. refl) (place_in s) on)
 
       x : (x : Value) × (value_in_state s ≡ gives x s.world) × ⊤
       x = gave (λ x. ⊤) myself (value_in_state s)
-          (expression_pairs unit p q.size s.world s.world owned myself.own myself.frames (below unit p q.size s.world) (below unit p q.size s.world) e may)
+          (expression_pairs unit p q.size s.world s.world owned myself.own myself.frames myself.references (below unit p q.size s.world) (below unit p q.size s.world) e may)
           (not_ended (λ x. ⊤) (of_value d.0) (λ e system turns. refl) (value_in_state s)
           (sym (ap (λ m. kernel unit s p q (of_place (λ w. expression unit p q.size (below unit p q.size s.world) e w) m)) d.1) ∙ on))
 
@@ -133,10 +133,10 @@ module _ (unit : ProgramUnit) (s : Processes) (p : Name) (q : Process) (found : 
           (λ t f. local_is (assign v e) position work is t.world
           ∙ ap (of_place (λ w. expression unit p q.size (below unit p q.size t.world) e w))
           (gives_too (λ d. d.at.spot.0 ≡ p) t f (place_in s) (place_in t)
-          (designated_pairs unit p q.size s.world t.world owned f.own f.frames (below unit p q.size s.world) (below unit p q.size t.world) assigns v place) d.0 d.1)
+          (designated_pairs unit p q.size s.world t.world owned f.own f.frames f.references (below unit p q.size s.world) (below unit p q.size t.world) assigns v place) d.0 d.1)
           ∙ ap (of_value d.0)
           (gives_too (λ x. ⊤) t f (value_in_state s) (value_in_state t)
-          (expression_pairs unit p q.size s.world t.world owned f.own f.frames (below unit p q.size s.world) (below unit p q.size t.world) e may) x.0 x.1))
+          (expression_pairs unit p q.size s.world t.world owned f.own f.frames f.references (below unit p q.size s.world) (below unit p q.size t.world) e may) x.0 x.1))
 
   -- ---- a choice
 
@@ -149,7 +149,7 @@ module _ (unit : ProgramUnit) (s : Processes) (p : Name) (q : Process) (found : 
       of_choice m = m >>= λ c w. gives (goes (then_work c)) w
 
       c : (c : Option (Acts × ℕ)) × (chosen unit p q.size cs 0 s.world ≡ gives c s.world) × ⊤
-      c = gave (λ c. ⊤) myself (chosen unit p q.size cs 0 s.world) (chosen_pairs unit p q.size s.world s.world owned myself.own myself.frames cs 0 may)
+      c = gave (λ c. ⊤) myself (chosen unit p q.size cs 0 s.world) (chosen_pairs unit p q.size s.world s.world owned myself.own myself.frames myself.references cs 0 may)
           (not_ended (λ c. ⊤) of_choice (λ e system turns. refl) (chosen unit p q.size cs 0 s.world)
           (sym (ap (kernel unit s p q) (same_step s.world)) ∙ goes_on a position work is))
 
@@ -160,7 +160,7 @@ module _ (unit : ProgramUnit) (s : Processes) (p : Name) (q : Process) (found : 
           (λ t f. local_is a position work is t.world ∙ same_step t.world
           ∙ ap of_choice
           (gives_too (λ c. ⊤) t f (chosen unit p q.size cs 0 s.world) (chosen unit p q.size cs 0 t.world)
-          (chosen_pairs unit p q.size s.world t.world owned f.own f.frames cs 0 may) c.0 c.1))
+          (chosen_pairs unit p q.size s.world t.world owned f.own f.frames f.references cs 0 may) c.0 c.1))
 
   -- ---- a call of a procedure by its name
 
@@ -206,7 +206,7 @@ module _ (unit : ProgramUnit) (s : Processes) (p : Name) (q : Process) (found : 
 
       cells : (cells : List Cell) × (cells_in_state s ≡ gives cells s.world) × ⊤
       cells = gave (λ c. ⊤) myself (cells_in_state s)
-          (arguments_pairs unit p q.size s.world s.world owned myself.own myself.frames (below unit p q.size s.world) (below unit p q.size s.world) es may)
+          (arguments_pairs unit p q.size s.world s.world owned myself.own myself.frames myself.references (below unit p q.size s.world) (below unit p q.size s.world) es may)
           (not_ended (λ c. ⊤) of_cells (λ e system turns. refl) (cells_in_state s) on)
 
       -- the call, where there is room or not
@@ -231,9 +231,9 @@ module _ (unit : ProgramUnit) (s : Processes) (p : Name) (q : Process) (found : 
           (λ t f. local_is (call (callee.Block levels number) es line) position work is t.world
           ∙ ap of_cells
           (gives_too (λ c. ⊤) t f (cells_in_state s) (cells_in_state t)
-          (arguments_pairs unit p q.size s.world t.world owned f.own f.frames (below unit p q.size s.world) (below unit p q.size t.world) es may) c.0 c.1)
+          (arguments_pairs unit p q.size s.world t.world owned f.own f.frames f.references (below unit p q.size s.world) (below unit p q.size t.world) es may) c.0 c.1)
           ∙ ap (λ (z : Spot). entered_if (nat_lt (room q.size (shape t.world.store p)) (block_at unit.blocks number).need) z c.0 t.world)
-          (same_here unit p q.size s.world t.world owned f.own f.frames levels)
+          (same_here unit p q.size s.world t.world owned f.own f.frames f.references levels)
           ∙ ap (λ (b : Bool). entered_if b (parent s.world) c.0 t.world)
           (ap (λ (fs : List Frame). nat_lt (room q.size fs) (block_at unit.blocks number).need) (f.frames p (owns_self p)) ∙ some))
 

@@ -67,7 +67,7 @@ module _ (unit : ProgramUnit) (more : ℕ) where
       to_pass = λ x c w u may h. (same_meant c w u h, tt);
       by_value = λ x e v. tt;
       by_location = λ x v l c. tt;
-      to_location = λ x a l f. tt;
+      to_location = λ x es number a l e f. tt;
     }
       where
         turns_of : (m n : ℕ) (w u : World) → w.turns ≡ suc m → u.turns ≡ suc n → u ≡ richer more w → n ≡ m + more

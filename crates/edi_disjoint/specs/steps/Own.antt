@@ -1,12 +1,12 @@
 -- Words of contracts. Steps that keep to themselves: what a process does with its own variables alone. No other process can tell whether such a step
 -- is done or still to come, so it may be taken before the steps of all others, or after them.
-use Rattle.std.specs.Prelude.{◌≡◌, ◌⊎◌, ℕ, ◌+◌, ◌≤◌, Bool, true, false, if◌then◌else◌, List, [], ◌∷◌, Some, ⊤}
+use Rattle.std.specs.Prelude.{◌≡◌, ◌⊎◌, ℕ, ◌+◌, ◌≤◌, Bool, true, false, if◌then◌else◌, List, [], ◌∷◌, Option, Some, None, slice_index_or, ⊤}
 use Rattle.edi_calls.specs.Names.{Name, same, find, with_at}
 use Rattle.edi_calls.specs.Outcome as outcome
 use Rattle.edi_calls.specs.Ready.{Next, has}
 use Rattle.edi_calls.specs.State.{State, Traced}
 use Rattle.edi_unit.specs.Tree.{Act, skip, assign, call, halt, if_act, while_act, when_act, cobegin, ProgramUnit}
-use Rattle.edi_meaning.specs.Store.{Instance, Owns, instances, shape}
+use Rattle.edi_meaning.specs.Store.{Location, Cell, value, location, procedure, Instance, Owns, instances, shape, cells_in, no_cell}
 use Rattle.edi_meaning.specs.Step.{Process, Processes, Stepped, went, ended, Work, doing, loop_end, procedure_end, branch_end, program_entry, program_end, ready, step, start}
 use Rattle.edi_meaning.specs.Permitted.{is_running, may_step, Led, at, over, nowhere, permitted}
 
@@ -16,11 +16,24 @@ pub record IsBut (p : Name) (q : Process) (own : List Instance) (s t : Processes
   pub store : (r : Name) → instances t.world.store r ≡ (if same r p then own else instances s.world.store r)
   pub system : s.world.system ≡ t.world.system
 
--- p finds in t what it finds in s: itself, its instances, and which instances its ancestors have, whatever their variables hold
+-- the location in a cell: what a `var` parameter means. A cell that holds a value or a procedure has none.
+abbrev pub reference : Cell → Option Location
+reference (value v) = None
+reference (location l) = Some l
+reference (procedure c) = None
+
+-- the location in a variable of one of these instances
+abbrev pub reference_at : List Instance → (depth variable : ℕ) → Option Location
+reference_at is depth variable = reference (slice_index_or (cells_in is depth) variable no_cell)
+
+-- p finds in t what it finds in s: itself and its instances; and of its ancestors which instances they have, and what their `var` parameters mean,
+-- whatever their variables hold
 pub record FindsSame (p : Name) (s t : Processes) : Type 0 where
   pub process : find t.live p ≡ find s.live p
   pub own : instances t.world.store p ≡ instances s.world.store p
   pub frames : (r : Name) → Owns p r → shape t.world.store r ≡ shape s.world.store r
+  pub references : (r : Name) (depth variable : ℕ) → Owns p r →
+      reference_at (instances t.world.store r) depth variable ≡ reference_at (instances s.world.store r) depth variable
 
 -- a step of p from t is this one: it makes this of p and of its instances, takes so many turns, and changes nothing else
 abbrev pub GoesAlone : ProgramUnit → Name → Process → List Instance → Next → (quiet : Bool) → (taken : ℕ) → Processes → Type 0

@@ -1,4 +1,4 @@
--- Words of contracts. Steps that name only variables of the process itself, and call no function.
+-- Words of contracts. Steps that read and assign to variables of the process itself alone, and call no function.
 use Rattle.std.specs.Prelude.{◌≡◌, ℕ, Bool, List, [], ◌∷◌, Some, ⊤}
 use Rattle.edi_calls.specs.Names.{Name, find}
 use Rattle.edi_calls.specs.Ready.{Next}
@@ -21,11 +21,11 @@ pub record IsOwn (store : Store) (p : Name) (levels variable : ℕ) : Type 0 whe
   pub held : IsHeld store p levels
   pub means : (slot store p levels variable).spot.0 ≡ p
 
--- to lend a `var` parameter is no use of what it means
+-- to lend a variable, whosever it is, is no use of its value
 abbrev pub NamesOwn : Store → Name → Way → (levels variable : ℕ) → Type 0
 NamesOwn store p reads levels variable = IsOwn store p levels variable
 NamesOwn store p assigns levels variable = IsOwn store p levels variable
-NamesOwn store p lends levels variable = IsHeld store p levels
+NamesOwn store p lends levels variable = ⊤
 
 -- a procedure by its name
 abbrev pub IsByName : Callee → Type 0

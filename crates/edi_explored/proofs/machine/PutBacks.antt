@@ -63,7 +63,7 @@ shown_on : (told : Bool) (a b c : List ℕ) → SameShown told a b → SameShown
 shown_on true a b c x y = y ∙ x
 shown_on false a b c x y = tt
 
-shown_back : (told : Bool) (a b : List ℕ) → SameShown told a b → SameShown told b a
+pub shown_back : (told : Bool) (a b : List ℕ) → SameShown told a b → SameShown told b a
 shown_back true a b x = sym x
 shown_back false a b x = tt
 
@@ -81,7 +81,7 @@ alike_on told s t u a b = record {
   shown = shown_on told s.shown t.shown u.shown a.shown b.shown;
 }
 
-alike_back : (told : Bool) (s t : State) → Alike told s t → Alike told t s
+pub alike_back : (told : Bool) (s t : State) → Alike told s t → Alike told t s
 alike_back told s t a = record {
   input = sym a.input;
   slots = sym a.slots;
@@ -154,7 +154,7 @@ module _ (g : Coded) where
       sym (longer n k t p others h) ∙ ap (λ m. stint g.fetched m t p others) swapped ∙ longer k n t p others i
 
   -- another memory serves twins alike
-  serves_twin : (told : Bool) (u q : Machine) (m : List ℕ) → Twin told u q → ServesAs g u m → ServesAs g q m
+  pub serves_twin : (told : Bool) (u q : Machine) (m : List ℕ) → Twin told u q → ServesAs g u m → ServesAs g q m
   serves_twin told u q m w serves s r =
       let back : Other told q u = record { memory = sym w.memory; activities = sym w.activities; system = alike_back told u.system q.system w.system } in
       let there : Other told (record u { memory = m }) (record q { memory = m }) = record { memory = refl; activities = w.activities; system = w.system } in

@@ -54,10 +54,10 @@ other_turns told t n = record {
 }
 
 module _ (g : Coded) (s : Processes) (t : Machine) (n : ℕ) where
-  related_turns : Related g s t → Related g (with_turns s n) (with_turns_left t n)
+  pub related_turns : Related g s t → Related g (with_turns s n) (with_turns_left t n)
   related_turns r = record { first = r.first; words = r.words; same_names = r.same_names; system = r.system; turns = refl }
 
-  kept_turns : Kept s t → Kept (with_turns s n) (with_turns_left t n)
+  pub kept_turns : Kept s t → Kept (with_turns s n) (with_turns_left t n)
   kept_turns k = record {
     coherent = record {
       family = record {
@@ -94,7 +94,7 @@ module _ (told : Bool) (g : Coded) (s : Processes) (t q : Machine) (o : Other to
     sound = subst Sound (sym o.activities) k.sound;
   }
 
-queue_turns : (s : Processes) (n : ℕ) (names : List Name) → Queue s names → Queue (with_turns s n) names
+pub queue_turns : (s : Processes) (n : ℕ) (names : List Name) → Queue s names → Queue (with_turns s n) names
 queue_turns s n names q = record { once = q.once; holds = q.holds; all = q.all }
 
 queue_other : (s : Processes) (names other : List Name) → Reordered names other → Queue s names → Queue s other

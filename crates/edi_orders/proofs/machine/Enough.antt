@@ -23,10 +23,10 @@ use Rattle.edi_explored.specs.machine.Twins.{Twin, StintedTwins}
 use Rattle.edi_orders.specs.Orders.{AreUncut, AreCalm, AreAllBySteps}
 use Rattle.edi_orders.proofs.machine.Cuts.{few_turns}
 use Rattle.edi_explored.proofs.machine.Landing.{LandsAs, stint_lands}
-use Rattle.edi_explored.proofs.machine.PutBacks.{IsOver, determined, put_backs_followed}
-use Rattle.edi_explored.proofs.machine.Tied.{with_turns, with_turns_left, machines_followed}
+use Rattle.edi_explored.proofs.machine.PutBacks.{IsOver, determined, put_backs_followed, serves_twin}
+use Rattle.edi_explored.proofs.machine.Tied.{with_turns, with_turns_left, related_turns, kept_turns, queue_turns, machines_followed}
 use Rattle.edi_explored.proofs.machine.Twins.{twins_stint}
-use Rattle.edi_orders.proofs.machine.Turned.{related_turns, kept_turns, queue_turns, first_is, serves_twin, enters_twin}
+use Rattle.edi_orders.proofs.machine.Turned.{first_is, enters_twin}
 use Rattle.edi_orders.proofs.Uncut.{uncut_stints_are_whole}
 use Rattle.edi_orders.proofs.Walking.{stints_are_enough}
 
