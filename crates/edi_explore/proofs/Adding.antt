@@ -1,5 +1,5 @@
 -- A state that is added, and those that were there before.
-use Rattle.std.proofs.Common.{◌≡◌, ◌⊎◌, inl, inr, ℕ, zero, suc, ◌+◌, ◌-◌, ◌<◌, ◌≤◌, Bool, true, List, [], ◌∷◌, ◌++◌, length, take, drop, slice_get, slice_index_or}
+use Rattle.std.proofs.Common.{◌≡◌, ◌⊎◌, inl, inr, ℕ, zero, suc, ◌+◌, ◌-◌, ◌<◌, ◌≤◌, Bool, true, List, [], ◌∷◌, ◌++◌, length, Contains, take, drop, slice_get, slice_index_or}
 use Rattle.std.proofs.Common.{Option, Some, None, refl, sym, ap, ◌∙◌, arith, subst, length-append}
 use Rattle.std.proofs.lemmas.Bool.{cases_lt, eqb-true}
 use Rattle.std.proofs.lemmas.List.{get_or_append_left}
@@ -17,12 +17,15 @@ use Rattle.edi_kernel.proofs.Lists.{home_among, live_of_home, ready_live}
 use Rattle.edi_kernel.proofs.Sharing.{among_home, none_twice}
 use Rattle.edi_explore.specs.declared.offline.Offline.{Offline}
 use Rattle.edi_explore.specs.declared.states.Key.{Key}
+use Rattle.edi_explore.specs.declared.states.Link.{Link}
 use Rattle.edi_explore.specs.declared.states.Origin.{Origin}
 use Rattle.edi_explore.specs.declared.states.States.{States}
 use Rattle.edi_explore.specs.Back.{AreProcesses, IsPart}
-use Rattle.edi_explore.specs.States.{AddsParts, AreStates, Follows, IsAdded, IsKeyOf, IsSameKey, IsState, MayComeFrom, end_of, slots_of, start_of}
+use Rattle.edi_explore.specs.Links.{AddsLink, targets_of}
+use Rattle.edi_explore.specs.States.{AddsParts, AreStates, Follows, IsAdded, IsAddedFrom, IsKeyOf, IsSameKey, IsState, MayComeFrom, end_of, slots_of, start_of}
 use Rattle.edi_explore.proofs.Growing.{follows_same, stays_at}
 use Rattle.edi_explore.proofs.Keying.{last_at, lookup, some_is, split_at}
+use Rattle.edi_explore.proofs.Links.{target_last}
 
 follows_long : {X : Type 0} (xs ys : List X) → Follows xs ys → length xs ≤ length ys
 follows_long xs ys f = omega (arith, ap length f.1, length-append xs f.0)
@@ -96,12 +99,13 @@ keys_same mid new m is same = subst AreStates (sym is) (record {
 
 -- the state was kept already
 pub added_again : (asks : Bool) (old mid new : States) (key other : Key) (n : ℕ) (k : KernelState) (o : Offline) → AreStates old → AddsParts old mid → IsKeyOf asks mid key k o →
-    new ≡ record mid { keys = new.keys } → new.keys.keys ≡ mid.keys.keys → slice_get new.keys.keys n ≡ Some other → IsSameKey key other → IsAdded asks old new k o
+    new ≡ record mid { keys = new.keys } → new.keys.keys ≡ mid.keys.keys → slice_get new.keys.keys n ≡ Some other → IsSameKey key other →
+    (h : IsAdded asks old new k o) × (h.number ≡ n)
 added_again asks old mid new key other n k o a d h is same at e =
     let kept : old.keys.keys ≡ mid.keys.keys = sym (ap (λ (x : States). x.keys.keys) d.rest) in
     let p : new.processes.keys ≡ mid.processes.keys = ap (λ (x : States). x.processes.keys) is in
     let q : new.places.keys ≡ mid.places.keys = ap (λ (x : States). x.places.keys) is in
-    record {
+    let added : IsAdded asks old new k o = record {
       number = n;
       key = other;
       is = at;
@@ -113,7 +117,8 @@ added_again asks old mid new key other n k o a d h is same at e =
       keys = subst (Follows old.keys.keys) (sym kept ∙ kept ∙ sym same) (subst (Follows old.keys.keys) kept (follows_same old.keys.keys));
       slots = λ v l. ap (λ (x : States). slots_of x v) is ∙ same_slots old mid d v;
       fresh = λ v l. inl (subst (λ (ks : List Key). v < length ks) (same ∙ sym kept) l);
-    }
+    } in
+    (added, refl)
 
 -- ---- lists
 
@@ -265,12 +270,13 @@ module _ (asks : Bool) (mid new : States) (key : Key) (k : KernelState) (o : Off
 pub added_new : (asks : Bool) (old mid new : States) (key : Key) (k : KernelState) (o : Offline) → AreStates old → AddsParts old mid → IsKernel k → IsKeyOf asks mid key k o →
     new.processes ≡ mid.processes → new.places ≡ mid.places → new.keys.keys ≡ mid.keys.keys ++ key ∷ [] →
     new.orders.items ≡ mid.orders.items ++ ready_slots k.table → (origin : Origin) → MayComeFrom old origin →
-    new.origins.items ≡ mid.origins.items ++ origin ∷ [] → new.ends.items ≡ mid.ends.items ++ length new.orders.items ∷ [] → IsAdded asks old new k o
+    new.origins.items ≡ mid.origins.items ++ origin ∷ [] → new.ends.items ≡ mid.ends.items ++ length new.orders.items ∷ [] →
+    (h : IsAdded asks old new k o) × (h.number ≡ length mid.keys.keys)
 added_new asks old mid new key k o a d kernel h p q keys orders origin may origins ends =
     let m : AreStates mid = parts_added old mid a d in
     let kept : mid.keys.keys ≡ old.keys.keys = ap (λ (x : States). x.keys.keys) d.rest in
     let came : MayComeFrom mid origin = subst (λ (x : States). MayComeFrom x origin) (sym d.rest) may in
-    record {
+    let added : IsAdded asks old new k o = record {
       number = length mid.keys.keys;
       key = key;
       is = ap (λ ks. slice_get ks (length mid.keys.keys)) keys ∙ last_at mid.keys.keys key;
@@ -287,4 +293,48 @@ added_new asks old mid new key k o a d kernel h p q keys orders origin may origi
             let e : v ≡ length mid.keys.keys = omega (arith, l, past, counted asks mid new key k o m kernel h p q keys orders origin came origins ends) in
             inr (e, ap (slots_of new) e ∙ slots_last asks mid new key k o m kernel h p q keys orders origin came origins ends)
       ];
-    }
+    } in
+    (added, refl)
+
+-- ---- a link to it
+
+linked_states : (s new : States) → AreStates s → new ≡ record s { links = new.links } → AreStates new
+linked_states s new a is = subst AreStates (sym is) (record {
+  ends = a.ends;
+  origins = a.origins;
+  from = a.from;
+  closes = a.closes;
+  within = a.within;
+  states = λ v key e.
+      grown_state s (record s { links = new.links }) key (slots_of s v) (follows_same s.processes.keys) (follows_same s.places.keys) (a.states v key e);
+})
+
+pub added_from : (from number : ℕ) (asks : Bool) (old put new : States) (k : KernelState) (o : Offline) → (h : IsAdded asks old put k o) × (h.number ≡ number) →
+    put.links ≡ old.links → new ≡ record put { links = new.links } →
+    AddsLink from number put.links.items new.links.items → IsAddedFrom from asks old new k o
+added_from from number asks old put new k o (h, is) same rest (l, begins, ends, links) =
+    let keys : new.keys.keys ≡ put.keys.keys = ap (λ (x : States). x.keys.keys) rest in
+    let added : IsAdded asks old new k o = record {
+      number = h.number;
+      key = h.key;
+      is = ap (λ ks. slice_get ks h.number) keys ∙ h.is;
+      of = subst (λ (x : States). IsKeyOf asks x h.key k o) (sym rest)
+          (record { place = h.of.place; at = h.of.at; system = h.of.system; processes = h.of.processes; each = h.of.each; all = h.of.all });
+      states = linked_states put new h.states rest;
+      processes = subst (Follows old.processes.keys) (sym (ap (λ (x : States). x.processes.keys) rest)) h.processes;
+      places = subst (Follows old.places.keys) (sym (ap (λ (x : States). x.places.keys) rest)) h.places;
+      keys = subst (Follows old.keys.keys) (sym keys) h.keys;
+      slots = λ v l. ap (λ (x : States). slots_of x v) rest ∙ h.slots v l;
+      fresh = λ v l. elim (h.fresh v (subst (λ (ks : List Key). v < length ks) keys l)) [
+        | inl less ↦ inl less
+        | inr e ↦ inr (e.0, ap (λ (x : States). slots_of x v) rest ∙ e.1)
+      ];
+    } in (
+      added,
+      record {
+        links = (l ∷ [], links ∙ ap (λ x. x.items ++ l ∷ []) same);
+        there = subst (λ n. Contains (targets_of new.links.items from) n) (ends ∙ sym is)
+            (subst (λ v. Contains (targets_of new.links.items v) l.to) begins
+            (subst (λ (ls : List Link). Contains (targets_of ls l.from) l.to) (sym links) (target_last put.links.items l)));
+      },
+    )

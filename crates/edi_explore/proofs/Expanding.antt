@@ -17,7 +17,7 @@ use Rattle.edi_explore.specs.declared.finding.Search.{Search}
 use Rattle.edi_explore.specs.declared.offline.Offline.{Offline}
 use Rattle.edi_explore.specs.declared.step.Followed.{Followed}
 use Rattle.edi_explore.specs.declared.step.Followed.TheVariants as followed
-use Rattle.edi_explore.specs.Expand.{Apart, ComesTo, GoesFurther, HasExpanded, HasOneThatGoes, HasStint, HasStintThat, HasStintsTo, IsSearch, both, by_record}
+use Rattle.edi_explore.specs.Expand.{Apart, ComesTo, GoesFurther, HasExpanded, HasOneThatGoes, HasStint, HasStintThat, HasStintsTo, IsSearch, LeadsFrom, both, by_record}
 use Rattle.edi_explore.specs.Offline.{offline}
 use Rattle.edi_explore.specs.Shown.{HasEnding, asks_of, told_by}
 use Rattle.edi_explore.specs.Systems.{system_of}
@@ -27,7 +27,7 @@ use Rattle.edi_explore.specs.Tables.{Grows, shown_at, table_of}
 use Rattle.edi_explore.proofs.Findings.{stands}
 use Rattle.edi_explore.proofs.Growing.{follows_same}
 use Rattle.edi_explore.proofs.Iteration.{AreKeptIn, FoundSo, expanded_still, found_ended, found_failed, found_led, goes_ended, goes_on, goes_still, kept_added, leads_on, stint_still, stint_there}
-use Rattle.edi_explore.proofs.Table.{grows_added, grows_equal, grows_on, grows_same, longer, processes_still, shown_of}
+use Rattle.edi_explore.proofs.Table.{grows_added, grows_equal, grows_on, grows_same, longer, number_within, processes_still, shown_of}
 
 -- ---- nothing is lacking of both
 
@@ -66,18 +66,18 @@ module _ (code : CodeParts) (input : List ℕ) (limits : Limits) where
   }
 
   -- after a stint
-  pub further_by : (a b : Search) (k : KernelState) (o : Offline) → IsSearch code input limits a → b.calls.input.items ≡ input → IsKernel k → length k.store ≡ 2 ^ 16 →
-      (r : Followed) (end : StintEnd) → (is_over end ≡ false → k.taken ≡ None) → FollowedAs (asks_of limits) r end a.states b.states k o → GoesFurther code input limits a b
-  further_by a b k o is same kernel long (followed.Ended e) end free f = further_equal a b is f.2 same
-  further_by a b k o is same kernel long followed.Cut end free f = further_equal a b is f same
-  further_by a b k o is same kernel long followed.Failed end free f = further_equal a b is f.1 same
-  further_by a b k o is same kernel long followed.Led end free f = record {
+  pub further_by : (from : ℕ) (a b : Search) (k : KernelState) (o : Offline) → IsSearch code input limits a → b.calls.input.items ≡ input → IsKernel k → length k.store ≡ 2 ^ 16 →
+      (r : Followed) (end : StintEnd) → (is_over end ≡ false → k.taken ≡ None) → FollowedAs (asks_of limits) from r end a.states b.states k o → GoesFurther code input limits a b
+  further_by from a b k o is same kernel long (followed.Ended e) end free f = further_equal a b is f.2 same
+  further_by from a b k o is same kernel long followed.Cut end free f = further_equal a b is f same
+  further_by from a b k o is same kernel long followed.Failed end free f = further_equal a b is f.1 same
+  further_by from a b k o is same kernel long followed.Led end free f = record {
     search = record {
-      states = f.2.states;
+      states = f.2.0.states;
       input_is = same;
-      kept = kept_added (asks_of limits) a.states b.states input k o is.states kernel (free f.0) f.1 long f.2 is.kept;
+      kept = kept_added from (asks_of limits) a.states b.states input k o is.states kernel (free f.0) f.1 long f.2 is.kept;
     };
-    grows = grows_added (asks_of limits) a.states b.states k o f.2;
+    grows = grows_added from (asks_of limits) a.states b.states k o f.2;
   }
 
   -- ---- what came of a stint
@@ -91,7 +91,7 @@ module _ (code : CodeParts) (input : List ℕ) (limits : Limits) where
     Fine fails = Apart code input limits b v → HasStintThat code input limits b fails v index
 
     further : (r : Followed) → Followed_ r → GoesFurther code input limits a b
-    further r f = further_by a b k o is calls f.goes.kernel f.goes.long r f.end f.goes.free f.so
+    further r f = further_by v a b k o is calls f.goes.kernel f.goes.long r f.end f.goes.free f.so
 
     there : {end : StintEnd} (fails : Bool) → (one : HasStint code input limits b v index) × (one.end ≡ end) × (one.after ≡ k) →
         (fails ≡ false → IsFailed end k → ⊥) → HasStintThat code input limits b fails v index
@@ -104,8 +104,9 @@ module _ (code : CodeParts) (input : List ℕ) (limits : Limits) where
           further = g;
           so = λ _ apart.
               there false (stint_there code input limits a.states b.states b.found.items v index f.end k o is.states inside g.grows same f.goes
-              (found_led code (offline input) limits.turns (asks_of limits) b.found.items (table_of b.states input) (length b.states.keys.keys) f.end k (system_of o) f.so.0
-              (leads_on code input limits.turns (asks_of limits) a.states b.states b.found.items k o f.so.2 same)) apart) (λ _. goes_on f.end k f.so.0 f.so.1);
+              (found_led code (offline input) limits.turns (asks_of limits) b.found.items (table_of b.states input) (LeadsFrom code input limits b v) f.end k (system_of o) f.so.0
+              (leads_on code input limits.turns (asks_of limits) a.states b.states b.found.items k o (LeadsFrom code input limits b v) f.so.2.0
+              (number_within a.states b.states input (asks_of limits) k o f.so.2.0, f.so.2.1.there) same)) apart) (λ _. goes_on f.end k f.so.0 f.so.1);
         }
 
     pub came_failed : Followed_ followed.Failed → ComesTo code input limits a b expanded.Whole (Fine true)
@@ -115,7 +116,7 @@ module _ (code : CodeParts) (input : List ℕ) (limits : Limits) where
           further = g;
           so = λ _ apart.
               there true (stint_there code input limits a.states b.states b.found.items v index f.end k o is.states inside g.grows same f.goes
-              (found_failed code (offline input) limits.turns (asks_of limits) b.found.items (table_of b.states input) (length b.states.keys.keys) f.end k (system_of o) f.so.0) apart)
+              (found_failed code (offline input) limits.turns (asks_of limits) b.found.items (table_of b.states input) (LeadsFrom code input limits b v) f.end k (system_of o) f.so.0) apart)
               (λ e. absurd (no_bool e));
         }
       where
@@ -136,8 +137,8 @@ module _ (code : CodeParts) (input : List ℕ) (limits : Limits) where
           further = g;
           so = λ whole apart.
               there false (stint_there code input limits a.states b.states b.found.items v index f.end k o is.states inside g.grows same f.goes
-              (subst (λ x. FoundSo code (offline input) limits.turns (asks_of limits) b.found.items (table_of b.states input) (length b.states.keys.keys) x k (system_of o)) (sym f.so.0.1)
-              (found_ended code (offline input) limits.turns (asks_of limits) b.found.items (table_of b.states input) (length b.states.keys.keys) f.so.0.0 e k (system_of o) f.so.1
+              (subst (λ x. FoundSo code (offline input) limits.turns (asks_of limits) b.found.items (table_of b.states input) (LeadsFrom code input limits b v) x k (system_of o)) (sym f.so.0.1)
+              (found_ended code (offline input) limits.turns (asks_of limits) b.found.items (table_of b.states input) (LeadsFrom code input limits b v) f.so.0.0 e k (system_of o) f.so.1
               (has (recorded_told told whole)))) apart)
               (λ _ x. goes_ended f.so.0.0 e k f.so.1 (subst (λ y. IsFailed y k) f.so.0.1 x));
         }

@@ -42,7 +42,7 @@ use Rattle.edi_explore.proofs.Keying.{lookup, some_is, split_at}
 
 -- ---- lists of what was found
 
-contains_later : {X : Type 0} (x : X) (xs : List X) (y : X) → Contains xs y → Contains (x ∷ xs) y
+pub contains_later : {X : Type 0} (x : X) (xs : List X) (y : X) → Contains xs y → Contains (x ∷ xs) y
 contains_later x xs y c = (suc c.0, omega (arith, c.1), c.2)
 
 pub contains_front : {X : Type 0} (xs ys : List X) (x : X) → Contains xs x → Contains (xs ++ ys) x
@@ -50,7 +50,7 @@ contains_front [] ys x c = absurd (omega (arith, c.1))
 contains_front (y ∷ xs) ys x (zero, l, is) = (0, omega arith, is)
 contains_front (y ∷ xs) ys x (suc k, l, is) = contains_later y (xs ++ ys) x (contains_front xs ys x (k, omega (arith, l), is))
 
-contains_last : {X : Type 0} (xs : List X) (x : X) → Contains (xs ++ x ∷ []) x
+pub contains_last : {X : Type 0} (xs : List X) (x : X) → Contains (xs ++ x ∷ []) x
 contains_last [] x = (0, omega arith, refl)
 contains_last (y ∷ xs) x = contains_later y (xs ++ x ∷ []) x (contains_last xs x)
 

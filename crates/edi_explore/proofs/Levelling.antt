@@ -1,11 +1,13 @@
 -- The levels of a search: those that were expanded, and what the verdict says then.
-use Rattle.std.proofs.Common.{◌≡◌, ◌⊎◌, inl, inr, ℕ, zero, suc, ◌<◌, ◌≤◌, nat_lt, arith, if◌then◌else◌, List, length, refl, sym, ap, subst, ◌∙◌}
+use Rattle.std.proofs.Common.{◌≡◌, ◌⊎◌, inl, inr, ℕ, zero, suc, ◌<◌, ◌≤◌, nat_lt, arith, if◌then◌else◌, List, length, Option, refl, sym, ap, subst, ◌∙◌}
+use Rattle.std.specs.Prelude.{is_some}
 use Rattle.std.proofs.lemmas.Bool.{cases_lt, le-ltb, lt-ltb}
 use Rattle.edi_target.specs.Check.{CodeParts}
 use Rattle.edi_explored.specs.Covered.{IsCutOrTold, Report}
-use Rattle.edi_explored.specs.machine.Levels.{StateTable, Below, FirstBelow, IsExpanded, IsLevelled, Nothing}
+use Rattle.edi_explored.specs.machine.Levels.{StateTable, Below, FirstBelow, IsClosed, IsExpanded, IsLevelled, Nothing}
 use Rattle.edi_explored.proofs.machine.Levels.{first_later}
 use Rattle.edi_explored.proofs.machine.All.{closed_all, levels_below}
+use Rattle.edi_orders.proofs.machine.Orders.{expanded_is_enough}
 use Rattle.edi_explore.specs.declared.ends.Found.{Found}
 use Rattle.edi_explore.specs.declared.ends.Limits.{Limits}
 use Rattle.edi_explore.specs.declared.ends.Verdict.{Verdict}
@@ -16,13 +18,14 @@ use Rattle.edi_explore.specs.declared.finding.Search.{Search}
 use Rattle.edi_explore.specs.declared.step.GivenUp.{GivenUp}
 use Rattle.edi_explore.specs.declared.step.GivenUp.TheVariants as given_up
 use Rattle.edi_explore.specs.Expand.{GoesFurther, HasBegun, HasExpanded, IsSearch}
+use Rattle.edi_explore.specs.Found.{endings_of}
 use Rattle.edi_explore.specs.Offline.{offline}
 use Rattle.edi_explore.specs.Shown.{HasMany, asks_of, told_by}
 use Rattle.edi_explore.specs.States.{AreStates, Follows}
 use Rattle.edi_explore.specs.Tables.{Grows, table_of}
-use Rattle.edi_explore.specs.Verdicts.{AreAllOf, AreAllTo, HasFirst, IsAnswer, IsConfirmed, IsUpTo, or_else, verdict_of, verdict_of_given_up}
+use Rattle.edi_explore.specs.Verdicts.{AreAllByStepsOf, AreAllOf, AreAllTo, HasFirst, IsAnswer, IsConfirmed, IsUpTo, or_else, verdict_of, verdict_of_given_up}
 use Rattle.edi_explore.proofs.Findings.{tells_more}
-use Rattle.edi_explore.proofs.Iteration.{expanded_below, expanded_still, is_later}
+use Rattle.edi_explore.proofs.Iteration.{expanded_below, expanded_down, expanded_still, is_later}
 use Rattle.edi_explore.proofs.Table.{longer}
 
 -- ---- what is told of fewer moves stays told
@@ -93,15 +96,28 @@ module _ (code : CodeParts) (input : List ℕ) (limits : Limits) where
       within zero = omega arith
       within (suc k) = omega arith
 
-  -- no state is left
+  -- no state is left: each was expanded, and the first stint leads to one of them
+  closed : (s : Search) (depth from : ℕ) → IsSearch code input limits s → HasLevels s depth from → from ≡ length s.states.keys.keys →
+      IsClosed code (offline input) limits.turns (told_by (asks_of limits) s.found.items) (table_of s.states input) (length s.states.keys.keys)
+  closed s depth from is h whole = record {
+    some = h.levelled.some;
+    first = h.first;
+    kept = is.kept;
+    expanded = λ v l. expanded_down code input limits s v (h.all v (omega (arith, l, whole)));
+  }
+
   pub all_of : (s : Search) (depth from : ℕ) → IsSearch code input limits s → HasLevels s depth from → from ≡ length s.states.keys.keys → AreAllOf code input limits s.found.items
   all_of s depth from is h whole unit coded code_is =
-      closed_all unit coded code code_is (offline input) limits.turns (told_by (asks_of limits) s.found.items) (table_of s.states input) (length s.states.keys.keys) (record {
-        some = h.levelled.some;
-        first = h.first;
-        kept = is.kept;
-        expanded = λ v l. h.all v (omega (arith, l, whole));
-      })
+      closed_all unit coded code code_is (offline input) limits.turns (told_by (asks_of limits) s.found.items) (table_of s.states input)
+      (length s.states.keys.keys) (closed s depth from is h whole)
+
+  pub all_steps_of : (s : Search) (depth from : ℕ) → IsSearch code input limits s → HasLevels s depth from → from ≡ length s.states.keys.keys →
+      AreAllByStepsOf code input limits s.found.items
+  all_steps_of s depth from is h whole none unit coded code_is calm inner =
+      expanded_is_enough unit coded code code_is (offline input) limits.turns (endings_of s.found.items) (table_of s.states input) (length s.states.keys.keys)
+      (subst
+      (λ b. IsClosed code (offline input) limits.turns (told_by b s.found.items) (table_of s.states input) (length s.states.keys.keys))
+      (ap (λ (o : Option ℕ). is_some o) none) (closed s depth from is h whole)) calm inner
 
   -- all executions of at most so many moves were followed
   pub all_to : (s : Search) (depth from : ℕ) → HasLevels s depth from → AreAllTo code input limits (suc depth) s.found.items
@@ -175,9 +191,10 @@ module _ (code : CodeParts) (input : List ℕ) (limits : Limits) where
       | inr past ↦
           let e : k ≡ depth = omega (arith, l, past) in
           subst (λ n. IsExpanded code (offline input) limits.turns Is TB n v) (sym (end (suc (suc k)) (omega (arith, past))))
+          (expanded_down code input limits b v
           (level v
           (omega (arith, lowest, low k (omega (arith, l)), ap h.starts e, h.at))
-          (omega (arith, highest, low (suc k) (omega (arith, l)), h.within (suc k))))
+          (omega (arith, highest, low (suc k) (omega (arith, l)), h.within (suc k)))))
     ]
 
     pub more_levels : HasLevels b (suc depth) old
@@ -236,7 +253,8 @@ module _ (code : CodeParts) (input : List ℕ) (limits : Limits) where
   -- no state is left
   pub ends_whole : (x : Verdict) (s : Search) (depth from count : ℕ) → IsSearch code input limits s → IsSoFar x s depth from →
       from ≡ length s.states.keys.keys → IsAnswer code input limits count s.found.items x
-  ends_whole verdict.All s depth from count is h whole = all_of code input limits s depth from is h whole
+  ends_whole verdict.All s depth from count is h whole =
+      (all_of code input limits s depth from is h whole, all_steps_of code input limits s depth from is h whole)
   ends_whole (verdict.Full moves) s depth from count is h whole = absurd h
   ends_whole (verdict.Many moves) s depth from count is h whole = absurd h
   ends_whole (verdict.Cut moves) s depth from count is h whole = h
@@ -284,7 +302,10 @@ module _ (code : CodeParts) (input : List ℕ) (limits : Limits) where
 
 module _ (code : CodeParts) (input : List ℕ) (limits : Limits) (count : ℕ) (fs : List Found) where
   pub answer_all : (x : Verdict) → IsAnswer code input limits count fs x → x ≡ verdict.All → AreAllOf code input limits fs
-  answer_all x h e = subst (IsAnswer code input limits count fs) e h
+  answer_all x h e = (subst (IsAnswer code input limits count fs) e h).0
+
+  pub answer_steps : (x : Verdict) → IsAnswer code input limits count fs x → x ≡ verdict.All → AreAllByStepsOf code input limits fs
+  answer_steps x h e = (subst (IsAnswer code input limits count fs) e h).1
 
   pub answer_to : (x : Verdict) (moves : ℕ) → IsAnswer code input limits count fs x → IsUpTo x moves → AreAllTo code input limits moves fs
   answer_to verdict.All moves h up = absurd up

@@ -4,6 +4,7 @@ pub mod StatesBack
 pub mod Growing
 pub mod Equal
 pub mod Keying
+pub mod Links
 pub mod Adding
 pub mod Tabled
 pub mod Table
@@ -18,5 +19,6 @@ pub mod Levelling
 pub mod Fewer
 pub mod Watching
 pub mod Noted
+pub mod Longest
 pub mod Telling
 pub mod Recording

@@ -18,7 +18,7 @@ use Rattle.edi_explore.specs.declared.states.Key.{Key}
 use Rattle.edi_explore.specs.declared.states.States.{States}
 use Rattle.edi_explore.specs.Offline.{no_files}
 use Rattle.edi_explore.specs.Systems.{system_of}
-use Rattle.edi_explore.specs.States.{AreStates, Follows, IsAdded, PutsStateBack}
+use Rattle.edi_explore.specs.States.{AreStates, Follows, IsAdded, IsAddedFrom, PutsStateBack}
 use Rattle.edi_explore.specs.Tables.{Grows, parts_at, parts_of, place_of, shown_at, shown_in, system_at, table_of}
 use Rattle.edi_explore.proofs.Growing.{follows_on, follows_same, stays_at}
 use Rattle.edi_explore.proofs.Keying.{lookup}
@@ -79,6 +79,7 @@ grows_same s = record {
   places = follows_same s.places.keys;
   keys = follows_same s.keys.keys;
   slots = λ v l. refl;
+  links = follows_same s.links.items;
 }
 
 pub follows_long : {X : Type 0} (xs ys : List X) → Follows xs ys → length xs ≤ length ys
@@ -90,10 +91,11 @@ grows_on a b c f g = record {
   places = follows_on a.places.keys b.places.keys c.places.keys f.places g.places;
   keys = follows_on a.keys.keys b.keys.keys c.keys.keys f.keys g.keys;
   slots = λ v l. g.slots v (omega (arith, l, follows_long a.keys.keys b.keys.keys f.keys)) ∙ f.slots v l;
+  links = follows_on a.links.items b.links.items c.links.items f.links g.links;
 }
 
-pub grows_added : (asks : Bool) (old new : States) (k : KernelState) (o : Offline) → IsAdded asks old new k o → Grows old new
-grows_added asks old new k o h = record { processes = h.processes; places = h.places; keys = h.keys; slots = h.slots }
+pub grows_added : (from : ℕ) (asks : Bool) (old new : States) (k : KernelState) (o : Offline) → IsAddedFrom from asks old new k o → Grows old new
+grows_added from asks old new k o (h, l) = record { processes = h.processes; places = h.places; keys = h.keys; slots = h.slots; links = l.links }
 
 pub grows_equal : (old new : States) → new ≡ old → Grows old new
 grows_equal old new e = subst (Grows old) (sym e) (grows_same old)
@@ -130,12 +132,12 @@ module _ (old new : States) (input : List ℕ) (before : AreStates old) (h : Gro
 
   -- WHAT WAS FOUND of the states before is so of those now, while more is told
   pub later_of : (report report' : Report) → ((e : Ending) (shown : List ℕ) → Tells report e shown → Tells report' e shown) →
-      tells_shown report' ≡ tells_shown report → (next next' : ℕ) → next ≤ length old.keys.keys → next ≤ next' →
-      IsLater report report' O N (λ w. w < next) (λ w. w < next')
-  later_of report report' tells alike next next' within more = record {
+      tells_shown report' ≡ tells_shown report → (Had Has : ℕ → Type 0) → ((w : ℕ) → Had w → Has w × (w < length old.keys.keys)) →
+      IsLater report report' O N Had Has
+  later_of report report' tells alike Had Has all = record {
     tells = tells;
     alike = alike;
-    states = λ w l. (omega (arith, l, more), processes_still w (omega (arith, l, within)), system_still w (omega (arith, l, within)));
+    states = λ w h. let x = all w h in (x.0, processes_still w x.1, system_still w x.1);
   }
 
 -- ---- a state that was added

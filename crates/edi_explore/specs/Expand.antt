@@ -2,12 +2,14 @@
 use Rattle.std.specs.Prelude.{◌≡◌, ◌<◌, ℕ, Bool, true, false, List, length}
 use Rattle.edi_target.specs.Check.{CodeParts}
 use Rattle.edi_explored.specs.Covered as covered
-use Rattle.edi_explored.specs.machine.Kernels.{AreApart, IsFailed}
-use Rattle.edi_explored.specs.machine.Levels.{AreKept, FirstBelow, GoesBelow, IsExpanded, StintBelow}
+use Rattle.edi_explored.specs.machine.Kernels.{AreApart, IsFailed, OneGoes, StintOf}
+use Rattle.edi_explored.specs.machine.Levels.{AreKept, FirstBelow, Nothing}
+use Rattle.edi_explored.specs.machine.Ranks.{Among, IsExpandedTo, IsLinked}
 use Rattle.edi_explore.specs.declared.ends.Limits.{Limits}
 use Rattle.edi_explore.specs.declared.expand.Expanded.{Expanded}
 use Rattle.edi_explore.specs.declared.expand.Expanded.TheVariants as expanded
 use Rattle.edi_explore.specs.declared.finding.Search.{Search}
+use Rattle.edi_explore.specs.Links.{first_states, targets_of}
 use Rattle.edi_explore.specs.Offline.{offline}
 use Rattle.edi_explore.specs.Shown.{asks_of, told_by}
 use Rattle.edi_explore.specs.States.{AreStates}
@@ -34,9 +36,23 @@ module _ (code : CodeParts) (input : List ℕ) where
     abbrev pub Apart : (state : ℕ) → Type 0
     Apart state = AreApart ((table_of s.states input).processes state)
 
-    -- the process at this index of those that are ready in a state has had a stint, which leads to a state that is kept or to an ending that is told
+    -- the states to which the links of a state lead
+    abbrev pub targets : (state : ℕ) → List ℕ
+    targets = targets_of s.states.links.items
+
+    -- the states that are kept, to which these links lead
+    abbrev pub LeadsFrom : (state : ℕ) → ℕ → ℕ → Type 0
+    LeadsFrom state = Among code (offline input) limits.turns told (table_of s.states input) count targets (targets state)
+
+    abbrev pub Never : ℕ → Type 0
+    Never = Nothing code (offline input) limits.turns told (table_of s.states input)
+
+    -- the process at this index of those that are ready in a state has had a stint, which leads to a state that is kept, with a link, or to an
+    -- ending that is told
     abbrev pub HasStint : (state index : ℕ) → Type 0
-    HasStint state index = StintBelow code (offline input) limits.turns told (table_of s.states input) count state index
+    HasStint state index =
+        StintOf code (offline input) limits.turns told ℕ (table_of s.states input).processes (table_of s.states input).slots
+        (table_of s.states input).system Never (LeadsFrom state) 0 state index
 
     -- and where it does not fail, the stint was more than a failed attempt
     pub record HasStintThat (fails : Bool) (state index : ℕ) : Type 0 where
@@ -44,15 +60,21 @@ module _ (code : CodeParts) (input : List ℕ) where
       pub goes : fails ≡ false → IsFailed one.end one.after → ⊥
 
     abbrev pub HasOneThatGoes : (state : ℕ) → Type 0
-    HasOneThatGoes state = GoesBelow code (offline input) limits.turns told (table_of s.states input) count state
+    HasOneThatGoes state =
+        OneGoes code (offline input) limits.turns told ℕ (table_of s.states input).processes (table_of s.states input).slots
+        (table_of s.states input).system Never (LeadsFrom state) 0 state
 
     -- the state was expanded
     abbrev pub HasExpanded : (state : ℕ) → Type 0
-    HasExpanded state = IsExpanded code (offline input) limits.turns told (table_of s.states input) count state
+    HasExpanded state = IsExpandedTo code (offline input) limits.turns told (table_of s.states input) count targets state
 
     -- the program was begun
     abbrev pub HasBegun : Type 0
     HasBegun = FirstBelow code (offline input) limits.turns told (table_of s.states input) count
+
+    -- all states were expanded, and each stint leads along a link
+    abbrev pub IsWhole : Type 0
+    IsWhole = IsLinked code (offline input) limits.turns told (table_of s.states input) count targets (first_states count)
 
     -- each state is that of some kernel, and the system has this input
     pub record IsSearch : Type 0 where

@@ -5,6 +5,7 @@ pub mod Underway
 pub mod Found
 pub mod Shown
 pub mod Back
+pub mod Links
 pub mod States
 pub mod Records
 pub mod Finding

@@ -1,5 +1,5 @@
 -- Words of contracts. The states that a search keeps, by numbers.
-use Rattle.std.specs.Prelude.{◌≡◌, ◌⊎◌, ℕ, zero, suc, ◌-◌, ◌<◌, ◌≤◌, ◌^◌, Bool, true, false, List, [], ◌++◌, length, slice_get, slice_index_or, Some, None, take, drop}
+use Rattle.std.specs.Prelude.{◌≡◌, ◌⊎◌, ℕ, zero, suc, ◌-◌, ◌<◌, ◌≤◌, ◌^◌, Bool, true, false, List, [], ◌++◌, length, slice_get, slice_index_or, Contains, Some, None, take, drop}
 use Rattle.std.specs.Option.{option_map}
 use Rattle.edi_kernel.specs.declared.kept.Kept.{Kept}
 use Rattle.edi_kernel.specs.declared.state.KernelState.{KernelState}
@@ -12,6 +12,7 @@ use Rattle.edi_explore.specs.declared.states.Key.{Key}
 use Rattle.edi_explore.specs.declared.states.Origin.{Origin}
 use Rattle.edi_explore.specs.declared.states.States.{States}
 use Rattle.edi_explore.specs.Back.{AreApart, AreProcesses, IsPart}
+use Rattle.edi_explore.specs.Links.{targets_of}
 use Rattle.edi_explore.specs.Systems.{IsPlaceOf}
 
 -- where the ready slots of a state begin in the list of all of them, and those slots
@@ -137,3 +138,12 @@ pub record IsAdded (asks : Bool) (old new : States) (k : KernelState) (o : Offli
   pub keys : Follows old.keys.keys new.keys.keys
   pub slots : (v : ℕ) → v < length old.keys.keys → slots_of new v ≡ slots_of old v
   pub fresh : (v : ℕ) → v < length new.keys.keys → (v < length old.keys.keys) ⊎ ((v ≡ number) × (slots_of new v ≡ ready_slots k.table))
+
+-- a link leads from there to the state of this number, and those that were there are as they were
+pub record IsLinkedTo (from number : ℕ) (old new : States) : Type 0 where
+  pub links : Follows old.links.items new.links.items
+  pub there : Contains (targets_of new.links.items from) number
+
+-- that state is kept, and a link leads there
+abbrev pub IsAddedFrom : (from : ℕ) (asks : Bool) (old new : States) → KernelState → Offline → Type 0
+IsAddedFrom from asks old new k o = (h : IsAdded asks old new k o) × IsLinkedTo from h.number old new

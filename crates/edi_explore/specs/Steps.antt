@@ -19,7 +19,7 @@ use Rattle.edi_explore.specs.declared.step.Followed.{Followed}
 use Rattle.edi_explore.specs.declared.step.Followed.TheVariants as followed
 use Rattle.edi_explore.specs.Shown.{asks_of}
 use Rattle.edi_explore.specs.Systems.{system_of}
-use Rattle.edi_explore.specs.States.{IsAdded, PutsStateBack}
+use Rattle.edi_explore.specs.States.{IsAddedFrom, PutsStateBack}
 
 -- the process at this index of the ready ones has gone on from this state, with so many turns, and its stint ended so
 pub record GoesOn (s : States) (code : CodeParts) (turns state index : ℕ) (end : StintEnd) (after : KernelState) (o : Offline) : Type 0 where
@@ -52,15 +52,16 @@ EndsSo ending.Standstill result = result ≡ followed.Failed
 EndsSo ending.Fault result = ⊥
 EndsSo e result = result ≡ followed.Ended e
 
--- how a stint was followed: the run has ended, or the stint was cut, or the process only failed an attempt, or the state to which it leads is kept
-abbrev pub FollowedAs : (asks : Bool) → Followed → StintEnd → (old new : States) → KernelState → Offline → Type 0
-FollowedAs asks (followed.Ended e) end old new k o = ((used : ℕ) × (end ≡ stint_end.Over used e)) × IsProper e × (new ≡ old)
-FollowedAs asks followed.Cut end old new k o = new ≡ old
-FollowedAs asks followed.Failed end old new k o = IsFailed end k × (new ≡ old)
-FollowedAs asks followed.Led end old new k o = (is_over end ≡ false) × (k.table.marks ≡ 0) × IsAdded asks old new k o
+-- how a stint from there was followed: the run has ended, or the stint was cut, or the process only failed an attempt, or the state to which it
+-- leads is kept, with a link
+abbrev pub FollowedAs : (asks : Bool) (from : ℕ) → Followed → StintEnd → (old new : States) → KernelState → Offline → Type 0
+FollowedAs asks from (followed.Ended e) end old new k o = ((used : ℕ) × (end ≡ stint_end.Over used e)) × IsProper e × (new ≡ old)
+FollowedAs asks from followed.Cut end old new k o = new ≡ old
+FollowedAs asks from followed.Failed end old new k o = IsFailed end k × (new ≡ old)
+FollowedAs asks from followed.Led end old new k o = (is_over end ≡ false) × (k.table.marks ≡ 0) × IsAddedFrom from asks old new k o
 
 -- the stint of the process at this index from this state was followed so
 pub record FollowsStint (code : CodeParts) (limits : Limits) (state index : ℕ) (result : Followed) (old new : States) (after : KernelState) (o : Offline) : Type 0 where
   pub end : StintEnd
   pub goes : GoesOn old code limits.turns state index end after o
-  pub so : FollowedAs (asks_of limits) result end old new after o
+  pub so : FollowedAs (asks_of limits) state result end old new after o

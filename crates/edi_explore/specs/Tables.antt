@@ -55,9 +55,10 @@ table_of s input = record {
   system = λ v. system_at input (place_of s (slice_get s.keys.keys v));
 }
 
--- the states of the one are states of the other, by the same numbers, and are there as they were
+-- the states of the one are states of the other, by the same numbers, and are there as they were, with the links
 pub record Grows (old new : States) : Type 0 where
   pub processes : Follows old.processes.keys new.processes.keys
   pub places : Follows old.places.keys new.places.keys
   pub keys : Follows old.keys.keys new.keys.keys
   pub slots : (v : ℕ) → v < length old.keys.keys → slots_of new v ≡ slots_of old v
+  pub links : Follows old.links.items new.links.items

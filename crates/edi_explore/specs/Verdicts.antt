@@ -1,14 +1,16 @@
 -- Words of contracts. What a search answers.
-use Rattle.std.specs.Prelude.{◌≡◌, ◌⊎◌, ◌+◌, ◌<◌, ◌≤◌, ℕ, List, length, ⊤}
+use Rattle.std.specs.Prelude.{◌≡◌, ◌⊎◌, ◌+◌, ◌<◌, ◌≤◌, ℕ, List, length, None, ⊤}
 use Rattle.edi_calls.specs.Choice.{listed}
 use Rattle.edi_calls.specs.Outcome.{Outcome}
 use Rattle.edi_unit.specs.Tree.{ProgramUnit}
 use Rattle.edi_meaning.specs.Select.{Select}
+use Rattle.edi_disjoint.specs.steps.Inner.{InnerStepsKeep}
 use Rattle.edi_target.specs.Check.{CodeParts}
 use Rattle.edi_follows.specs.Theorem.{CanBeCoded}
 use Rattle.edi_explored.specs.Covered.{AllTold, AllToldBelow}
 use Rattle.edi_explored.specs.Moves.{moves_selected}
 use Rattle.edi_explored.specs.machine.Kernels.{IsUnitCode}
+use Rattle.edi_orders.specs.Orders.{AreAllBySteps, AreCalm}
 use Rattle.edi_explore.specs.declared.ends.Found.{Found}
 use Rattle.edi_explore.specs.declared.ends.Limits.{Limits}
 use Rattle.edi_explore.specs.declared.ends.Verdict.{Verdict}
@@ -18,8 +20,9 @@ use Rattle.edi_explore.specs.declared.expand.Expanded.TheVariants as expanded
 use Rattle.edi_explore.specs.declared.finding.Search.{Search}
 use Rattle.edi_explore.specs.declared.step.GivenUp.{GivenUp}
 use Rattle.edi_explore.specs.declared.step.GivenUp.TheVariants as given_up
-use Rattle.edi_explore.specs.Expand.{HasBegun}
+use Rattle.edi_explore.specs.Expand.{HasBegun, IsWhole}
 use Rattle.edi_explore.specs.Choices.{AreChoices, most_choices, turn_limit}
+use Rattle.edi_explore.specs.Found.{endings_of}
 use Rattle.edi_explore.specs.Offline.{offline}
 use Rattle.edi_explore.specs.Shown.{HasMany, asks_of, told_by}
 
@@ -85,17 +88,29 @@ module _ (code : CodeParts) (input : List ℕ) (limits : Limits) where
   abbrev pub AreAllOf : List Found → Type 0
   AreAllOf found = (unit : ProgramUnit) → CanBeCoded unit → IsUnitCode unit code → AllTold unit (offline input) (told_by (asks_of limits) found)
 
+  -- where output is not looked at, and these are calm, they are all endings of every order of steps, too, of each program with this code whose
+  -- inner steps keep to themselves
+  abbrev pub AreAllByStepsOf : List Found → Type 0
+  AreAllByStepsOf found =
+      limits.shown ≡ None → (unit : ProgramUnit) → CanBeCoded unit → IsUnitCode unit code → AreCalm (endings_of found) → InnerStepsKeep unit (offline input) →
+      AreAllBySteps unit (offline input) (endings_of found)
+
   abbrev pub AreAllTo : ℕ → List Found → Type 0
   AreAllTo moves found =
       (unit : ProgramUnit) → CanBeCoded unit → IsUnitCode unit code → AllToldBelow moves unit (offline input) (told_by (asks_of limits) found)
 
   abbrev pub IsAnswer : (count : ℕ) → List Found → Verdict → Type 0
-  IsAnswer count found verdict.All = AreAllOf found
+  IsAnswer count found verdict.All = AreAllOf found × AreAllByStepsOf found
   IsAnswer count found (verdict.Full moves) = AreAllTo moves found × (limits.states ≤ count)
   IsAnswer count found (verdict.Many moves) = AreAllTo moves found × HasMany limits found
   IsAnswer count found (verdict.Cut moves) = AreAllTo moves found
   IsAnswer count found (verdict.Unrecorded moves) = AreAllTo moves found
   IsAnswer count found (verdict.NoMemory moves) = AreAllTo moves found
+
+  -- where the verdict is that these are all, all states were expanded, and each stint leads along a link
+  abbrev pub IsWholeIf : Verdict → Search → Type 0
+  IsWholeIf verdict.All s = IsWhole code input limits s
+  IsWholeIf _ s = ⊤
 
   -- the first stint was followed, with turns left
   pub record HasFirst (s : Search) : Type 0 where

@@ -26,7 +26,8 @@ pub struct Found {
     pub choices: Vec<u8>,
     /// The turns of the run with these choices, at most 1,000,000,000.
     pub turns: u64,
-    /// The moves of the run with these choices. No execution of fewer moves ends so, as far as the verdict speaks of executions of so few.
+    /// The moves of the run with these choices. If the verdict is `All`, or its number is not less than these, no execution of fewer moves ends so:
+    /// where output is looked at, none with this output.
     pub moves: usize,
     /// All that the run has shown.
     pub shown: Vec<u8>,
@@ -37,11 +38,11 @@ pub struct Found {
 /// Whether the reported endings are all. A number says: all of the executions of fewer moves than that.
 #[derive(Clone, Copy, Debug, PartialEq, Eq)]
 pub enum Verdict {
-    /// They are all, whatever the choices and the bound on the turns.
+    /// They are all, whatever the choices and the bound on the turns. `explore` says when no order of steps ends otherwise.
     All,
     /// As many states were kept as may be.
     Full(usize),
-    /// As many endings were found as may be. There may be more.
+    /// As many endings were found as may be. Nothing is said of a further one.
     Many(usize),
     /// A process goes on for more turns than it may: the choices of the report lead to it.
     Cut(usize),
@@ -52,14 +53,17 @@ pub enum Verdict {
     NoMemory(usize),
 }
 
-/// The endings that were found, in the order in which they were, whether these are all, and how many states there are.
+/// The endings that were found, whether these are all, and what else a search tells.
 #[derive(Drop)]
 pub struct Report {
     pub found: Vec<Found>,
     pub verdict: Verdict,
+    /// How many states are kept, with the start of the program as one.
     pub states: usize,
     /// Where the verdict is `Cut`: choices with which a process goes on for more turns than it may, at most 65,536. Else they say nothing.
     pub cut: Vec<u8>,
+    /// How many moves every execution makes at most, whatever its choices and the bound on its turns. With none nothing is said.
+    pub longest: Option<usize>,
 }
 
 impl Limits {

@@ -8,6 +8,7 @@ mod expand;
 mod finding;
 mod moved;
 mod offline;
+mod ranks;
 mod record;
 mod search;
 mod states;

@@ -1,25 +1,30 @@
 //! The search.
 
-ghost use Rattle.std.specs.Prelude.{◌≡◌, ◌+◌, ◌<◌, ◌≤◌, ℕ, true, length, Some, IsSome, IfErr, IfOk};
+ghost use Rattle.std.specs.Prelude.{◌≡◌, ◌+◌, ◌<◌, ◌≤◌, ℕ, suc, true, length, None, Some, IsSome, IfErr, IfOk, IfSome};
 ghost use Rattle.edi_told.specs.Told.{WhereTold};
 ghost use Rattle.edi_unit.specs.Tree.{ProgramUnit};
+ghost use Rattle.edi_disjoint.specs.steps.Inner.{InnerStepsKeep};
 ghost use Rattle.edi_follows.specs.Theorem.{CanBeCoded};
 ghost use Rattle.edi_explored.specs.Reached.{AreAll, AreAllBelow, AreAllShown, AreAllShownBelow};
+ghost use Rattle.edi_explored.specs.Within.{MakeFewer};
 ghost use Rattle.edi_explored.specs.machine.Kernels.{IsUnitCode};
+ghost use Rattle.edi_orders.specs.Orders.{AreAllBySteps, AreCalm};
 ghost use Rattle.edi_explore.specs.Expand.{ComesTo, HasExpanded, IsSearch};
 ghost use Rattle.edi_explore.specs.Fewest.{AreFewest, AreUpTo, AreWithin};
 ghost use Rattle.edi_explore.specs.Finding.{Finds, FindsAt, IsBegun};
 ghost use Rattle.edi_explore.specs.Found.{AllTellWaits, AreNeverBad, AreRecorded, endings_of};
+ghost use Rattle.edi_explore.specs.Links.{HaveRanks};
 ghost use Rattle.edi_explore.specs.Offline.{offline};
 ghost use Rattle.edi_explore.specs.Shown.{AreDistinct, HasMany, asks_of, shown_endings_of};
-ghost use Rattle.edi_explore.specs.Verdicts.{HasCause, HasFirst, IsAnswer, IsUpTo, or_else, verdict_of, verdict_of_given_up};
+ghost use Rattle.edi_explore.specs.Verdicts.{HasCause, HasFirst, IsAnswer, IsUpTo, IsWholeIf, or_else, verdict_of, verdict_of_given_up};
 ghost use Rattle.edi_explore.specs.Watched.{IsWatched, SeesLevel};
 
 use crate::cut::confirmed;
 use crate::ends::{Limits, Report, Verdict};
 use crate::expand::Expanded;
 use crate::finding::{Met, Search};
-use crate::states::Origin;
+use crate::ranks::longest;
+use crate::states::{Link, Origin, START};
 use crate::step::{Followed, GivenUp, settle};
 use crate::watch::Watcher;
 use edi_kernel::Kernel;
@@ -68,6 +73,16 @@ impl Verdict {
     }
 }
 
+/// A number above the ranks of so many states, where this verdict says that all were followed.
+fn longest_if(alloc: Global, verdict: Verdict, links: &[Link], count: usize) -> Option<usize>
+    ensures ranks { IfSome result (λ moves. (verdict ≡ Verdict.All) × HaveRanks links.now count moves) }
+{
+    match verdict {
+        Verdict::All => longest(alloc, links, count),
+        _ => None,
+    }
+}
+
 impl Search {
     /// Follows the first stint, behind the entry of the program.
     fn begin(
@@ -88,7 +103,10 @@ impl Search {
         kernel.start(code);
         let end = kernel.stint(code, &mut self.calls, limits.turns);
         let _whole = kernel.word(0);
-        let origin = Origin { state: 0, index: 0 };
+        let origin = Origin {
+            state: START,
+            index: 0,
+        };
         let alloc = self.calls.alloc;
         let followed = settle(
             alloc,
@@ -167,6 +185,7 @@ impl Search {
         ensures fewest { AreFewest code.now input.now limits result self.new.found.items }
         ensures within { AreWithin result self.new.found.items }
         ensures watches { WhereTold (W.seen watcher.old) (W.seen watcher.new) (IsWatched result (limits.states + 1) (length self.new.states.keys.keys + 1)) }
+        ensures whole { IsWholeIf code.now input.now limits result self.new }
         ensures few { length self.new.states.keys.keys ≤ limits.states }
     {
         let mut verdict = Verdict::All;
@@ -203,6 +222,7 @@ impl Search {
         ensures fewest { AreFewest code.now input.now limits result self.new.found.items }
         ensures within { AreWithin result self.new.found.items }
         ensures watches { WhereTold (W.seen watcher.old) (W.seen watcher.new) (IsWatched result (limits.states + 1) (length self.new.states.keys.keys + 1)) }
+        ensures whole { IsWholeIf code.now input.now limits result self.new }
         ensures few { length self.new.states.keys.keys ≤ limits.states }
     {
         match self.begin(kernel, code, input, limits) {
@@ -213,19 +233,27 @@ impl Search {
         }
     }
 
-    /// What was found, with this verdict.
-    fn report(self, verdict: Verdict) -> Report
+    /// What was found, with this verdict. The first verdict is that of the search: where it is that all were followed, the number of moves is told,
+    /// unless a stint leads back to a state from which others led there, or memory runs out.
+    fn report(self, first: Verdict, verdict: Verdict) -> Report
         ensures found { result.found ≡ self.found }
         ensures verdict { result.verdict ≡ verdict }
         ensures cut { result.cut ≡ self.cut }
         ensures states { result.states ≡ length self.states.keys.keys + 1 }
+        ensures longest { IfSome result.longest (λ moves. (first ≡ Verdict.All) × HaveRanks self.states.links.items (length self.states.keys.keys) moves) }
     {
+        let alloc = self.calls.alloc;
         let states = self.states.total();
+        let count = self.states.len();
+        // The states are let go before memory is asked for the ranks.
+        let links = self.states.into_links();
+        let longest = longest_if(alloc, first, &links, count);
         Report {
             found: self.found,
             verdict,
             states,
             cut: self.cut,
+            longest,
         }
     }
 }
@@ -235,14 +263,21 @@ impl Search {
 /// Each ending that is found has choices, which bring it about: a run of the kernel ended so with them, after as many moves as are told. No
 /// execution of fewer moves ends so, as far as the verdict speaks of executions of so few: so it is a shortest one. The verdict speaks of these
 /// for each ending that is found if it is `All`, `Full` or `Many`. After a stint that was cut and after an ending without a record the search goes
-/// on: so if it is another one, those of more moves than its number may not be shortest ones. The verdict says whether these are all endings, or all of the executions of fewer moves than its number. A move is what
-/// a process does from when it is taken until the next one is taken; a failed attempt whose conditions call no function is none. An execution
-/// that goes on for ever has no ending, and is cut by each bound on its turns. Where output is looked at, an ending with other output is another
-/// ending.
+/// on: so if it is another one, those of more moves than its number may not be shortest ones. The verdict says whether these are all endings, or all
+/// of the executions of fewer moves than its number. A move is what a process does from when it is taken until the next one is taken; a failed attempt
+/// whose conditions call no function is none. An execution that goes on for ever has no ending, and is cut by each bound on its turns. Where output is
+/// looked at, an ending with other output is another ending.
 ///
 /// Where the verdict is that a stint was cut, the choices of the report bring that about: the run with them has a stint of more turns than one may have.
 /// As many states and one more were met where the verdict is that there may be no more; there are never more than these. As many endings were
-/// found as may be where the verdict is `Many`; there are never more. After each state the watcher is told how many there are by now.
+/// found as may be where the verdict is `Many`; there are never more. After each state that was expanded the watcher is told a number of states. No
+/// number is less than the one before it, and none is greater than the number of states in the end.
+///
+/// Let the verdict be `All`, and let output not be looked at. Let each ending be `done` or a standstill, and let each inner step keep to itself, unless
+/// nobody else may step. Then no order of steps ends otherwise. But turns may cut an order, and a fork may fail by the limit of processes.
+///
+/// Where `longest` is a number, no execution makes more moves, however far one looks. Attempts that fail and mark their process are no moves: choices
+/// that always take such a process again go nowhere. Where `longest` is none nothing is said.
 ///
 /// The only error is that memory ran out before the search: memory that runs out later is a verdict.
 pub fn explore<W: Watcher>(
@@ -262,6 +297,9 @@ pub fn explore<W: Watcher>(
     ensures within { IfOk result (λ report. AreWithin report.verdict report.found.items) }
     ensures all { (unit : ProgramUnit) → CanBeCoded unit → IsUnitCode unit code.now →
         IfOk result (λ report. report.verdict ≡ Verdict.All → AreAll unit (offline input.now) (endings_of report.found.items)) }
+    ensures by_steps { limits.shown ≡ None → (unit : ProgramUnit) → CanBeCoded unit → IsUnitCode unit code.now →
+        IfOk result (λ report. report.verdict ≡ Verdict.All → AreCalm (endings_of report.found.items) → InnerStepsKeep unit (offline input.now) →
+        AreAllBySteps unit (offline input.now) (endings_of report.found.items)) }
     ensures below { (unit : ProgramUnit) → CanBeCoded unit → IsUnitCode unit code.now → (moves : ℕ) →
         IfOk result (λ report. IsUpTo report.verdict moves → AreAllBelow moves unit (offline input.now) (endings_of report.found.items)) }
     ensures all_shown { IsSome limits.shown → (unit : ProgramUnit) → CanBeCoded unit → IsUnitCode unit code.now →
@@ -276,9 +314,11 @@ pub fn explore<W: Watcher>(
         (λ before now. IfOk result (λ report. IsWatched report.verdict (limits.states + 1) report.states before now)) }
     ensures cause { (unit : ProgramUnit) → CanBeCoded unit → IsUnitCode unit code.now →
         IfOk result (λ report. HasCause limits.turns unit input.now report.verdict report.cut.items) }
+    ensures longest { (unit : ProgramUnit) → CanBeCoded unit → IsUnitCode unit code.now →
+        IfOk result (λ report. IfSome report.longest (λ moves. MakeFewer (suc moves) unit (offline input.now))) }
 {
     let mut search = Search::new(alloc, input)?;
     let first = search.follow_all(kernel, code, input, limits, watcher);
     let verdict = confirmed(alloc, kernel, code, input, &search.cut, limits.turns, first);
-    Ok(search.report(verdict))
+    Ok(search.report(first, verdict))
 }

@@ -1,10 +1,11 @@
 //! The states that a search keeps.
 
-ghost use Rattle.std.specs.Prelude.{◌≡◌, ◌<◌, ◌≤◌, ◌+◌, ◌-◌, ◌++◌, [], None, Some, true, false, length, slice_get, IfOk, OnOk};
+ghost use Rattle.std.specs.Prelude.{◌≡◌, ◌<◌, ◌≤◌, ◌+◌, ◌-◌, ◌++◌, [], None, Some, true, false, length, slice_get, IfOk, IfSome, OnOk};
 ghost use Rattle.edi_kernel.specs.declared.kept.Kept.{Kept};
 ghost use Rattle.edi_kernel.specs.Kernel.{IsKernel};
 ghost use Rattle.edi_explore.specs.declared.offline.Place.{Place};
 ghost use Rattle.edi_kernel.specs.Table.{ready_slots};
+ghost use Rattle.edi_explore.specs.Links.{AddsLink};
 ghost use Rattle.edi_explore.specs.Shown.{asks_of};
 ghost use Rattle.edi_explore.specs.Tables.{shown_at};
 ghost use Rattle.edi_explore.specs.States.{
@@ -12,6 +13,7 @@ ghost use Rattle.edi_explore.specs.States.{
   AreNone,
   AreStates,
   IsAdded,
+  IsAddedFrom,
   IsKeyOf,
   IsSameKept,
   IsSamePlace,
@@ -36,6 +38,16 @@ pub(crate) struct Origin {
     pub(crate) index: u8,
 }
 
+/// Where the start of the program comes from: the number of no state.
+pub(crate) const START: u32 = 4_294_967_295;
+
+/// That a stint from one state leads to another one.
+#[derive(Clone, Copy)]
+pub(crate) struct Link {
+    pub(crate) from: u32,
+    pub(crate) to: u32,
+}
+
 /// What a state is: the numbers of its parts, of the place of the system, and of each live process in the order of their slots.
 #[derive(PartialEq, Eq, Hash, Drop)]
 pub(crate) struct Key {
@@ -55,6 +67,8 @@ pub(crate) struct States {
     orders: Vec<u8>,
     /// Where the slots of each state end.
     ends: Vec<usize>,
+    /// Where the stints that were followed lead, in the order in which they were.
+    links: Vec<Link>,
 }
 
 /// An index as a number. That of a part beyond all that memory can have is told as want of memory.
@@ -80,6 +94,7 @@ impl States {
             origins: Vec::new(alloc),
             orders: Vec::new(alloc),
             ends: Vec::new(alloc),
+            links: Vec::new(alloc),
         }
     }
 
@@ -95,6 +110,13 @@ impl States {
         ensures { result ≡ length self.now.keys.keys + 1 }
     {
         self.keys.len() + 1
+    }
+
+    /// Where the stints lead. All else is let go.
+    pub(crate) fn into_links(self) -> Vec<Link>
+        ensures { result ≡ self.links }
+    {
+        self.links
     }
 
     /// Where a state but the first came from.
@@ -201,7 +223,8 @@ impl States {
         ensures keys { self.new.keys ≡ self.old.keys }
     {
         let place = self.place_of(calls.keep(asks)?)?;
-        let mut parts = Vec::with_capacity(alloc, 4)?;
+        // Those that are ready, and the one that waits for them: most often no others live. A list that grows doubles what it takes.
+        let mut parts = Vec::with_capacity(alloc, kernel.ready().saturating_add(1))?;
         for slot in 0..32 {
             if !kernel.lives(slot) {
                 continue;
@@ -225,8 +248,54 @@ impl States {
         Ok(())
     }
 
-    /// Adds the state that kernel and system are now, if it is new: with what was shown, where output is looked at. The answer is whether it
-    /// is kept: not where it is new and as many states are kept as may be.
+    /// Keeps the state that kernel and system are now, if it is new: with what was shown, where output is looked at. The answer is its number:
+    /// none where it is new and as many states are kept as may be.
+    fn keep(
+        &mut self,
+        alloc: Global,
+        kernel: &Kernel,
+        calls: &Offline,
+        origin: Origin,
+        limits: Limits,
+    ) -> Result<Option<usize>, AllocError>
+        requires kernel { IsKernel kernel.now }
+        requires free { kernel.now.taken ≡ None }
+        requires states { AreStates self.old }
+        requires origin { MayComeFrom self.old origin }
+        requires few { length self.old.keys.keys ≤ limits.states }
+        ensures added { IfOk result (λ kept. IfSome kept (λ number.
+            (h : IsAdded (asks_of limits) self.old self.new kernel.now calls.now) × (h.number ≡ number))) }
+        ensures links { OnOk result (self.new.links ≡ self.old.links) }
+        ensures full { IfOk result (λ kept. kept ≡ None → limits.states ≤ length self.new.keys.keys) }
+        ensures few { length self.new.keys.keys ≤ limits.states }
+        ensures grows { length self.old.keys.keys ≤ length self.new.keys.keys }
+    {
+        let key = self.key_of(alloc, kernel, calls, limits.asks())?;
+        if self.keys.len() >= limits.states as usize && !self.keys.contains(&key) {
+            return Ok(None);
+        }
+        let (number, added) = self.keys.insert_full(key)?;
+        if !added {
+            return Ok(Some(number));
+        }
+        self.note_order(kernel)?;
+        self.origins.push(origin)?;
+        self.ends.push(self.orders.len())?;
+        Ok(Some(number))
+    }
+
+    /// Notes that a stint leads from one state to the state of this number.
+    fn note_link(&mut self, from: u32, number: usize) -> Result<(), AllocError>
+        ensures exact { OnOk result (AddsLink from number self.old.links.items self.new.links.items) }
+        ensures rest { self.new ≡ record self.old { links = self.new.links } }
+    {
+        let to = as_number(number)?;
+        self.links.push(Link { from, to })?;
+        Ok(())
+    }
+
+    /// Keeps the state that kernel and system are now, if it is new, with a link from the state of this origin. The answer is whether it is kept:
+    /// not where it is new and as many states are kept as may be.
     pub(crate) fn add(
         &mut self,
         alloc: Global,
@@ -240,22 +309,17 @@ impl States {
         requires states { AreStates self.old }
         requires origin { MayComeFrom self.old origin }
         requires few { length self.old.keys.keys ≤ limits.states }
-        ensures added { IfOk result (λ kept. kept ≡ true → IsAdded (asks_of limits) self.old self.new kernel.now calls.now) }
+        ensures added { IfOk result (λ kept. kept ≡ true →
+            IsAddedFrom origin.state (asks_of limits) self.old self.new kernel.now calls.now) }
         ensures full { IfOk result (λ kept. kept ≡ false → limits.states ≤ length self.new.keys.keys) }
         ensures few { length self.new.keys.keys ≤ limits.states }
         ensures grows { length self.old.keys.keys ≤ length self.new.keys.keys }
     {
-        let key = self.key_of(alloc, kernel, calls, limits.asks())?;
-        if self.keys.len() >= limits.states as usize && !self.keys.contains(&key) {
+        let kept = self.keep(alloc, kernel, calls, origin, limits)?;
+        let Some(number) = kept else {
             return Ok(false);
-        }
-        let (_, added) = self.keys.insert_full(key)?;
-        if !added {
-            return Ok(true);
-        }
-        self.note_order(kernel)?;
-        self.origins.push(origin)?;
-        self.ends.push(self.orders.len())?;
+        };
+        self.note_link(origin.state, number)?;
         Ok(true)
     }
 }

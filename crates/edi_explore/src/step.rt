@@ -31,7 +31,7 @@ pub(crate) enum Followed {
 pub(crate) enum GivenUp {
     /// As many states are kept as may be, and there is one more.
     Full,
-    /// As many endings are found as may be, and another one was met.
+    /// As many endings are found as may be.
     Many,
     /// Memory ran out.
     NoMemory,
@@ -78,7 +78,7 @@ pub(crate) fn settle(
     requires kernel { IsKernel kernel.now }
     requires free { is_over end ≡ false → kernel.now.taken ≡ None }
     requires few { length states.old.keys.keys ≤ limits.states }
-    ensures follows { IfOk result (λ followed. FollowedAs (asks_of limits) followed end states.old states.new kernel.now calls.now) }
+    ensures follows { IfOk result (λ followed. FollowedAs (asks_of limits) origin.state followed end states.old states.new kernel.now calls.now) }
     ensures full { IfErr result (λ given_up. given_up ≡ GivenUp.Full → limits.states ≤ length states.new.keys.keys) }
     ensures few_found { IfErr result (λ given_up. given_up ≡ GivenUp.Many → ⊥) }
     ensures few { length states.new.keys.keys ≤ limits.states }

@@ -15,7 +15,8 @@ use Rattle.edi_explore.specs.Verdicts.{HasCause, IsAnswer, IsConfirmed}
 use Rattle.edi_explore.specs.Watched.{IsWatched}
 use Rattle.edi_explore.proofs.Fewer.{fewest_confirmed, within_confirmed}
 use Rattle.edi_explore.proofs.Findings.{never_bad}
-use Rattle.edi_explore.proofs.Levelling.{answer_all, answer_confirmed, answer_full, answer_many, answer_to}
+use Rattle.edi_explore.proofs.Levelling.{answer_all, answer_confirmed, answer_full, answer_many, answer_steps, answer_to}
+use Rattle.edi_explore.proofs.Longest.{longest_fewer}
 use Rattle.edi_explore.proofs.Telling.{all_ends, below_ends, some_asks}
 use Rattle.edi_explore.proofs.Watching.{watched_confirmed}
 use Rattle.edi_explore.proofs.search.explore.Goals as goal
@@ -84,6 +85,14 @@ returns-clause-all g c = λ unit coded is all.
     (answer c.args.code.now c.args.input.now c.args.limits (length s.states.keys.keys) s.found.items c.report.result.found.items c.follow_all-first.result
     c.confirmed-verdict.result c.report.result.verdict (ap (λ x. x.items) c.report.ensures.found) c.report.ensures.verdict c.confirmed-verdict.ensures.same
     c.follow_all-first.ensures.answer) all unit coded is)
+
+pub returns-clause-by_steps : goal.returns-clause-by_steps
+returns-clause-by_steps g c = λ none unit coded is all.
+    let s = c.follow_all-first.new.self in
+    answer_steps c.args.code.now c.args.input.now c.args.limits (length s.states.keys.keys) c.report.result.found.items c.report.result.verdict
+    (answer c.args.code.now c.args.input.now c.args.limits (length s.states.keys.keys) s.found.items c.report.result.found.items c.follow_all-first.result
+    c.confirmed-verdict.result c.report.result.verdict (ap (λ x. x.items) c.report.ensures.found) c.report.ensures.verdict c.confirmed-verdict.ensures.same
+    c.follow_all-first.ensures.answer) all none unit coded is
 
 pub returns-clause-below : goal.returns-clause-below
 returns-clause-below g c = λ unit coded is moves up.
@@ -154,3 +163,9 @@ returns-clause-cause g c = λ unit coded is.
     subst (λ (x : Verdict). HasCause c.args.limits.turns unit c.args.input.now x c.report.result.cut.items) (sym c.report.ensures.verdict)
     (subst (λ (xs : List ℕ). HasCause c.args.limits.turns unit c.args.input.now c.confirmed-verdict.result xs)
     (c.deref.ensures.value ∙ sym (ap (λ x. x.items) c.report.ensures.cut)) (c.confirmed-verdict.ensures.cause unit coded is))
+
+pub returns-clause-longest : goal.returns-clause-longest
+returns-clause-longest g c = λ unit coded is.
+    let s = c.follow_all-first.new.self in
+    longest_fewer c.args.code.now c.args.input.now c.args.limits c.follow_all-first.result s c.report.result.longest c.follow_all-first.ensures.whole
+    c.report.ensures.longest unit coded is

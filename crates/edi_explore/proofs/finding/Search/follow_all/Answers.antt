@@ -3,11 +3,12 @@ use Rattle.std.proofs.Common.{◌≡◌, ◌+◌, length, sym, subst, arith}
 use Rattle.edi_explore.specs.declared.ends.Verdict.{Verdict}
 use Rattle.edi_explore.specs.declared.ends.Verdict.TheVariants as verdict
 use Rattle.edi_explore.specs.Fewest.{AreWithin}
-use Rattle.edi_explore.specs.Verdicts.{IsAnswer}
+use Rattle.edi_explore.specs.Verdicts.{IsAnswer, IsWholeIf}
 use Rattle.edi_explore.specs.Watched.{IsWatched}
 use Rattle.edi_explore.proofs.Fewer.{fewest_none, up_to_none, within_given_up}
 use Rattle.edi_explore.proofs.Findings.{finds_on}
 use Rattle.edi_explore.proofs.Levelling.{all_to_none, early_none}
+use Rattle.edi_explore.proofs.Longest.{whole_early}
 use Rattle.edi_explore.proofs.Watching.{sees_none, told_same, watched_early, watched_not}
 use Rattle.edi_explore.proofs.finding.Search.follow_all.Goals as goal
 
@@ -92,3 +93,8 @@ returns-in-Err-clause-within g c =
     (within_given_up c.args.code.now c.args.input.now c.args.limits c.in-Err.given_up 0 c.begin.new.self.found.items
     (up_to_none c.args.code.now c.args.input.now c.args.limits c.args.self.now c.begin.new.self c.requires.new.found c.requires.new.moves
     c.begin.ensures.finds))
+
+pub returns-in-Err-clause-whole : goal.returns-in-Err-clause-whole
+returns-in-Err-clause-whole g c =
+    subst (λ (v : Verdict). IsWholeIf c.args.code.now c.args.input.now c.args.limits v c.begin.new.self) (sym c.verdict.ensures)
+    (whole_early c.args.code.now c.args.input.now c.args.limits verdict.All c.in-Err.given_up 0 c.begin.new.self)

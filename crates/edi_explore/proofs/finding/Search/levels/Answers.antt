@@ -8,11 +8,12 @@ use Rattle.edi_explore.specs.declared.expand.Expanded.{Expanded}
 use Rattle.edi_explore.specs.declared.finding.Search.{Search}
 use Rattle.edi_explore.specs.declared.step.GivenUp.{GivenUp}
 use Rattle.edi_explore.specs.Fewest.{AreFewest, AreUpTo, AreWithin}
-use Rattle.edi_explore.specs.Verdicts.{IsAnswer, or_else, verdict_of, verdict_of_given_up}
+use Rattle.edi_explore.specs.Verdicts.{IsAnswer, IsWholeIf, or_else, verdict_of, verdict_of_given_up}
 use Rattle.edi_explore.specs.Watched.{IsWatched, Sees, SeesLevel}
 use Rattle.edi_explore.proofs.Fewer.{IsLow, fewest_more, fewest_or, low_none, up_to_more, within_given_up, within_or, within_whole}
 use Rattle.edi_explore.proofs.Findings.{finds_none, finds_on}
 use Rattle.edi_explore.proofs.Levelling.{IsSoFar, ends_bound, ends_early, ends_whole, no_levels, so_far_more}
+use Rattle.edi_explore.proofs.Longest.{whole_bound, whole_early, whole_ends}
 use Rattle.edi_explore.proofs.Noted.{noted_levels, noted_search}
 use Rattle.edi_explore.proofs.Table.{longer}
 use Rattle.edi_explore.proofs.Watching.{sees_none, sees_on, told_same, watched_early, watched_full, watched_whole}
@@ -123,6 +124,22 @@ returns-in-Err-clause-answer g c =
     (ends_early c.args.code.now c.args.input.now c.args.limits c.loop-depth.verdict c.in-Err.given_up c.loop-depth.self c.level.new.self.found.items
     c.loop-depth.depth c.loop-depth.from (length c.level.new.self.states.keys.keys) c.loop-depth.invariant.so c.level.ensures.finds.finds.more
     c.in-Err.ensures.full c.in-Err.ensures.many)
+
+pub returns-then-from-to-clause-whole : goal.returns-then-from-to-clause-whole
+returns-then-from-to-clause-whole g c =
+    whole_ends c.args.code.now c.args.input.now c.args.limits c.loop-depth.verdict c.loop-depth.self c.loop-depth.depth c.loop-depth.from
+    c.loop-depth.invariant.search c.loop-depth.invariant.so (c.if-from-to.true ∙ c.len-to.ensures)
+
+pub returns-in-Err-clause-whole : goal.returns-in-Err-clause-whole
+returns-in-Err-clause-whole g c =
+    subst (λ (v : Verdict). IsWholeIf c.args.code.now c.args.input.now c.args.limits v c.level.new.self)
+    (sym (c.or.ensures ∙ ap (or_else c.loop-depth.verdict) c.verdict-in-Err.ensures))
+    (whole_early c.args.code.now c.args.input.now c.args.limits c.loop-depth.verdict c.in-Err.given_up (c.loop-depth.depth + 1) c.level.new.self)
+
+pub returns-clause-whole : goal.returns-clause-whole
+returns-clause-whole g c =
+    subst (λ (v : Verdict). IsWholeIf c.args.code.now c.args.input.now c.args.limits v c.loop-depth.self) (sym c.or-2.ensures)
+    (whole_bound c.args.code.now c.args.input.now c.args.limits c.loop-depth.verdict (c.args.limits.states + 2) c.loop-depth.self)
 
 pub returns-in-Err-clause-fewest : goal.returns-in-Err-clause-fewest
 returns-in-Err-clause-fewest g c =

@@ -1,47 +1,16 @@
--- The state was kept already, or it is the next one.
-use Rattle.std.proofs.Common.{◌≡◌, ◌++◌, ◌∷◌, [], List, Bool, true, false, not, length, sym, ap, ◌∙◌, refl, subst}
-use Rattle.std.specs.Prelude.{if◌then◌else◌}
-use Rattle.indexmap.specs.IndexSet.{contains}
-use Rattle.edi_explore.specs.declared.states.States.{States}
+-- The state is kept, and then a link to it.
+use Rattle.std.proofs.Common.{◌≡◌, ℕ, Option, subst}
+use Rattle.std.specs.Prelude.{IfSome}
 use Rattle.edi_explore.specs.Shown.{asks_of}
-use Rattle.edi_explore.specs.States.{IsKeyOf}
-use Rattle.edi_explore.specs.contracts.states.KeyPartialEq.TheImpl as key
-use Rattle.edi_explore.proofs.Adding.{added_again, added_new}
-use Rattle.edi_explore.proofs.Equal.{key_same}
+use Rattle.edi_explore.specs.States.{IsAdded}
+use Rattle.edi_explore.proofs.Adding.{added_from}
 use Rattle.edi_explore.proofs.states.States.add.Goals as goal
-
-stay : {X : Type 0} (b : Bool) (ks more : List X) → not b ≡ false → (if b then ks else more) ≡ ks
-stay true ks more e = refl
-stay false ks more e = absurd (cc)
-
-grow : {X : Type 0} (b : Bool) (ks more : List X) → not b ≡ true → (if b then ks else more) ≡ more
-grow true ks more e = absurd (cc)
-grow false ks more e = refl
-
-pub returns-then-not-added-clause-added : goal.returns-then-not-added-clause-added
-returns-then-not-added-clause-added c = λ _.
-    let mid = c.key_of.new.self in
-    let stored = c.in_ok-added.ensures.stored in
-    added_again (asks_of c.args.limits) c.args.self.now mid (record mid { keys = c.insert_full.new.self }) c.in_ok-key.key stored.0 c.in_ok-added.field-0-0 c.args.kernel.now c.args.calls.now
-    c.requires.states c.in_ok-key.ensures.adds (subst (λ b. IsKeyOf b mid c.in_ok-key.key c.args.kernel.now c.args.calls.now) c.asks.ensures c.in_ok-key.ensures.key) refl
-    (c.in_ok-added.ensures.keys
-    ∙ stay (contains (key.ghosts).eq mid.keys c.in_ok-key.key) mid.keys.keys (mid.keys.keys ++ c.in_ok-key.key ∷ [])
-    (sym c.in_ok-added.ensures.added ∙ c.if-not-added.true))
-    stored.1 (key_same c.in_ok-key.key stored.0 stored.2)
 
 pub returns-clause-added : goal.returns-clause-added
 returns-clause-added c = λ _.
-    let mid = c.key_of.new.self in
-    let rest = c.in_ok-note_order.ensures.rest in
-    added_new (asks_of c.args.limits) c.args.self.now mid
-    (record c.note_order.new.self { origins = c.push.new.self; ends = c.push-2.new.self }) c.in_ok-key.key c.args.kernel.now c.args.calls.now
-    c.requires.states c.in_ok-key.ensures.adds c.requires.kernel (subst (λ b. IsKeyOf b mid c.in_ok-key.key c.args.kernel.now c.args.calls.now) c.asks.ensures c.in_ok-key.ensures.key)
-    (ap (λ (x : States). x.processes) rest) (ap (λ (x : States). x.places) rest)
-    (ap (λ (x : States). x.keys.keys) rest ∙ c.in_ok-added.ensures.keys
-    ∙ grow (contains (key.ghosts).eq mid.keys c.in_ok-key.key) mid.keys.keys (mid.keys.keys ++ c.in_ok-key.key ∷ [])
-    (sym c.in_ok-added.ensures.added ∙ c.if-not-added.false))
-    c.in_ok-note_order.ensures.exact
-    c.args.origin c.requires.origin (c.in_ok-push.ensures.items ∙ ap (λ (x : States). x.origins.items ++ c.args.origin ∷ []) rest)
-    (c.in_ok-push-2.ensures.items
-    ∙ ap (λ n. c.note_order.new.self.ends.items ++ n ∷ []) (c.len-2.ensures ∙ c.note_order.new.self.orders.ok.0)
-    ∙ ap (λ (x : States). x.ends.items ++ length c.note_order.new.self.orders.items ∷ []) rest)
+    let old = c.args.self.now in
+    let put = c.keep.new.self in
+    let asks = asks_of c.args.limits in
+    added_from c.args.origin.state c.in-Some.number asks old put c.note_link.new.self c.args.kernel.now c.args.calls.now
+    (subst (λ (o : Option ℕ). IfSome o (λ n. (h : IsAdded asks old put c.args.kernel.now c.args.calls.now) × (h.number ≡ n))) c.in-Some.is
+    c.in_ok-kept.ensures.added) c.in_ok-kept.ensures.links c.in_ok-note_link.ensures.rest c.in_ok-note_link.ensures.exact
