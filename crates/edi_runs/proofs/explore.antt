@@ -1,4 +1,6 @@
 mod Explored
 mod Keeping
+pub mod Opened
+mod Ordered
 mod Reading
 mod Runs

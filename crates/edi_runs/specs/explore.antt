@@ -4,6 +4,8 @@ pub mod Input
 pub mod Keeping
 pub mod Laws
 pub mod Lines
+pub mod Openness
+pub mod Orders
 pub mod Records
 pub mod Rows
 pub mod Told

@@ -4,6 +4,7 @@ pub mod Fronts
 pub mod StepLemmas
 pub mod OneStatus
 pub mod AcceptedTexts
+pub mod SilentDevices
 pub mod Terminal
 pub mod Later
 pub mod Closing

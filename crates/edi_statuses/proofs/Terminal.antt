@@ -1,8 +1,6 @@
 -- What a status means does not change where the terminal takes its line: the steps of commands, and what they leave.
 use Rattle.std.proofs.Common.{◌≡◌, ℕ, ◌-◌, List, length, Option, Some, None, inl, inr}
-use Rattle.std.specs.Prelude.{⊤}
 use Rattle.edi_told.specs.Told.{WhereTold}
-use Rattle.edi_host.specs.Contents.{Contents}
 use Rattle.edi_calls.specs.declared.ends.Outside as failing
 use Rattle.edi_calls.specs.Choice.{Choices}
 use Rattle.edi_debug.specs.stops.Stops.{Watched}
@@ -16,7 +14,7 @@ use Rattle.edi_unit.specs.Tree.{ProgramUnit}
 use Rattle.edi_words.specs.Words as words
 use Rattle.edi_words.specs.Words.{ChoicesFrom, Command}
 use Rattle.edi_statuses.specs.declared.status.Status.{Status}
-use Rattle.edi_statuses.specs.Outside.{Outside, seen, Lent, KernelLeft, Kept, Devices, DevicesAreAt, devices_of, devices_with, system_on}
+use Rattle.edi_statuses.specs.Outside.{Outside, seen, Lent, KernelLeft, Kept, Devices, DevicesAreAt, devices_of, system_on}
 use Rattle.edi_statuses.specs.Steps.{AfterStep, goes, stops, ◌>>=◌, Ready, Fetches, GivesChoices, ReadsChoices, ChoicesAreThere, Accepts, Mounts, Loads}
 use Rattle.edi_statuses.specs.Steps.{ChecksOld, FindsPoints, FitsDisk, HasRoom}
 use Rattle.edi_statuses.specs.Executions.{Runnable, FailedAt, HasCall, HasRun, StandsAt, BrokeRun}
@@ -28,48 +26,8 @@ use Rattle.edi_statuses.specs.Broken.{AtRecord, HasNotBegun, ChangesDrive, Shows
 use Rattle.edi_statuses.specs.Facts.{FirstFile, no_file, file_named, file_of_choices, facts_of}
 use Rattle.edi_statuses.specs.Means.{AsksDrive, FetchFails, IsThere}
 use Rattle.edi_statuses.specs.Decided.{with_shown}
-
--- what is told later was told before
-abbrev pub StillTold : {A : Type 0} → (x y : Option A) → Type 0
-StillTold x None = ⊤
-StillTold None (Some y) = ⊥
-StillTold (Some x) (Some y) = ⊤
-
--- ---- the devices
-
-where_map : {A : Type 0} (P : A → A → Type 0) (before : Option A) (e e' : A) → ((d : A) → P d e → P d e') → WhereTold before (Some e) P
-    → WhereTold before (Some e') P
-where_map P None e e' f told = told
-where_map P (Some d) e e' f told = f d told
-
--- what is said of four devices and does not speak of the terminal's bytes
-abbrev pub Silent : (Devices → Devices → Type 0) → Type 0
-Silent P = (d e : Devices) (bytes : List ℕ) → P d e → P d (devices_with e.blocks e.input bytes e.printed)
-
-devices_later : (P : Devices → Devices → Type 0) → Silent P → (b : Outside) (files : Option Contents) (blocks : Option (List (List ℕ)))
-    (input x y printed : Option (List ℕ)) → StillTold x y →
-    let m : Outside = record { files = files; blocks = blocks; input = input; shown = x; printed = printed } in
-    WhereTold (devices_of (seen b m)) (devices_of m) P → WhereTold (devices_of (seen b (with_shown y m))) (devices_of (with_shown y m)) P
-devices_later P silent b files None input x y printed still told = tt
-devices_later P silent b files (Some blocks) None x y printed still told = tt
-devices_later P silent b files (Some blocks) (Some input) x None printed still told = tt
-devices_later P silent b files (Some blocks) (Some input) None (Some y) printed still told = absurd still
-devices_later P silent b files (Some blocks) (Some input) (Some x) (Some y) None still told = tt
-devices_later P silent b files (Some blocks) (Some input) (Some x) (Some y) (Some printed) still told =
-    where_map P (devices_of b) (devices_with blocks input x printed) (devices_with blocks input y printed)
-    (λ d p. silent d (devices_with blocks input x printed) y p) told
-
-step_later : {A B : Type 0} (step step' : AfterStep A → Type 0) (more more' : A → AfterStep B → Type 0) → ((r : AfterStep A) → step r → step' r)
-    → ((v : A) (r : AfterStep B) → more v r → more' v r) → (r : AfterStep B) → (step >>= more) r → (step' >>= more') r
-step_later step step' more more' f g (goes v) (inl h) = absurd h
-step_later step step' more more' f g (stops s) (inl h) = inl (f (stops s) h)
-step_later step step' more more' f g r (inr h) = inr (h.0, f (goes h.0) h.1, g h.0 r h.2)
-
--- the steps of a command that runs the program of a file: what is run is made of the bytes, the choices and what the bytes give
-abbrev ProgramSteps : {A B : Type 0} → Outside → (List ℕ → AfterStep B → Type 0) → (List ℕ → Choices → B → A) → (file : List ℕ) → ChoicesFrom
-    → AfterStep A → Type 0
-ProgramSteps o step a file from =
-    Fetches o file >>= λ bytes. ReadsChoices o from >>= λ choices. step bytes >>= λ x. Mounts o >>= λ done. Ready (a bytes choices x)
+use Rattle.edi_statuses.proofs.SilentDevices.{devices_later, step_later, ProgramSteps}
+pub use Rattle.edi_statuses.proofs.SilentDevices.{StillTold, Silent}
 
 -- ---- one call, and the terminal behind it
 

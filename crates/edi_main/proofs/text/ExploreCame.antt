@@ -96,15 +96,15 @@ module _ (file : List ℕ) (o : ExploreOptions) (old mid : Option Contents) (sam
 
     -- the lines were shown, or a first part of them
     pub came_ended : (input : List ℕ) → input ≡ bytes.items → (e : Explored) → IsExplored gives.0 input o.states o.turns o.shown o.record_file e → (new : Option Contents)
-        (takes : Option (List ℕ)) (ended : Ended) → EndsExploring o.record_file (findings_of e.report) e.lines.items ended taken takes mid new
+        (takes : Option (List ℕ)) (ended : Ended) → EndsExploring o.record_file (findings_of e.exploration) e.lines.items ended taken takes mid new
         → CameHere file o ended.status ended.due old new left rest taken takes kernel
     came_ended input input_is e found new takes ended ends = λ blocks printed. record {
       shown = ends.front;
       means =
-          ended_means file o old new left rest taken takes blocks printed kernel mid (ever_told o.record_file (findings_of e.report) ended.status ends.front e.lines.items mid new ends.ends) gives.0 gives.2.0 gives.1
-          gives.2.1.front.unit_is bytes.items p.asks gives.2.1.asks_is fed (findings_of e.report)
-          (subst (λ i. IsExplorationOf gives.0 i o.states o.turns o.shown (findings_of e.report)) input_is found.is) same ended.status ends.front
-          (subst (λ l. EndsAs o.record_file (findings_of e.report) ended.status ends.front l mid new) found.lines_are ends.ends);
+          ended_means file o old new left rest taken takes blocks printed kernel mid (ever_told o.record_file (findings_of e.exploration) ended.status ends.front e.lines.items mid new ends.ends) gives.0 gives.2.0 gives.1
+          gives.2.1.front.unit_is bytes.items p.asks gives.2.1.asks_is fed (findings_of e.exploration)
+          (subst (λ i. IsExplorationOf gives.0 i o.states o.turns o.shown (findings_of e.exploration)) input_is found.is) same ended.status ends.front
+          (subst (λ l. EndsAs o.record_file (findings_of e.exploration) ended.status ends.front l mid new) found.lines_are ends.ends);
       shows = ends.shows;
       due_is = ends.due_is ∙ sym (due_then [] ends.front);
       each = each_fed file o old new left rest taken takes kernel (input_shrinks p.asks (Ok bytes) left rest fed) blocks printed;

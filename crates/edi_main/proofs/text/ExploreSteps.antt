@@ -1,21 +1,29 @@
 -- The steps of `explore`: from the first bytes of a file to its program, and from the bytes of the input to what was taken.
-use Rattle.std.proofs.Common.{◌≡◌, ◌<◌, ◌≤◌, ◌∙◌, inl, inr, ℕ, Bool, true, List, length, take, drop, Option, Result, Ok, Err}
+use Rattle.std.proofs.Common.{◌≡◌, ◌<◌, ◌≤◌, ◌^◌, ◌∙◌, inl, inr, ℕ, Bool, true, List, length, take, drop, Option, Result, Ok, Err}
 use Rattle.std.proofs.Common.{refl, sym, ap, subst, arith}
 use Rattle.std.proofs.lemmas.List.{length-append}
 use Rattle.std.proofs.Math.Seq.{drop-append_seam}
 use Rattle.std.specs.Global.{Vec}
 use Rattle.edi_told.specs.Told.{WhereTold}
 use Rattle.edi_lex.specs.Limit.{most_fetched}
+use Rattle.edi_lex.proofs.Limited.{first_bytes_decide}
+use Rattle.edi_unit.specs.declared.units.Unit.{Unit}
 use Rattle.edi_unit.specs.Tree.{ProgramUnit}
+use Rattle.edi_unit.specs.View.{blocks_of, unit_of}
 use Rattle.edi_scheme.specs.Code.{code_of}
+use Rattle.edi_scheme.specs.Laws.{parts_of}
 use Rattle.edi_compile.specs.Compiled.{IsFrontOf, IsShort}
+use Rattle.edi_texts.specs.Answers.{TextAnswers}
 use Rattle.edi_texts.specs.Fetched.{Tells}
 use Rattle.edi_texts.specs.Texts.{IsRefused}
 use Rattle.edi_texts.proofs.Same.{fetched_bytes_decide}
 use Rattle.edi_runs.specs.declared.explore.input.InputFault.{InputFault}
 use Rattle.edi_runs.specs.declared.explore.input.InputFault.TheVariants as fault
-use Rattle.edi_runs.specs.explore.Input.{most_input}
+use Rattle.edi_runs.specs.declared.explore.openness.Openness.{Openness}
+use Rattle.edi_runs.specs.explore.Input.{most_input, names_accept}
+use Rattle.edi_runs.specs.explore.Openness.{IsOpenness}
 use Rattle.edi_runs.specs.explore.Told.{HasFailedBehind, HasTakenSome, Reads}
+use Rattle.edi_runs.proofs.explore.Opened.{openness_of_symbols}
 use Rattle.edi_statuses.specs.declared.status.Status.{Status}
 use Rattle.edi_statuses.specs.declared.status.Status.TheVariants as status
 use Rattle.edi_statuses.specs.Explored.{FailsIn, LosesSome}
@@ -27,6 +35,14 @@ use Rattle.edi_main.specs.text.ExploreCommand.{GivesProgram, ReadsProgram, Takes
 
 -- ---- the program
 
+-- the code of the unit that a text is read as, and what is told of that unit
+pub explorable : (text : List ℕ) (unit : Unit) (p : Explorable) → TextAnswers (λ (unit : Unit). IsFrontOf text (unit_of unit)) text (Ok unit)
+    → length (blocks_of unit.blocks) ≤ 4194304 → p.code ≡ parts_of (unit_of unit) → p.asks ≡ names_accept (unit_of unit)
+    → (IsFrontOf text (unit_of unit) → length (blocks_of unit.blocks) < 2 ^ 32 → IsOpenness text (unit_of unit) p.openly) → ReadsProgram text (Ok p)
+explorable text unit p answers few code asks openly =
+    let front : IsFrontOf text (unit_of unit) = answers.gives in
+    (unit_of unit, record { front = front; code_is = code; asks_is = asks; open_is = openly front (omega (arith, few)) })
+
 -- the first bytes of a text have its unit
 whole_front : (text : List ℕ) (unit : ProgramUnit) → IsFrontOf (take most_fetched text) unit → IsFrontOf text unit
 whole_front text unit f =
@@ -37,12 +53,27 @@ whole_front text unit f =
       short = subst (λ n. IsShort n (length (code_of unit))) (fetched_bytes_decide.count text) f.short;
     }
 
+-- and what is used there outside critical phases
+whole_openness : (text : List ℕ) (unit : ProgramUnit) (openly : Openness) → IsOpenness (take most_fetched text) unit openly → IsOpenness text unit openly
+whole_openness text unit openly o = openness_of_symbols (take most_fetched text) text unit openly (first_bytes_decide text).0 o
+
 -- the first bytes of a file decide
 pub file_program : (o : Outside) (name bytes text : List ℕ) (r : Result Explorable Status) → Fetches o name (goes text)
     → bytes ≡ take most_fetched text → ReadsProgram bytes r → GivesProgram o name r
 file_program o name bytes text (Ok p) fetched first reads =
-    let so = subst (λ t. ReadsProgram t (Ok p)) first reads in
-    (text, fetched, (so.0, record { front = whole_front text so.0 so.1.front; code_is = so.1.code_is; asks_is = so.1.asks_is }))
+    let so = subst (λ t. ReadsProgram t (Ok p)) first reads in (
+      text,
+      fetched,
+      (
+        so.0,
+        record {
+          front = whole_front text so.0 so.1.front;
+          code_is = so.1.code_is;
+          asks_is = so.1.asks_is;
+          open_is = whole_openness text so.0 p.openly so.1.open_is;
+        },
+      ),
+    )
 file_program o name bytes text (Err s) fetched first (inl none) = inl none
 file_program o name bytes text (Err s) fetched first (inr refused) =
     let tells : Tells (take most_fetched text) text = fetched_bytes_decide.there text in

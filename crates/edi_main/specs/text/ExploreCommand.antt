@@ -16,6 +16,7 @@ use Rattle.edi_runs.specs.explore.Explorations.{Findings, IsExplorationOf}
 use Rattle.edi_runs.specs.explore.Input.{names_accept}
 use Rattle.edi_runs.specs.explore.Keeping.{KeepsInTurn, is_kept}
 use Rattle.edi_runs.specs.explore.Lines.{report_text, summary_of}
+use Rattle.edi_runs.specs.explore.Openness.{IsOpenness}
 use Rattle.edi_runs.specs.explore.Records.{records_of}
 use Rattle.edi_runs.specs.explore.Told.{findings_of}
 use Rattle.edi_statuses.specs.declared.ended.Ended.{Ended}
@@ -32,11 +33,12 @@ use Rattle.edi_main.specs.declared.text.explore.reports.Explored.{Explored}
 
 -- ---- the program
 
--- the code of a text's unit, and whether its program names `accept`
+-- the code of a text's unit, whether its program names `accept`, and what its branches use outside critical phases
 pub record IsExplorable (text : List ℕ) (unit : ProgramUnit) (p : Explorable) : Type 0 where
   pub front : IsFrontOf text unit
   pub code_is : p.code ≡ parts_of unit
   pub asks_is : p.asks ≡ names_accept unit
+  pub open_is : IsOpenness text unit p.openly
 
 -- so of a text, or the text is refused; memory may run out at any text
 abbrev pub ReadsProgram : (text : List ℕ) → Result Explorable Status → Type 0
@@ -73,8 +75,8 @@ TakesInput asks (Err s) old new = ⊥
 
 -- It is found of the text with this input, and the lines tell it. Output is looked at or not, and choices are kept under this name or not.
 pub record IsExplored (text input : List ℕ) (states turns : ℕ) (shown : Option ℕ) (name : Option (List ℕ)) (e : Explored) : Type 0 where
-  pub is : IsExplorationOf text input states turns shown (findings_of e.report)
-  pub lines_are : e.lines.items ≡ report_text (is_some shown) name (findings_of e.report)
+  pub is : IsExplorationOf text input states turns shown (findings_of e.exploration)
+  pub lines_are : e.lines.items ≡ report_text (is_some shown) name (findings_of e.exploration)
 
 -- ---- the end
 

@@ -4,7 +4,7 @@ use crate::explorations::explored::{SILENCE, WIDE, code_of, explored};
 use crate::explorations::texts::{BOTH, LOST};
 use edi_explore::{Limits, Report, Verdict, explore};
 use edi_kernel::Kernel;
-use edi_runs::explore::{Summary, report_text, sum_up};
+use edi_runs::explore::{Exploration, Orders, Summary, report_text, sum_up};
 use std::alloc::Global;
 use std::process::Abort;
 
@@ -16,6 +16,14 @@ fn told(rt: &impl Abort, alloc: Global, text: &str, most: u32) -> Report {
         shown: Some(most),
     };
     explored(rt, alloc, text, "", limits)
+}
+
+// Of a search by output nothing is said of other orders of steps.
+fn unsaid(report: Report) -> Exploration {
+    Exploration {
+        report,
+        orders: Orders::Unsaid,
+    }
 }
 
 // Each branch of BOTH is fresh, has arrived or has ended; where both have ended either letter may be the first one; and before the entry.
@@ -31,16 +39,18 @@ fn other_output_is_another_ending(rt: HostRuntime) {
     assert!(rt; report.found[1].shown.as_slice() == "ba".as_bytes());
 }
 
-// The turns were counted by hand: one each for the entry, the fork, two arrivals, two ends of branches, and the end of the program.
+// The turns were counted by hand: one each for the entry, the fork, two arrivals, two ends of branches, and the end of the program. So were the
+// moves: the fork, two arrivals, and two ends of branches.
 #[test]
 fn outputs_are_shown(rt: HostRuntime) {
     let alloc = rt.alloc();
     let report = told(&rt, alloc, BOTH, 2);
-    let lines = report_text(alloc, &report, true, None).expect(&rt, "memory");
+    let found = unsaid(report);
+    let lines = report_text(alloc, &found, true, None).expect(&rt, "memory");
     let wanted =
-        "done after 7 turns: no choices\n  shown \"ab\"\ndone after 7 turns: choices 0 0 1\n  shown \"ba\"\nno execution ends otherwise; 11 states\n";
+        "done after 7 turns: no choices\n  shown \"ab\"\ndone after 7 turns: choices 0 0 1\n  shown \"ba\"\nno execution ends otherwise; 11 states\nno execution makes more than 5 moves\n";
     assert!(rt; lines.as_slice() == wanted.as_bytes());
-    assert!(rt; sum_up(&report) == Summary::Fine);
+    assert!(rt; sum_up(&found) == Summary::Fine);
 }
 
 // The fork and two moves of each branch come before the end.
@@ -50,7 +60,7 @@ fn no_more_endings_are_told_than_may_be(rt: HostRuntime) {
     let report = told(&rt, alloc, BOTH, 1);
     assert!(rt; report.verdict == Verdict::Many(5));
     assert_eq!(rt; report.found.len(), 1);
-    assert!(rt; sum_up(&report) == Summary::NotAll);
+    assert!(rt; sum_up(&unsaid(report)) == Summary::NotAll);
 }
 
 // LOST has 20 states, of which the first one is before the entry: the others are expanded.

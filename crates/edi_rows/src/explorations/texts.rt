@@ -135,3 +135,19 @@ end";
 pub(crate) const BOTH: &str = "proc main(proc display(value: char))
 begin cobegin 1 do when true do display('a') end also 2 do when true do display('b') end end end
 ";
+
+/// One branch uses a variable and shows a letter outside critical phases.
+pub(crate) const OPEN: &str = "proc main(proc display(value: char))
+var x: int
+begin
+  cobegin 1 do x := 1; display('a')
+  also 2 do skip end
+end";
+
+/// One branch uses eleven variables outside critical phases.
+pub(crate) const MANY: &str = "proc main
+var a, b, c, d, e, f, g, h, i, j, k: int
+begin
+  cobegin 1 do a := 1; b := 1; c := 1; d := 1; e := 1; f := 1; g := 1; h := 1; i := 1; j := 1; k := 1
+  also 2 do skip end
+end";

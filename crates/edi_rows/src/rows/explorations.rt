@@ -13,7 +13,7 @@ input 0 left
 | also 2 do when true do x := 2 end end end
 file either
 call 19 explore either --record r
-shows standstill after 6 turns: choices 0 0 1 in r.1/  1.1 waits at line 4/done after 7 turns: no choices in r.2/no execution ends otherwise; 10 states/found 1/
+shows standstill after 6 turns: choices 0 0 1 in r.1/  1.1 waits at line 4/done after 7 turns: no choices in r.2/no execution ends otherwise; 10 states/no execution makes more than 5 moves/no order of steps ends otherwise, but perhaps by process limit/found 1/
 unchanged
 leaves left
 holds r.1 0/0/1/
@@ -33,9 +33,9 @@ holds r.1 0/0/1/
 | begin accept(c); if c = 'l' do halt end end
 file asks
 call 19 explore asks
-shows line 3 halt after 1 turn: no choices/no execution ends otherwise; 1 state/found 1/
+shows line 3 halt after 1 turn: no choices/no execution ends otherwise; 1 state/no execution makes more than 0 moves/found 1/
 call 0 explore asks
-shows done after 2 turns: no choices/no execution ends otherwise; 1 state/
+shows done after 2 turns: no choices/no execution ends otherwise; 1 state/no execution makes more than 0 moves/no order of steps ends otherwise, but perhaps by process limit/
 ";
 
 /// Objects fail.
@@ -55,7 +55,7 @@ call 9 explore asks --record r
 shows done after 2 turns: no choices in r
 none r.1
 
-terminal 0 200
+terminal 0 400
 files 3
 | proc main
 | var x: int
@@ -64,7 +64,7 @@ files 3
 | also 2 do when true do x := 2 end end end
 file either
 call 6 explore either --record r
-shows standstill after 6 turns: choices 0 0 1 in r.1/  1.1 waits at line 4/done after 7 turns: no choices in r.2/no execution ends otherwise; 10 states/file fault/
+shows standstill after 6 turns: choices 0 0 1 in r.1/  1.1 waits at line 4/done after 7 turns: no choices in r.2/no execution ends otherwise; 10 states/no execution makes more than 5 moves/no order of steps ends otherwise, but perhaps by process limit/file fault/
 holds r.1 0/0/1/
 none r.2
 ";

@@ -1,18 +1,21 @@
 -- What a search reports of the code of a text, in the words of the text.
-use Rattle.std.proofs.Common.{◌≡◌, ℕ, zero, suc, ◌+◌, ◌<◌, ◌≤◌, Bool, true, false, List, [], ◌∷◌, length, map, Contains, Option, Some, is_some, refl, sym, ap, subst, ◌∙◌, arith}
-use Rattle.std.specs.Prelude.{slice_get}
+use Rattle.std.proofs.Common.{◌≡◌, ℕ, zero, suc, ◌+◌, ◌<◌, ◌≤◌, Bool, true, false, List, [], ◌∷◌, length, map, Contains, Option, Some, None, is_some, refl, sym, ap, subst, ◌∙◌, arith}
+use Rattle.std.specs.Prelude.{IfSome, slice_get}
 use Rattle.std.proofs.lemmas.List.{length-map}
 use Rattle.edi_calls.specs.Outcome as outcome
 use Rattle.edi_kernel.specs.declared.ends.Ending.{Ending}
 use Rattle.edi_kernel.specs.declared.ends.Ending.TheVariants as ending
 use Rattle.edi_unit.specs.Tree.{ProgramUnit}
+use Rattle.edi_disjoint.specs.steps.Inner.{InnerStepsKeep}
 use Rattle.edi_target.specs.Check.{CodeParts}
 use Rattle.edi_scheme.specs.Laws.{parts_of}
 use Rattle.edi_timeline.specs.Told.{meant}
 use Rattle.edi_texts.specs.Texts.{IsUnit}
 use Rattle.edi_explored.specs.Reached.{AreAll, AreAllBelow, AreAllShown, AreAllShownBelow}
+use Rattle.edi_explored.specs.Within.{MakeFewer}
 use Rattle.edi_explored.specs.machine.Alike.{SameShown}
 use Rattle.edi_explored.specs.machine.Kernels.{IsUnitCode, ending_of}
+use Rattle.edi_orders.specs.Orders.{AreAllBySteps, AreCalm}
 use Rattle.edi_explore.specs.declared.ends.Found.{Found}
 use Rattle.edi_explore.specs.declared.ends.Verdict.{Verdict}
 use Rattle.edi_explore.specs.declared.ends.Verdict.TheVariants as verdict
@@ -28,10 +31,14 @@ use Rattle.edi_explore.proofs.Findings.{contains_at}
 use Rattle.edi_explore.proofs.Keying.{some_is}
 use Rattle.edi_waits.specs.Told.{all_of}
 use Rattle.edi_waits.specs.Waits.{Waiting}
+use Rattle.edi_runs.specs.declared.explore.openness.Openness.{Openness}
 use Rattle.edi_runs.specs.explore.Explorations.{AreDistinct, AreTold, IsCutAt, IsCutOnlyBy, IsExplorationOf, IsFewest, IsFound, IsFullOnlyAt, IsManyOnlyAt, IsReachedBy, IsShortest}
 use Rattle.edi_runs.specs.explore.Explorations.{Reached, ShowSame}
 use Rattle.edi_runs.specs.explore.Explorations.{Says, SaysShown, endings_in, shown_endings_in}
-use Rattle.edi_runs.specs.explore.Told.{reached_of}
+use Rattle.edi_runs.specs.explore.Openness.{IsOpenness, open_of}
+use Rattle.edi_runs.specs.explore.Orders.{speaks}
+use Rattle.edi_runs.specs.explore.Told.{orders_by, reached_of}
+use Rattle.edi_runs.proofs.explore.Ordered.{says_longest, tells}
 
 -- ---- endings
 
@@ -256,9 +263,18 @@ module _ (text : List ℕ) (unit : ProgramUnit) (is : IsUnit text unit) (input :
       (v ≡ verdict.All → AreAll unit (offline input) (endings_of fs)) →
       ((moves : ℕ) → IsUpTo v moves → AreAllBelow moves unit (offline input) (endings_of fs)) → SearchShows shown v fs →
       ((f : Found) → Contains fs f → IsWithin v f.moves → search_fewest.IsFewest (is_some shown) unit input f) → AreWithin v fs →
-      ((moves : ℕ) → v ≡ verdict.Full moves → most < states) → states ≤ suc most → HasCause turns unit input v cut →
-      IsExplorationOf text input most turns shown (record { endings = map reached_of fs; verdict = v; states = states; cut = cut })
-  exploration most turns shown v states fs cut recorded good waits once all below shows few within full bounded why =
+      ((moves : ℕ) → v ≡ verdict.Full moves → most < states) → states ≤ suc most → HasCause turns unit input v cut → (longest : Option ℕ) →
+      IfSome longest (λ n. MakeFewer (suc n) unit (offline input)) → (openly : Openness) → IsOpenness text unit openly →
+      (shown ≡ None → v ≡ verdict.All → AreCalm (endings_of fs) → InnerStepsKeep unit (offline input) → AreAllBySteps unit (offline input) (endings_of fs)) →
+      IsExplorationOf text input most turns shown (record {
+        endings = map reached_of fs;
+        verdict = v;
+        states = states;
+        cut = cut;
+        longest = longest;
+        orders = orders_by (speaks v shown (endings_in (map reached_of fs))) openly.none (open_of openly.names);
+      })
+  exploration most turns shown v states fs cut recorded good waits once all below shows few within full bounded why longest fewer openly known by_steps =
       let told : AreEndings fs = λ f c. let r = recorded f c in (r.end, r.is) in
       record {
         reached = each_reached (IsReachedBy text input) fs (λ f c. reached f (recorded f c) (λ at e. good f at c e) (waits f c));
@@ -271,6 +287,10 @@ module _ (text : List ℕ) (unit : ProgramUnit) (is : IsUnit text unit) (input :
         many = only_many v shows.many;
         few = λ n e. omega (arith, shows.few n e, length-map fs reached_of);
         cut = cause turns v cut why;
+        longest = says_longest text input unit is longest fewer;
+        orders = tells text input unit is (endings_in (map reached_of fs)) openly known v shown
+            (λ e all calm keep. subst (AreAllBySteps unit (offline input)) (same_endings fs told)
+            (by_steps e all (subst AreCalm (sym (same_endings fs told)) calm) keep));
       }
     where
       only : (v : Verdict) → ((moves : ℕ) → v ≡ verdict.Full moves → most < states) → IsFullOnlyAt most v states

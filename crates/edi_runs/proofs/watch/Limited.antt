@@ -1,13 +1,13 @@
 -- The first bytes of a file of points decide how it is read.
-use Rattle.std.proofs.Common.{◌≡◌, ℕ, zero, suc, ◌+◌, ◌-◌, ◌*◌, ◌<◌, ◌≤◌, Bool, true, false, ◌&&◌, if◌then◌else◌, nat_le, cond, List, [], ◌∷◌, ◌++◌, length}
-use Rattle.std.proofs.Common.{take, drop, refl, sym, subst, ap, ◌∙◌, arith, leb-true, leb-false, append_assoc, length-append, Option, Some, None}
+use Rattle.std.proofs.Common.{◌≡◌, ℕ, suc, ◌+◌, ◌*◌, ◌<◌, ◌≤◌, Bool, true, false, ◌&&◌, if◌then◌else◌, nat_le, cond, List, [], ◌∷◌, ◌++◌, length}
+use Rattle.std.proofs.Common.{take, drop, refl, sym, subst, ap, ◌∙◌, arith, leb-true, leb-false, length-append, Option, Some, None}
 use Rattle.std.specs.List.{slice_split, onto_first, list_all}
 use Rattle.std.proofs.lemmas.Bool.{and_parts}
 use Rattle.std.proofs.lemmas.List.{length-take-le, take_all, take-append-drop}
 use Rattle.edi_trace.specs.Lines.{is_digit, number_of}
 use Rattle.edi_tree.specs.Tree.{Program}
 use Rattle.edi_debug.specs.stops.Stops.{Watched}
-use Rattle.edi_debug.specs.Points.{Reading, read, bad_line, is_blank, is_line_feed, is_name, is_number, point_of, seen_at, spelled, spelled_by, with_point}
+use Rattle.edi_debug.specs.Points.{Reading, bad_line, is_blank, is_line_feed, is_name, is_number, point_of, seen_at, spelled, spelled_by, with_point}
 use Rattle.edi_debug.specs.Points.{read_parts, read_of}
 use Rattle.edi_debug.proofs.Names.{name_is_short}
 use Rattle.edi_runs.specs.watch.Limit.{most_fetched, FirstBytesDecide}

@@ -1,5 +1,5 @@
 -- From what is known of the symbols of a text to the text.
-use Rattle.std.proofs.Common.{◌≡◌, ℕ, List, Result, Ok, Err, sym, subst}
+use Rattle.std.proofs.Common.{◌≡◌, ℕ, List, Result, Ok, sym, subst}
 use Rattle.edi_lex.specs.declared.symbol.Mark.{Mark}
 use Rattle.edi_lex.specs.declared.fault.LexFault.{LexFault}
 use Rattle.edi_lex.specs.Symbols.{symbols_of}

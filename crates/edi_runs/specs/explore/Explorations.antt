@@ -18,6 +18,7 @@ use Rattle.edi_explore.specs.declared.ends.Verdict.{Verdict}
 use Rattle.edi_explore.specs.declared.ends.Verdict.TheVariants as verdict
 use Rattle.edi_explore.specs.Offline.{offline}
 pub use Rattle.edi_explore.specs.Choices.{AreChoices, most_choices, most_turns, turn_limit}
+use Rattle.edi_runs.specs.explore.Orders.{OrdersOfSteps, SaysLongest, TellsOrders, speaks}
 
 -- ---- what is found
 
@@ -31,13 +32,15 @@ pub record Reached : Type 0 where
   pub shown : List ℕ
   pub waits : List Waiting
 
--- the endings in the order in which they were found, whether these are all, how many states were met, and choices that say why a stint was cut, if
--- the verdict is that one was
+-- the endings in the order in which they were found, whether these are all, how many states were met, choices that say why a stint was cut, if the
+-- verdict is that one was, how many moves an execution makes at most, if that was found, and what is said of every order of steps
 pub record Findings : Type 0 where
   pub endings : List Reached
   pub verdict : Verdict
   pub states : ℕ
   pub cut : List ℕ
+  pub longest : Option ℕ
+  pub orders : OrdersOfSteps
 
 abbrev pub endings_in : List Reached → List Ending
 endings_in [] = []
@@ -201,3 +204,5 @@ pub record IsExplorationOf (text input : List ℕ) (most_states most_stint : ℕ
   pub many : IsManyOnlyAt shown findings.verdict (length findings.endings)
   pub few : (most : ℕ) → shown ≡ Some most → length findings.endings ≤ most
   pub cut : IsCutOnlyBy most_stint findings.verdict text input findings.cut
+  pub longest : SaysLongest findings.longest text input
+  pub orders : TellsOrders (speaks findings.verdict shown (endings_in findings.endings)) findings.orders text input (endings_in findings.endings)

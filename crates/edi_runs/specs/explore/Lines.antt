@@ -1,6 +1,7 @@
--- Definition. WHAT `explore` SHOWS: a line for each ending that was found, with what the program shows by then where that is asked for; and a line
--- that says whether these are all. And the status by which they are told.
-use Rattle.std.specs.Prelude.{ℕ, zero, suc, ◌+◌, ◌==◌, nat_lt, nat_le, Bool, true, false, if◌then◌else◌, List, [], ◌∷◌, ◌++◌, length, take, Option, Some, None, codes}
+-- Definition. WHAT `explore` SHOWS: a line for each ending that was found, with what the program shows by then where that is asked for; a line that
+-- says whether these are all; and lines that say how far executions go, and whether another order of steps may end otherwise. And the status by
+-- which they are told.
+use Rattle.std.specs.Prelude.{ℕ, zero, suc, ◌+◌, ◌-◌, ◌==◌, nat_lt, nat_le, Bool, true, false, if◌then◌else◌, List, [], ◌∷◌, ◌++◌, length, take, Option, Some, None, codes}
 use Rattle.std.specs.Fmt.{decimal}
 use Rattle.edi_calls.specs.Outcome as outcome
 use Rattle.edi_calls.specs.Outcome.{Ending}
@@ -11,6 +12,7 @@ use Rattle.edi_explore.specs.declared.ends.Verdict.TheVariants as verdict
 use Rattle.edi_runs.specs.declared.explore.summary.Summary.{Summary}
 use Rattle.edi_runs.specs.declared.explore.summary.Summary.TheVariants as summary
 use Rattle.edi_runs.specs.explore.Explorations.{Findings, Reached}
+use Rattle.edi_runs.specs.explore.Orders.{OpenName, OrdersOfSteps, settled, unsaid, used}
 use Rattle.edi_runs.specs.explore.Records.{most_records, record_name}
 
 -- ---- words
@@ -125,14 +127,62 @@ verdict_text (verdict.Cut moves) found cut =
 verdict_text (verdict.Unrecorded moves) found cut = codes "perhaps not all: an ending has no record" ++ below_text moves
 verdict_text (verdict.NoMemory moves) found cut = codes "perhaps not all: memory ran out" ++ below_text moves
 
--- the last line
+-- the line on other endings
 abbrev pub verdict_line : Findings → List ℕ
 verdict_line f = verdict_text f.verdict (length f.endings) f.cut ++ (codes "; " ++ (states_text f.states ++ codes "\n"))
 
+-- how far executions go, where that was found; attempts that fail and mark their process are no moves
+abbrev pub longest_text : Option ℕ → List ℕ
+longest_text None = []
+longest_text (Some most) = codes "no execution makes more than " ++ (moves_text most ++ codes "\n")
+
+-- where all executions were followed
+abbrev pub longest_line : Verdict → Option ℕ → List ℕ
+longest_line verdict.All longest = longest_text longest
+longest_line _ longest = []
+
+-- so many variables are named at most
+abbrev pub most_named : ℕ
+most_named = 10
+
+abbrev pub name_line : OpenName → List ℕ
+name_line one = one.name ++ (codes " of " ++ (one.block ++ codes " may be used outside critical phases\n"))
+
+abbrev pub name_lines : List OpenName → List ℕ
+name_lines [] = []
+name_lines (one ∷ names) = name_line one ++ name_lines names
+
+abbrev pub more_text : ℕ → List ℕ
+more_text n = codes "and " ++ (decimal n ++ codes " more\n")
+
+-- of more than 10 the first 10, and how many more there are
+abbrev pub names_text : List OpenName → List ℕ
+names_text names =
+    if nat_lt most_named (length names)
+    then name_lines (take most_named names) ++ more_text (length names - most_named)
+    else name_lines names
+
+abbrev pub used_text : List OpenName → List ℕ
+used_text names = names_text names ++ codes "another order of steps may end otherwise\n"
+
+-- no order ends otherwise than in one of so many ways
+abbrev pub settled_text : (found : ℕ) → List ℕ
+settled_text zero = codes "no order of steps ends, but perhaps by process limit\n"
+settled_text (suc n) = codes "no order of steps ends otherwise, but perhaps by process limit\n"
+
+abbrev pub orders_text : (found : ℕ) → OrdersOfSteps → List ℕ
+orders_text found settled = settled_text found
+orders_text found (used names) = used_text names
+orders_text found unsaid = []
+
+-- whether there are other endings, how far executions go, and what is said of every order of steps
+abbrev pub last_lines : Findings → List ℕ
+last_lines f = verdict_line f ++ (longest_line f.verdict f.longest ++ orders_text (length f.endings) f.orders)
+
 -- THE LINES, where output is asked for or not, and choices are kept under this name or not
 abbrev pub report_text : (asks : Bool) → Option (List ℕ) → Findings → List ℕ
-report_text asks None f = ending_lines asks [] 0 1 f.endings ++ verdict_line f
-report_text asks (Some name) f = ending_lines asks name most_records 1 f.endings ++ verdict_line f
+report_text asks None f = ending_lines asks [] 0 1 f.endings ++ last_lines f
+report_text asks (Some name) f = ending_lines asks name most_records 1 f.endings ++ last_lines f
 
 -- ---- the status
 

@@ -1,5 +1,5 @@
 -- Computed rows. Lines that are shown of explorations, and the statuses by which they are told.
-use Rattle.std.specs.Prelude.{◌≡◌, ℕ, true, false, List, [], ◌∷◌, ◌++◌, None, codes, replicate, refl}
+use Rattle.std.specs.Prelude.{◌≡◌, ℕ, true, false, List, [], ◌∷◌, ◌++◌, Some, None, codes, replicate, refl}
 use Rattle.std.specs.Fmt.{digits}
 use Rattle.edi_calls.specs.Outcome as outcome
 use Rattle.edi_calls.specs.Outcome.{Ending}
@@ -8,13 +8,14 @@ use Rattle.edi_explore.specs.declared.ends.Verdict.{Verdict}
 use Rattle.edi_explore.specs.declared.ends.Verdict.TheVariants as verdict
 use Rattle.edi_runs.specs.declared.explore.summary.Summary.TheVariants as summary
 use Rattle.edi_runs.specs.explore.Explorations.{Findings, Reached}
-use Rattle.edi_runs.specs.explore.Lines.{choices_text, ending_line, numbers_text, output_line, report_text, summary_of, verdict_line}
+use Rattle.edi_runs.specs.explore.Lines.{choices_text, ending_line, last_lines, name_lines, names_text, numbers_text, output_line, report_text, summary_of, verdict_line}
+use Rattle.edi_runs.specs.explore.Orders.{OpenName, settled, unsaid, used}
 
 abbrev pub reached : Ending → (choices : List ℕ) → (turns : ℕ) → Reached
 reached ending choices turns = record { ending = ending; choices = choices; turns = turns; moves = 0; shown = []; waits = [] }
 
 abbrev pub found : List Reached → Verdict → (states : ℕ) → Findings
-found endings v states = record { endings = endings; verdict = v; states = states; cut = [] }
+found endings v states = record { endings = endings; verdict = v; states = states; cut = []; longest = None; orders = unsaid }
 
 -- ---- endings
 
@@ -128,6 +129,50 @@ row_unrecorded = refl
 pub row_no_memory : verdict_line (found [] (verdict.NoMemory 0) 1) ≡ codes "perhaps not all: memory ran out; 1 state\n"
 unfolding digits
 row_no_memory = refl
+
+-- ---- how far executions go, and every order of steps
+
+pub row_longest : last_lines (record (found (reached outcome.done [] 13 ∷ []) verdict.All 20) { longest = Some 7; orders = settled })
+    ≡ codes "no execution ends otherwise; 20 states\nno execution makes more than 7 moves\nno order of steps ends otherwise, but perhaps by process limit\n"
+unfolding digits
+row_longest = refl
+
+pub row_one_move : last_lines (record (found (reached outcome.done [] 3 ∷ []) verdict.All 2) { longest = Some 1 })
+    ≡ codes "no execution ends otherwise; 2 states\nno execution makes more than 1 move\n"
+unfolding digits
+row_one_move = refl
+
+-- not all executions were followed: one of them may go on in one stint
+pub row_no_longest : last_lines (record (found [] (verdict.Cut 0) 1) { longest = Some 7 }) ≡ verdict_line (found [] (verdict.Cut 0) 1)
+unfolding digits
+row_no_longest = refl
+
+pub row_no_order_ends : last_lines (record (found [] verdict.All 2) { orders = settled })
+    ≡ codes "every execution goes on for ever; 2 states\nno order of steps ends, but perhaps by process limit\n"
+unfolding digits
+row_no_order_ends = refl
+
+abbrev pub open_name : OpenName
+open_name = record { name = codes "x"; block = codes "main" }
+
+pub row_used : last_lines (record (found (reached outcome.done [] 2 ∷ []) verdict.All 1) { orders = used (open_name ∷ record { name = codes "val f"; block = codes "f" } ∷ []) })
+    ≡ codes "no execution ends otherwise; 1 state\nx of main may be used outside critical phases\nval f of f may be used outside critical phases\nanother order of steps may end otherwise\n"
+unfolding digits
+row_used = refl
+
+-- the program itself is called
+pub row_used_by_none : last_lines (record (found (reached outcome.done [] 2 ∷ []) verdict.All 1) { orders = used [] })
+    ≡ codes "no execution ends otherwise; 1 state\nanother order of steps may end otherwise\n"
+unfolding digits
+row_used_by_none = refl
+
+-- ten variables are named, and of eleven the first ten
+pub row_ten : names_text (replicate 10 open_name) ≡ name_lines (replicate 10 open_name)
+row_ten = refl
+
+pub row_eleven : names_text (replicate 11 open_name) ≡ name_lines (replicate 10 open_name) ++ codes "and 1 more\n"
+unfolding digits
+row_eleven = refl
 
 -- ---- statuses
 

@@ -1,5 +1,5 @@
 -- Words of contracts. A text that can be watched, and what a watched run leaves.
-use Rattle.std.specs.Prelude.{◌≡◌, ℕ, List}
+use Rattle.std.specs.Prelude.{ℕ, List}
 use Rattle.edi_lex.specs.declared.symbol.Mark.{Mark}
 use Rattle.edi_tree.specs.Tree.{Program}
 use Rattle.edi_tree.specs.Whole.{program_of}

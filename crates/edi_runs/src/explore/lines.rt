@@ -4,11 +4,13 @@ ghost use Rattle.std.specs.Prelude.{◌≡◌, ◌++◌, OnOk, IfOk, map, option
 ghost use Rattle.edi_runs.specs.explore.Lines as spec;
 ghost use Rattle.edi_runs.specs.explore.Told.{findings_of, reached_of};
 
+use crate::explore::naming::{put_longest, put_orders};
+use crate::explore::orders::Exploration;
 use crate::explore::output::put_output;
 use crate::explore::records::MOST_RECORDS;
 use crate::explore::waiting::put_waits;
 use crate::explore::words::{put_choices, put_moves, put_states, put_turns};
-use edi_explore::{Found, Report, Verdict};
+use edi_explore::{Found, Verdict};
 use edi_timeline::words::{put_ending, put_number};
 use std::alloc::{AllocError, Global};
 
@@ -167,10 +169,11 @@ fn put_verdict(
     }
 }
 
-// Puts the last line.
-fn put_end(out: &mut Vec<u8>, report: &Report) -> Result<(), AllocError>
-    ensures exact { OnOk result (out.new.items ≡ out.old.items ++ spec.verdict_line (findings_of report.now)) }
+// Puts the line on other endings.
+fn put_end(out: &mut Vec<u8>, exploration: &Exploration) -> Result<(), AllocError>
+    ensures exact { OnOk result (out.new.items ≡ out.old.items ++ spec.verdict_line (findings_of exploration.now)) }
 {
+    let report = &exploration.report;
     put_verdict(out, report.verdict, report.found.len(), &report.cut)?;
     out.extend_from_slice(b"; ")?;
     put_states(out, report.states as u64)?;
@@ -178,39 +181,51 @@ fn put_end(out: &mut Vec<u8>, report: &Report) -> Result<(), AllocError>
     Ok(())
 }
 
-// The lines of a report, where the choices of the first `most` endings are kept under this name.
+// Puts the lines after those of the endings.
+fn put_last(out: &mut Vec<u8>, exploration: &Exploration) -> Result<(), AllocError>
+    ensures exact { OnOk result (out.new.items ≡ out.old.items ++ spec.last_lines (findings_of exploration.now)) }
+{
+    let report = &exploration.report;
+    put_end(out, exploration)?;
+    put_longest(out, report.verdict, report.longest)?;
+    put_orders(out, report.found.len(), &exploration.orders)?;
+    Ok(())
+}
+
+// The lines of an exploration, where the choices of the first `most` endings are kept under this name.
 fn text_with(
     alloc: Global,
-    report: &Report,
+    exploration: &Exploration,
     asks: bool,
     name: &str,
     most: usize,
 ) -> Result<Vec<u8>, AllocError>
     ensures exact { IfOk result (λ text. text.items
-        ≡ spec.ending_lines asks name.now most 1 (findings_of report.now).endings ++ spec.verdict_line (findings_of report.now)) }
+        ≡ spec.ending_lines asks name.now most 1 (findings_of exploration.now).endings ++ spec.last_lines (findings_of exploration.now)) }
 {
     let mut out = Vec::new(alloc);
-    put_endings(&mut out, asks, name, most, &report.found)?;
-    put_end(&mut out, report)?;
+    put_endings(&mut out, asks, name, most, &exploration.report.found)?;
+    put_last(&mut out, exploration)?;
     Ok(out)
 }
 
-/// The lines of a report: one for each ending in the order in which they were found, as `line 12 range after 57 turns: choices 4 0`; after that of
-/// a standstill one for each process that waits; and one that says whether there are others, as `no execution ends otherwise; 45 states`. Where
-/// output is asked for, the line after that of an ending tells it, as `  shown "1\n"`. Where choices are kept under a name, the line of an ending
-/// says in which file. The only error is want of memory.
+/// The lines of an exploration: one for each ending in the order in which they were found, as `line 12 range after 57 turns: choices 4 0`; after
+/// that of a standstill one for each process that waits; one that says whether there are others, as `no execution ends otherwise; 45 states`; and
+/// those that say how many moves an execution makes at most, and whether another order of steps may end otherwise. Where output is asked for, the
+/// line after that of an ending tells it, as `  shown "1\n"`. Where choices are kept under a name, the line of an ending says in which file. The
+/// only error is want of memory.
 #[tactic(auto, unfolding(crate::specs::explore::Records::most_records))]
 pub fn report_text(
     alloc: Global,
-    report: &Report,
+    exploration: &Exploration,
     asks: bool,
     kept: Option<&str>,
 ) -> Result<Vec<u8>, AllocError>
     ensures exact { IfOk result (λ text. text.items
-        ≡ spec.report_text asks (option_map (λ name. name.now) kept.entry) (findings_of report.now)) }
+        ≡ spec.report_text asks (option_map (λ name. name.now) kept.entry) (findings_of exploration.now)) }
 {
     match kept {
-        Some(name) => text_with(alloc, report, asks, name, MOST_RECORDS),
-        None => text_with(alloc, report, asks, "", 0),
+        Some(name) => text_with(alloc, exploration, asks, name, MOST_RECORDS),
+        None => text_with(alloc, exploration, asks, "", 0),
     }
 }

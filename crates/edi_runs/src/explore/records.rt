@@ -11,7 +11,8 @@ ghost use Rattle.edi_runs.specs.explore.Keeping.{KeepsInTurn};
 ghost use Rattle.edi_runs.specs.explore.Records as spec;
 ghost use Rattle.edi_runs.specs.explore.Told.{findings_of, reached_of};
 
-use edi_explore::{Found, Report};
+use crate::explore::orders::Exploration;
+use edi_explore::Found;
 use edi_host::{Files, KeepEnd};
 use edi_trace::write_choices;
 use itoa::Buffer;
@@ -81,17 +82,23 @@ fn keep_all<F: Files>(alloc: Global, files: &mut F, name: &str, endings: &[Found
     KeepEnd::Ok
 }
 
-/// Keeps the choices of the first 1,000 endings of a report, one after another, each as the file NAME.1, NAME.2 and so on. It stops at the first
-/// that cannot be kept.
-pub fn keep_records<F: Files>(alloc: Global, files: &mut F, name: &str, report: &Report) -> KeepEnd
+/// Keeps the choices of the first 1,000 endings of an exploration, one after another, each as the file NAME.1, NAME.2 and so on. It stops at the
+/// first that cannot be kept.
+pub fn keep_records<F: Files>(
+    alloc: Global,
+    files: &mut F,
+    name: &str,
+    exploration: &Exploration,
+) -> KeepEnd
     ensures keeps { WhereTold (F.contents files.old) (F.contents files.new)
-        (KeepsInTurn result (spec.records_of (Some name.now) (findings_of report.now).endings)) }
+        (KeepsInTurn result (spec.records_of (Some name.now) (findings_of exploration.now).endings)) }
     ensures later { F.faults files.old ≤ F.faults files.new }
     ensures cause { result ≡ KeepEnd.Failed → CountRose (F.faults files.old) (F.faults files.new) }
 {
-    if report.found.len() > MOST_RECORDS {
-        let (first, _more) = report.found.as_slice().split_at(MOST_RECORDS);
+    let found = &exploration.report.found;
+    if found.len() > MOST_RECORDS {
+        let (first, _more) = found.as_slice().split_at(MOST_RECORDS);
         return keep_all(alloc, files, name, first);
     }
-    keep_all(alloc, files, name, report.found.as_slice())
+    keep_all(alloc, files, name, found.as_slice())
 }

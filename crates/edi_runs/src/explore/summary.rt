@@ -1,11 +1,12 @@
-//! How a report is told by a status.
+//! How an exploration is told by a status.
 
 ghost use Rattle.std.specs.Prelude.{◌≡◌, map};
 ghost use Rattle.edi_timeline.specs.Told.{meant};
 ghost use Rattle.edi_runs.specs.explore.Lines as spec;
 ghost use Rattle.edi_runs.specs.explore.Told.{findings_of, reached_of};
 
-use edi_explore::{Found, Report, Verdict};
+use crate::explore::orders::Exploration;
+use edi_explore::{Found, Verdict};
 use edi_kernel::Ending;
 
 /// What was found, in short.
@@ -59,10 +60,11 @@ fn sum_up_all(found: usize) -> Summary
     Summary::Fine
 }
 
-/// A report in short.
-pub fn sum_up(report: &Report) -> Summary
-    ensures { result ≡ spec.summary_of (findings_of report.now) }
+/// An exploration in short.
+pub fn sum_up(exploration: &Exploration) -> Summary
+    ensures { result ≡ spec.summary_of (findings_of exploration.now) }
 {
+    let report = &exploration.report;
     let others = others_in(&report.found);
     if others > 0 {
         return Summary::Found(others);

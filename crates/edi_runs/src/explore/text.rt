@@ -7,9 +7,12 @@ ghost use Rattle.edi_told.specs.Told.{WhereTold};
 ghost use Rattle.edi_compile.specs.Compiled.{IsFrontOf};
 ghost use Rattle.edi_explore.specs.Watched.{IsWatched};
 ghost use Rattle.edi_runs.specs.explore.Explorations.{IsExplorationOf};
+ghost use Rattle.edi_runs.specs.explore.Openness.{IsOpenness};
 ghost use Rattle.edi_runs.specs.explore.Told.{findings_of};
 
-use edi_explore::{Limits, Report, Watcher, explore};
+use crate::explore::openness::Openness;
+use crate::explore::orders::{Exploration, orders_by_openness};
+use edi_explore::{Limits, Watcher, explore};
 use edi_kernel::Kernel;
 use edi_target::Code;
 use std::alloc::{AllocError, Global};
@@ -21,20 +24,26 @@ use std::alloc::{AllocError, Global};
 /// on for ever has no ending. With a number in `limits.shown` an ending with other output is another one. The kernel holds what the last run has
 /// left. The watcher is told, after each state that was expanded, how many there are.
 ///
+/// Where all executions were followed, output is not looked at, and each ending is `done` or a standstill, something is said of every order of steps:
+/// that none ends otherwise, if the branches use nothing outside critical phases; else what they use so, by `openness_of`. A number of moves that is
+/// found is one that no execution of the text exceeds.
+///
 /// The only error is that memory ran out before the search: memory that runs out later is a verdict.
 pub fn explore_text<W: Watcher>(
     alloc: Global,
     kernel: &mut Kernel,
     code: &Code,
+    openly: Openness,
     input: &[u8],
     limits: Limits,
     watcher: &mut W,
-) -> Result<Report, AllocError>
-    ensures explored { (text : List ℕ) (unit : ProgramUnit) → IsFrontOf text unit → code.now ≡ parts_of unit →
-        IfOk result (λ report. IsExplorationOf text input.now limits.states limits.turns limits.shown (findings_of report)) }
-    ensures watches { IfOk result (λ report. WhereTold (W.seen watcher.old) (W.seen watcher.new)
-        (IsWatched report.verdict (limits.states + 1) report.states)) }
+) -> Result<Exploration, AllocError>
+    ensures explored { (text : List ℕ) (unit : ProgramUnit) → IsFrontOf text unit → code.now ≡ parts_of unit → IsOpenness text unit openly →
+        IfOk result (λ found. IsExplorationOf text input.now limits.states limits.turns limits.shown (findings_of found)) }
+    ensures watches { IfOk result (λ found. WhereTold (W.seen watcher.old) (W.seen watcher.new)
+        (IsWatched found.report.verdict (limits.states + 1) found.report.states)) }
 {
     let report = explore(alloc, kernel, code, input, limits, watcher)?;
-    Ok(report)
+    let orders = orders_by_openness(&report, limits.shown, openly);
+    Ok(Exploration { report, orders })
 }

@@ -17,6 +17,7 @@ use Rattle.edi_image.proofs.Empty.{formatted_from, length-new_catalogue, length-
 use Rattle.edi_compile.proofs.Meant.{texts_do_as_meant}
 use Rattle.edi_explore.specs.declared.ends.Verdict.TheVariants as verdict
 use Rattle.edi_runs.specs.explore.Explorations.{Findings, IsExplorationOf}
+use Rattle.edi_runs.specs.explore.Orders.{unsaid}
 use Rattle.edi_runs.specs.explore.Input.{most_input, names_accept}
 use Rattle.edi_runs.specs.explore.Lines.{report_text}
 use Rattle.edi_runs.specs.explore.Records.{records_of}
@@ -88,7 +89,7 @@ new_image_sized n =
 -- ---- an exploration that has found nothing
 
 abbrev nothing_found : Findings
-nothing_found = record { endings = []; verdict = verdict.NoMemory 0; states = 0; cut = [] }
+nothing_found = record { endings = []; verdict = verdict.NoMemory 0; states = 0; cut = []; longest = None; orders = unsaid }
 
 finds_nothing : (bytes input : List ℕ) (unit : ProgramUnit) (states turns : ℕ) (shown : Option ℕ) → IsUnit bytes unit
     → IsExplorationOf bytes input states turns shown nothing_found
@@ -111,6 +112,8 @@ finds_nothing bytes input unit states turns shown is = record {
   many = tt;
   few = λ most e. omega arith;
   cut = tt;
+  longest = tt;
+  orders = refl;
 } where
   none_there : {A : Type 0} (i : ℕ) (a : A) → slice_get [] i ≡ Some a → ⊥
   none_there i a h = absurd (let no : None ≡ Some a = h in cc)

@@ -12,9 +12,8 @@ ghost use Rattle.edi_statuses.specs.Explored.{status_of_summary};
 ghost use Rattle.edi_main.specs.text.ExploreCommand.{EndsExploring, kept_status};
 
 use crate::text::explore::reports::Explored;
-use edi_explore::Report;
 use edi_host::{Files, KeepEnd, Sink};
-use edi_runs::explore::{Summary, keep_records, sum_up};
+use edi_runs::explore::{Exploration, Summary, keep_records, sum_up};
 use edi_statuses::{Ended, Status, show_bytes};
 use std::alloc::Global;
 
@@ -32,12 +31,12 @@ fn summary_status(summary: Summary) -> Status
 }
 
 /// The status of a command whose records were kept, or were not.
-fn kept_status(end: KeepEnd, report: &Report) -> Status
-    ensures exact { result ≡ kept_status (findings_of report.now) end }
+fn kept_status(end: KeepEnd, exploration: &Exploration) -> Status
+    ensures exact { result ≡ kept_status (findings_of exploration.now) end }
     ensures late { is_before_drive result ≡ false }
 {
     match end {
-        KeepEnd::Ok => summary_status(sum_up(report)),
+        KeepEnd::Ok => summary_status(sum_up(exploration)),
         KeepEnd::Failed => Status::FileFault,
         KeepEnd::NoMemory => Status::NoMemory,
     }
@@ -48,22 +47,22 @@ fn keep_endings<F: Files>(
     alloc: Global,
     files: &mut F,
     record_file: Option<&str>,
-    report: &Report,
+    exploration: &Exploration,
 ) -> KeepEnd
     ensures keeps { WhereTold (F.contents files.old) (F.contents files.new)
-        (KeepsInTurn result (records_of (option_map (λ name. name.now) record_file.entry) (findings_of report.now).endings)) }
+        (KeepsInTurn result (records_of (option_map (λ name. name.now) record_file.entry) (findings_of exploration.now).endings)) }
     ensures some { is_kept result ≡ false
-        → 0 < length (records_of (option_map (λ name. name.now) record_file.entry) (findings_of report.now).endings) }
+        → 0 < length (records_of (option_map (λ name. name.now) record_file.entry) (findings_of exploration.now).endings) }
     ensures later { F.faults files.old ≤ F.faults files.new }
     ensures cause { result ≡ KeepEnd.Failed → CountRose (F.faults files.old) (F.faults files.new) }
 {
     let Some(name) = record_file else {
         return KeepEnd::Ok;
     };
-    if report.found.is_empty() {
+    if exploration.report.found.is_empty() {
         return KeepEnd::Ok;
     }
-    keep_records(alloc, files, name, report)
+    keep_records(alloc, files, name, exploration)
 }
 
 /// Shows the lines of an exploration, and then keeps the choices of its endings under this name, if there is one.
@@ -74,7 +73,7 @@ pub(crate) fn end_exploration<F: Files, T: Sink>(
     record_file: Option<&str>,
     explored: &Explored,
 ) -> Ended
-    ensures ends { EndsExploring (option_map (λ name. name.now) record_file.entry) (findings_of explored.now.report) explored.now.lines.items result
+    ensures ends { EndsExploring (option_map (λ name. name.now) record_file.entry) (findings_of explored.now.exploration) explored.now.lines.items result
         (T.taken terminal.old) (T.taken terminal.new) (F.contents files.old) (F.contents files.new) }
     ensures later_files { F.faults files.old ≤ F.faults files.new }
     ensures later_terminal { T.faults terminal.old ≤ T.faults terminal.new }
@@ -86,9 +85,9 @@ pub(crate) fn end_exploration<F: Files, T: Sink>(
     match shown.status {
         Status::OutputFault => shown,
         _ => {
-            let end = keep_endings(alloc, files, record_file, &explored.report);
+            let end = keep_endings(alloc, files, record_file, &explored.exploration);
             Ended {
-                status: kept_status(end, &explored.report),
+                status: kept_status(end, &explored.exploration),
                 due: shown.due,
             }
         }

@@ -63,15 +63,7 @@ pub fn explore_file<F: Files, S: Source, T: Sink, W: Watcher>(
         shown: options.shown,
     };
     let record_file = options.record_file;
-    match explore_program(
-        alloc,
-        kernel,
-        &program,
-        &given,
-        limits,
-        record_file,
-        watcher,
-    ) {
+    match explore_program(alloc, kernel, program, &given, limits, record_file, watcher) {
         Ok(explored) => end_exploration(alloc, files, terminal, record_file, &explored),
         Err(_) => stopped(Status::NoMemory),
     }

@@ -8,16 +8,17 @@ use crate::steps::fetch;
 use crate::text::coding::LIMIT;
 use edi_compile::{Refusal, front, translate};
 use edi_host::Files;
-use edi_runs::explore::names_accept;
+use edi_runs::explore::{Openness, names_accept, openness_of};
 use edi_statuses::Status;
 use edi_target::Code;
 use std::alloc::Global;
 
-/// A program that is explored: its code, and whether it asks for input.
+/// A program that is explored: its code, whether it asks for input, and what its branches use outside critical phases.
 #[derive(Drop)]
 pub(crate) struct Explorable {
     pub(crate) code: Code,
     pub(crate) asks: bool,
+    pub(crate) openly: Openness,
 }
 
 /// The program of a text, or why the command stops there.
@@ -30,8 +31,11 @@ fn program_of_text(alloc: Global, text: &[u8]) -> Result<Explorable, Status>
         Err(Refusal::NoMemory) => return Err(Status::NoMemory),
     };
     let asks = names_accept(&unit);
+    let Some(openly) = openness_of(alloc, text, &unit) else {
+        return Err(Status::NoMemory);
+    };
     let code = translate(alloc, &unit)?;
-    Ok(Explorable { code, asks })
+    Ok(Explorable { code, asks, openly })
 }
 
 /// The program of the text in a file, or why the command stops there.

@@ -7,15 +7,15 @@ ghost use Rattle.edi_explore.specs.Watched.{IsWatched};
 ghost use Rattle.edi_main.specs.text.ExploreCommand.{IsExplorable, IsExplored};
 
 use crate::text::explore::programs::Explorable;
-use edi_explore::{Limits, Report, Watcher};
+use edi_explore::{Limits, Watcher};
 use edi_kernel::Kernel;
-use edi_runs::explore::{explore_text, report_text};
+use edi_runs::explore::{Exploration, explore_text, report_text};
 use std::alloc::{AllocError, Global};
 
 /// What was found, and the lines that tell it.
 #[derive(Drop)]
 pub(crate) struct Explored {
-    pub(crate) report: Report,
+    pub(crate) exploration: Exploration,
     pub(crate) lines: Vec<u8>,
 }
 
@@ -24,18 +24,19 @@ pub(crate) struct Explored {
 pub(crate) fn explore_program<W: Watcher>(
     alloc: Global,
     kernel: &mut Kernel,
-    program: &Explorable,
+    program: Explorable,
     input: &[u8],
     limits: Limits,
     record_file: Option<&str>,
     watcher: &mut W,
 ) -> Result<Explored, AllocError>
-    ensures finds { (text : List ℕ) (unit : ProgramUnit) → IsExplorable text unit program.now →
+    ensures finds { (text : List ℕ) (unit : ProgramUnit) → IsExplorable text unit program →
         IfOk result (λ e. IsExplored text input.now limits.states limits.turns limits.shown (option_map (λ name. name.now) record_file.entry) e) }
     ensures watches { IfOk result (λ e. WhereTold (W.seen watcher.old) (W.seen watcher.new)
-        (IsWatched e.report.verdict (limits.states + 1) e.report.states)) }
+        (IsWatched e.exploration.report.verdict (limits.states + 1) e.exploration.report.states)) }
 {
-    let report = explore_text(alloc, kernel, &program.code, input, limits, watcher)?;
-    let lines = report_text(alloc, &report, limits.shown.is_some(), record_file)?;
-    Ok(Explored { report, lines })
+    let Explorable { code, openly, .. } = program;
+    let exploration = explore_text(alloc, kernel, &code, openly, input, limits, watcher)?;
+    let lines = report_text(alloc, &exploration, limits.shown.is_some(), record_file)?;
+    Ok(Explored { exploration, lines })
 }

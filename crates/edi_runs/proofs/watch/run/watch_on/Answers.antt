@@ -1,4 +1,4 @@
-use Rattle.std.proofs.Common.{◌≡◌, ◌∙◌, ◌<◌, ◌+◌, ◌^◌, ap, arith, rules, subst, sym}
+use Rattle.std.proofs.Common.{◌≡◌, ◌∙◌, ◌<◌, ap, arith, rules, subst, sym}
 use Rattle.edi_calls.specs.State.{State, fresh}
 use Rattle.edi_execute.specs.Execution.{IsAtCall, IsAtMoment}
 use Rattle.edi_debug.specs.stops.Underway.{Ended}

@@ -6,7 +6,7 @@ use Rattle.edi_main.proofs.text.explore.ending.end_exploration.Goals as goal
 
 pub returns-in_default : goal.returns-in_default
 returns-in_default g c =
-    let f = findings_of c.args.explored.now.report in
+    let f = findings_of c.args.explored.now.exploration in
     let end = c.keep_endings-end in
     let is = c.kept_status.ensures.exact in
     record {

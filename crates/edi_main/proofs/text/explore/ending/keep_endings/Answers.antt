@@ -7,6 +7,6 @@ use Rattle.edi_main.proofs.text.explore.ending.keep_endings.Goals as goal
 
 pub returns-clause-some : goal.returns-clause-some
 returns-clause-some g c = λ unkept.
-    let found = c.args.report.now.found.items in
+    let found = c.args.exploration.now.report.found.items in
     subst (λ r. 0 < length (records_of (option_map (λ (name : Bor (List ℕ)). name.now) r) (map reached_of found))) (sym c.in-Some.is)
     (some_kept c.in-Some.name.now found (grind (arith, c.is_empty.ensures, c.if-is_empty.false)))
