@@ -13,7 +13,7 @@ use Rattle.edi_target.specs.Memory.{word}
 use Rattle.edi_target.specs.Op.{Instruction, exit, return}
 use Rattle.edi_kernel.specs.declared.frames.Below.{Below}
 use Rattle.edi_sights.specs.named.Naming.{Named, Names, named_at}
-use Rattle.edi_dump.specs.values.Texts.{most_shown}
+use Rattle.edi_dump.specs.values.Texts.{most_shown, short}
 use Rattle.edi_dump.specs.values.Words.{words_text}
 
 -- what is known of a program
@@ -56,7 +56,11 @@ where_named (c ∷ name) text = text
 
 -- `  dine`
 abbrev pub name_line : (name : List ℕ) → List ℕ
-name_line name = where_named name (codes "  " ++ (name ++ codes "\n"))
+name_line name = where_named name (codes "  " ++ (short name ++ codes "\n"))
+
+-- `    forks = (true, false)`
+abbrev pub value_line : (name text : List ℕ) → List ℕ
+value_line name text = codes "    " ++ (short name ++ (codes " = " ++ (text ++ codes "\n")))
 
 module _ (program : Program) (memory : List ℕ) where
   -- a variable at the front of these words; for a `var` parameter, the one that it means
@@ -65,9 +69,8 @@ module _ (program : Program) (memory : List ℕ) where
   variable_text (slot.Var t) words = words_text program.unit.types program.names.constants t (drop (word words 0) memory)
   variable_text (slot.Formal r) words = codes "proc"
 
-  -- `    forks = (true, false)`
   abbrev pub variable_line : (name : List ℕ) → Parameter → (words : List ℕ) → List ℕ
-  variable_line name v words = codes "    " ++ (name ++ (codes " = " ++ (variable_text v words ++ codes "\n")))
+  variable_line name v words = value_line name (variable_text v words)
 
   -- of variables with these names, which stand one behind another at the front of the words
   abbrev pub variables_text : (names : List (List ℕ)) → List Parameter → (words : List ℕ) → List ℕ

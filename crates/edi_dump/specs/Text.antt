@@ -10,6 +10,7 @@ use Rattle.edi_waits.specs.declared.ends.Stands.TheVariants as stands
 use Rattle.edi_waits.specs.Ends.{AtEnd}
 use Rattle.edi_waits.specs.Places.{line_before}
 use Rattle.edi_dump.specs.Frames.{Program, block_of, named_frame, raw_frame, where_named}
+use Rattle.edi_dump.specs.values.Texts.{short}
 
 -- `1 branch`, `5 branches`
 abbrev pub branches_text : ℕ → List ℕ
@@ -27,7 +28,7 @@ blocks_of (Some program) = program.names.blocks
 
 -- in a block
 abbrev pub in_text : (name : List ℕ) → List ℕ
-in_text name = where_named name (codes " in " ++ name)
+in_text name = where_named name (codes " in " ++ short name)
 
 abbrev pub frame_text : Option Program → (words memory : List ℕ) → Below → List ℕ
 frame_text None words memory frame = raw_frame memory frame

@@ -10,7 +10,7 @@ ghost use Rattle.edi_dump.specs.Frames as spec;
 ghost use Rattle.edi_dump.specs.Views.{program_of};
 
 use crate::known::Known;
-use crate::values::{behind, put_value, size_of, word_at};
+use crate::values::{behind, put_value, short, size_of, word_at};
 use edi_lex::Text;
 use edi_sights::NamedBlock;
 use edi_unit::{Block, Parameter, TypeTable};
@@ -71,7 +71,7 @@ fn put_line(
     ensures exact { OnOk result (out.new.items ≡ out.old.items ++ spec.variable_line (program_of known.now) memory.now name.now variable words.now) }
 {
     out.extend_from_slice(b"    ")?;
-    out.extend_from_slice(name)?;
+    out.extend_from_slice(short(name))?;
     out.extend_from_slice(b" = ")?;
     put_variable(out, alloc, known, memory, variable, words)?;
     out.extend_from_slice(b"\n")?;
@@ -145,7 +145,7 @@ fn put_name(out: &mut Vec<u8>, name: &[u8]) -> Result<(), AllocError>
         return Ok(());
     }
     out.extend_from_slice(b"  ")?;
-    out.extend_from_slice(name)?;
+    out.extend_from_slice(short(name))?;
     out.extend_from_slice(b"\n")?;
     Ok(())
 }

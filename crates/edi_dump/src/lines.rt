@@ -10,6 +10,7 @@ use crate::frames::put_frame;
 use crate::names::put_process;
 use crate::raw::put_raw_frame;
 use crate::scene::{Scene, name_at};
+use crate::values::short;
 use edi_kernel::Below;
 use edi_timeline::words::put_number;
 use edi_waits::{Process, Stands, line_before};
@@ -36,7 +37,7 @@ fn put_in(out: &mut Vec<u8>, name: &[u8]) -> Result<(), AllocError>
         return Ok(());
     }
     out.extend_from_slice(b" in ")?;
-    out.extend_from_slice(name)?;
+    out.extend_from_slice(short(name))?;
     Ok(())
 }
 

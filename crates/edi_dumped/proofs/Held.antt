@@ -1,5 +1,5 @@
 -- The lines of a frame are read off the words that stand for what the variables of its instance hold.
-use Rattle.std.proofs.Common.{◌≡◌, ℕ, zero, suc, ◌+◌, List, [], ◌∷◌, ◌++◌, codes, drop, take, Some, slice_get, refl, sym, subst, ap, ◌∙◌, arith}
+use Rattle.std.proofs.Common.{◌≡◌, ℕ, zero, suc, ◌+◌, List, [], ◌∷◌, ◌++◌, drop, take, Some, slice_get, refl, sym, subst, ap, ◌∙◌, arith}
 use Rattle.std.proofs.Common.{drop-drop, get_or}
 use Rattle.std.proofs.lemmas.List.Sums.{sum_by-cons}
 use Rattle.std.specs.Prelude.{slice_index, sum_by}
@@ -27,7 +27,7 @@ use Rattle.edi_follows.proofs.places.Slots.{slot_is_in, HasValue, value_cell, Ha
 use Rattle.edi_follows.proofs.places.Stores.{parts_are_there}
 use Rattle.edi_follows.proofs.steps.Local.{stands}
 use Rattle.edi_sights.specs.named.Naming.{Names, named_at}
-use Rattle.edi_dump.specs.Frames.{Program, variable_text, variables_text}
+use Rattle.edi_dump.specs.Frames.{Program, value_line, variable_text, variables_text}
 use Rattle.edi_dump.specs.values.Laws.{value_text}
 use Rattle.edi_dump.specs.values.Words.{words_text}
 use Rattle.edi_dumped.specs.Instances.{instance_text, meant_text, LinesAreOfInstances}
@@ -123,7 +123,7 @@ module _ (g : Coded) (sc : Scene) (F : Shape) (w : World) (m : List ℕ) (h : St
   lines_are v [] ps e = refl
   lines_are v (name ∷ own) [] e = refl
   lines_are v (name ∷ own) (p ∷ ps) e =
-      let line : List ℕ → List ℕ = λ text. codes "    " ++ (name ++ (codes " = " ++ (text ++ codes "\n"))) in
+      let line : List ℕ → List ℕ = value_line name in
       let behind : drop (slot_words g.unit.types p) (drop (at v) m) ≡ drop (at (suc v)) m =
       drop-drop (slot_words g.unit.types p) (at v) m ∙ ap (λ k. drop k m) (omega (arith, next_address v p ps e)) in
       ap (λ text. line text ++ variables_text program m own ps (drop (slot_words g.unit.types p) (drop (at v) m)))

@@ -4,6 +4,8 @@ pub mod Ended
 pub mod Some
 pub mod Chained
 pub mod Held
+pub mod Ordered
+pub mod One
 pub mod Standing
 pub mod StandingBlocks
 pub mod StandingDumps

@@ -17,7 +17,7 @@ use Rattle.edi_follows.specs.places.Related.{Related}
 use Rattle.edi_follows.specs.places.Spots.{address, block_at, frame_start}
 use Rattle.edi_sights.specs.named.Naming.{Names, named_at}
 use Rattle.edi_waits.specs.Ends.{frames_of}
-use Rattle.edi_dump.specs.Frames.{Program, variables_text}
+use Rattle.edi_dump.specs.Frames.{Program, value_line, variables_text}
 use Rattle.edi_dump.specs.values.Laws.{value_text}
 
 -- of an instance of the meaning
@@ -33,7 +33,7 @@ module _ (types : List Shape) (constants : List (List (List ℕ))) (store : Stor
   instance_text v [] ps = []
   instance_text v (name ∷ names) [] = []
   instance_text v (name ∷ names) (p ∷ ps) =
-      (codes "    " ++ (name ++ (codes " = " ++ (meant_text v p ++ codes "\n")))) ++ instance_text (suc v) names ps
+      value_line name (meant_text v p) ++ instance_text (suc v) names ps
 
 -- THE LINES ARE OF INSTANCES. Where the machine agrees with a state of the meaning, as it does between two steps and at a standstill, and a process
 -- may go on, the lines of each frame are those of its instance.

@@ -1,10 +1,10 @@
 -- The text that is read off the words of a value is that of the value.
-use Rattle.std.proofs.Common.{◌≡◌, ℕ, zero, suc, ◌+◌, ◌<◌, ◌/◌, ◌%◌, ℤ, Bool, true, false, IsTrue, List, [], ◌∷◌, ◌++◌, length, drop, All, refl}
+use Rattle.std.proofs.Common.{◌≡◌, ℕ, zero, suc, ◌<◌, ◌/◌, ◌%◌, ℤ, Bool, true, false, IsTrue, List, [], ◌∷◌, ◌++◌, length, drop, All, refl}
 use Rattle.std.proofs.Common.{sym, ap, ◌∙◌, arith, append_assoc}
 use Rattle.std.proofs.Math.ListN.{get_or-append}
 use Rattle.std.proofs.Math.Seq.{drop-append_seam}
 use Rattle.std.proofs.lemmas.Bool.{false≢true}
-use Rattle.std.proofs.lemmas.List.Elements.{All-nil, All-replicate, All-tail}
+use Rattle.std.proofs.lemmas.List.Elements.{All-tail}
 use Rattle.std.specs.Int.{bit_at}
 use Rattle.std.specs.Prelude.{slice_index, ◌==◌}
 use Rattle.edi_word.specs.Words.{signed}
@@ -13,36 +13,16 @@ use Rattle.edi_word.specs.SetWords.{members_of, words_of_members}
 use Rattle.edi_word.proofs.IntLaws.{fits_from_is_int, signed-unsigned}
 use Rattle.edi_word.proofs.SetLaws.{members_where-agree, members_of-words_of_members}
 use Rattle.edi_unit.specs.Types.{Shape, int, char, bool, enumeration, record_of, array_of, set_of, shape_at, is_elementary_shape, is_ordinal_of, is_set_shape}
-use Rattle.edi_unit.specs.Types.{element_count, size}
-use Rattle.edi_unit.specs.TypeTables.{named_types, part_types, has_parts}
+use Rattle.edi_unit.specs.Types.{size}
+use Rattle.edi_unit.specs.TypeTables.{part_types, has_parts}
 use Rattle.edi_unit.specs.Values.{Value, ordinal, compound, members, Values, no_value, value_then, IsOf, AreOf}
-use Rattle.edi_unit.proofs.Tables.{length-before}
 use Rattle.edi_target.specs.Op.{word_of_integer}
 use Rattle.edi_follows.specs.values.Words.{value_words, values_words, IsTable}
 use Rattle.edi_follows.proofs.values.Lengths.{parts_known, length-words_of_members, value_length}
 use Rattle.edi_follows.proofs.values.Small.{ordinal_int}
-use Rattle.edi_dump.specs.values.Texts.{Piece, compound_piece, in_list, most_shown, ordinal_piece, set_piece}
+use Rattle.edi_dump.specs.values.Texts.{Piece, compound_piece, in_list, most_deep, most_shown, ordinal_piece, set_piece}
 use Rattle.edi_dump.specs.values.Words.{parts_by, piece_within, shape_piece}
 use Rattle.edi_dump.specs.values.Laws.{TextsAreOfValues, base_type, value_piece, values_piece}
-
--- ---- types of parts
-
-parts_before : (n : ℕ) (s : Shape) → All (λ u. u < n) (named_types s) → All (λ u. u < n) (part_types s)
-parts_before n int h = All-nil (λ u. u < n)
-parts_before n char h = All-nil (λ u. u < n)
-parts_before n bool h = All-nil (λ u. u < n)
-parts_before n (enumeration k) h = All-nil (λ u. u < n)
-parts_before n (record_of fs) h = h
-parts_before n (array_of i lo hi e) h = All-replicate (λ u. u < n) (element_count lo hi) e (h 1 0 (omega arith))
-parts_before n (set_of b) h = All-nil (λ u. u < n)
-
--- a part has an earlier type
-parts_earlier : (types : List Shape) → IsTable types → (t : ℕ) → t < length types → All (λ u. u < t) (part_types (shape_at types t))
-parts_earlier types h t known =
-    parts_before t (shape_at types t) (λ k d i.
-    let below = ((h.table).declared t known).known k d i in
-    let long = length-before types t known in
-    omega (arith, below, long))
 
 -- ---- values of one kind of type
 
@@ -96,35 +76,32 @@ members_alone words more eight = members_where-agree (word_has (words ++ more)) 
 
 module _ (types : List Shape) (constants : List (List (List ℕ))) (h : IsTable types) where
   mutual
-    piece_is : (deep left : ℕ) (v : Value) (t : ℕ) → t < deep → t < length types → IsOf types v t → (more : List ℕ)
-        → piece_within types constants deep left t (value_words v ++ more) ≡ value_piece types constants left t v
-    piece_is zero left v t below known is more = absurd (omega (arith, below))
-    piece_is (suc d) left (ordinal n) t below known is more =
+    piece_is : (deep left : ℕ) (v : Value) (t : ℕ) → t < length types → IsOf types v t → (more : List ℕ)
+        → piece_within types constants deep left t (value_words v ++ more) ≡ value_piece types constants deep left t v
+    piece_is zero left v t known is more = refl
+    piece_is (suc d) left (ordinal n) t known is more =
         elementary_is types constants (piece_within types constants d) left t (shape_at types t) (word_of_integer n ∷ more)
         (ordinal_elementary (shape_at types t) n is)
         ∙ ap (ordinal_piece types constants left t) (signed-unsigned n (fits_from_is_int n (ordinal_int types h t n known is)))
-    piece_is (suc d) left (compound vs) t below known is more =
+    piece_is (suc d) left (compound vs) t known is more =
         compound_is types constants (piece_within types constants d) left t (shape_at types t) (values_words vs ++ more) _ is.0
-        (pieces_are d true left vs (part_types (shape_at types t))
-        (λ k x i. let earlier = parts_earlier types h t known k x i in omega (arith, earlier, below))
-        (parts_known types h t known) is.1 more)
-    piece_is (suc d) left (members set) t below known is more =
+        (pieces_are d true left vs (part_types (shape_at types t)) (parts_known types h t known) is.1 more)
+    piece_is (suc d) left (members set) t known is more =
         set_is types constants (piece_within types constants d) left t (shape_at types t) (words_of_members set ++ more) set is.0
         (members_alone (words_of_members set) more (length-words_of_members set) ∙ members_of-words_of_members set is.1)
 
     -- of values one after another
-    pieces_are : (d : ℕ) (first : Bool) (left : ℕ) (vs : Values) (ts : List ℕ) → All (λ u. u < d) ts → All (λ u. u < length types) ts
-        → AreOf types vs ts → (more : List ℕ)
-        → parts_by types constants (piece_within types constants d) first left ts (values_words vs ++ more) ≡ values_piece types constants first left ts vs
-    pieces_are d first left no_value [] below known are more = refl
-    pieces_are d first left no_value (t ∷ ts) below known are more = absurd are
-    pieces_are d first left (value_then v vs) [] below known are more = absurd are
-    pieces_are d first left (value_then v vs) (t ∷ ts) below known are more =
+    pieces_are : (d : ℕ) (first : Bool) (left : ℕ) (vs : Values) (ts : List ℕ) → All (λ u. u < length types) ts → AreOf types vs ts → (more : List ℕ)
+        → parts_by types constants (piece_within types constants d) first left ts (values_words vs ++ more)
+        ≡ values_piece types constants d first left ts vs
+    pieces_are d first left no_value [] known are more = refl
+    pieces_are d first left no_value (t ∷ ts) known are more = absurd are
+    pieces_are d first left (value_then v vs) [] known are more = absurd are
+    pieces_are d first left (value_then v vs) (t ∷ ts) known are more =
         let rest : List ℕ = values_words vs ++ more in
         let of : ℕ → ℕ → List ℕ → Piece = piece_within types constants d in
-        let own : Piece = value_piece types constants left t v in
-        let part : of left t (value_words v ++ rest) ≡ own =
-        piece_is d left v t (below 0 0 (omega arith)) (known 0 0 (omega arith)) are.0 rest in
+        let own : Piece = value_piece types constants d left t v in
+        let part : of left t (value_words v ++ rest) ≡ own = piece_is d left v t (known 0 0 (omega arith)) are.0 rest in
         let long : length (value_words v) ≡ size types t = value_length types h v t (known 0 0 (omega arith)) are.0 in
         let behind : drop (size types t) (value_words v ++ rest) ≡ rest =
         ap (λ k. drop k (value_words v ++ rest)) (sym long) ∙ drop-append_seam (value_words v) rest in
@@ -133,8 +110,8 @@ module _ (types : List Shape) (constants : List (List (List ℕ))) (h : IsTable 
         ∙ (ap (λ piece. in_list first left piece (λ k. parts_by types constants of false k ts (drop (size types t) (value_words v ++ rest)))) part
         ∙ (ap (λ words. in_list first left own (λ k. parts_by types constants of false k ts words)) behind
         ∙ ap (λ others. in_list first left own (λ k. others))
-        (pieces_are d false own.left vs ts (All-tail (λ u. u < d) t ts below) (All-tail (λ u. u < length types) t ts known) are.1 more)))
+        (pieces_are d false own.left vs ts (All-tail (λ u. u < length types) t ts known) are.1 more)))
 
 pub texts_are_of_values : TextsAreOfValues
 texts_are_of_values types constants h v t known is more =
-    ap (λ (piece : Piece). piece.text) (piece_is types constants h (suc t) most_shown v t (omega arith) known is more)
+    ap (λ (piece : Piece). piece.text) (piece_is types constants h most_deep most_shown v t known is more)

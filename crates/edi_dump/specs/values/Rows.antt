@@ -1,5 +1,6 @@
 -- Computed rows. Values with their texts.
-use Rattle.std.specs.Prelude.{◌≡◌, ℕ, List, [], ◌∷◌, ◌++◌, pos, negsuc, codes, flat_map, replicate, refl}
+use Rattle.std.specs.Prelude.{◌≡◌, ℕ, List, [], ◌∷◌, ◌++◌, pos, negsuc, codes, flat_map, map, replicate, refl}
+use Rattle.std.specs.List.{range_with_len}
 use Rattle.std.specs.Fmt.{signed_decimal}
 use Rattle.edi_word.specs.Sets.{members_where}
 use Rattle.edi_unit.specs.Types.{Shape, int, char, bool, enumeration, record_of, array_of, set_of, size}
@@ -32,6 +33,10 @@ row_line_feed = refl
 
 pub row_bool : text 2 (1 ∷ []) ≡ codes "true"
 row_bool = refl
+
+-- a constant of 65 letters, of which 64 are told
+pub row_long_name : words_text (enumeration 1 ∷ []) ((replicate 65 97 ∷ []) ∷ []) 0 (0 ∷ []) ≡ replicate 64 97
+row_long_name = refl
 
 pub row_enumeration : text 3 (1 ∷ []) ≡ codes "green"
 row_enumeration = refl
@@ -76,3 +81,20 @@ both = 3 ∷ replicate 7 0
 pub row_sets : text 10 (times 23 both) ≡ codes "([red, green]" ++ (times 20 (codes ", [red, green]") ++ codes ", [red, ..], ..)")
 unfolding members_where size
 row_sets = refl
+
+-- ---- records in records
+
+-- type n has n records in one another, and a truth value in them
+abbrev nested : List Shape
+nested = bool ∷ map (λ n. record_of (n ∷ [])) (range_with_len 0 64)
+
+abbrev nested_text : ℕ → List ℕ
+nested_text t = words_text nested ((codes "false" ∷ codes "true" ∷ []) ∷ []) t (1 ∷ [])
+
+pub row_deep : nested_text 63 ≡ times 63 (codes "(") ++ (codes "true" ++ times 63 (codes ")"))
+unfolding size
+row_deep = refl
+
+pub row_too_deep : nested_text 64 ≡ times 64 (codes "(") ++ (codes ".." ++ times 64 (codes ")"))
+unfolding size
+row_too_deep = refl

@@ -1,9 +1,20 @@
 -- Definition. THE TEXT OF A VALUE: what a program would write for it, but that records, arrays and sets have no name before their brackets.
 -- Of one variable 64 parts are told in all, and then `..`: an elementary value is a part, and so is a set, and each of its members.
+-- A value within 64 arrays and records is told as `..` too.
 use Rattle.std.specs.Prelude.{ℕ, ℤ, pos, negsuc, ◌-◌, ◌==◌, ◌&&◌, nat_le, Bool, true, false, if◌then◌else◌, List, [], ◌∷◌, ◌++◌, codes, Option, Some, None}
-use Rattle.std.specs.Prelude.{slice_get, slice_index_or}
+use Rattle.std.specs.Prelude.{slice_get, slice_index_or, take}
 use Rattle.std.specs.Fmt.{signed_decimal}
 use Rattle.edi_unit.specs.Types.{Shape, int, char, shape_at}
+
+-- ---- names
+
+-- as many letters of a name as are told
+abbrev pub most_letters : ℕ
+most_letters = 64
+
+-- a name as it is told, of whatever length it is
+abbrev pub short : (name : List ℕ) → List ℕ
+short name = take most_letters name
 
 -- ---- elementary values
 
@@ -14,7 +25,7 @@ character_text (negsuc n) = codes "char(" ++ (signed_decimal (negsuc n) ++ codes
 
 abbrev pub named_or_number : Option (List ℕ) → ℤ → List ℕ
 named_or_number None n = signed_decimal n
-named_or_number (Some name) n = name
+named_or_number (Some name) n = short name
 
 -- the constant with this ordinal; every value of a type with constants has one
 abbrev pub constant_text : (constants : List (List ℕ)) → ℤ → List ℕ
@@ -32,10 +43,18 @@ elementary_text constants _ n = constant_text constants n
 abbrev pub most_shown : ℕ
 most_shown = 64
 
+-- how many values may stand in one another
+abbrev pub most_deep : ℕ
+most_deep = 64
+
 -- a text, and how many parts may be told after it
 pub record Piece : Type 0 where
   pub text : List ℕ
   pub left : ℕ
+
+-- a value that stands too deep: it is told as one part
+abbrev pub cut_piece : (left : ℕ) → Piece
+cut_piece left = record { text = codes ".."; left = left - 1 }
 
 -- before a part
 abbrev pub gap : (first : Bool) → List ℕ

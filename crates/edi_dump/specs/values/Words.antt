@@ -4,7 +4,7 @@ use Rattle.edi_word.specs.Words.{signed}
 use Rattle.edi_word.specs.SetWords.{members_of}
 use Rattle.edi_unit.specs.Types.{Shape, record_of, array_of, set_of, shape_at, size}
 use Rattle.edi_unit.specs.TypeTables.{part_types}
-use Rattle.edi_dump.specs.values.Texts.{Piece, compound_piece, in_list, most_shown, ordinal_piece, set_piece}
+use Rattle.edi_dump.specs.values.Texts.{Piece, compound_piece, cut_piece, in_list, most_deep, most_shown, ordinal_piece, set_piece}
 
 module _ (types : List Shape) (constants : List (List (List ℕ))) where
   -- of values of these types, which stand one behind another at the front of the words; of gives the text of each
@@ -24,11 +24,11 @@ module _ (types : List Shape) (constants : List (List (List ℕ))) where
   shape_piece of left t (set_of b) words = set_piece types constants left b (members_of words)
   shape_piece of left t _ words = ordinal_piece types constants left t (signed (slice_index words 0))
 
-  -- a value in which parts stand in parts less deep than this
+  -- a value of which so many levels are told: itself, its parts, theirs
   abbrev pub piece_within : (deep left t : ℕ) → (words : List ℕ) → Piece
-  piece_within zero left t words = record { text = []; left = left }
+  piece_within zero left t words = cut_piece left
   piece_within (suc deep) left t words = shape_piece (piece_within deep) left t (shape_at types t) words
 
-  -- a value of type t at the front of the words; because a type names earlier types alone, its parts are not deeper than its number
+  -- a value of type t at the front of the words
   abbrev pub words_text : (t : ℕ) → (words : List ℕ) → List ℕ
-  words_text t words = (piece_within (suc t) most_shown t words).text
+  words_text t words = (piece_within most_deep most_shown t words).text

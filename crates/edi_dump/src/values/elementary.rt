@@ -7,6 +7,7 @@ ghost use Rattle.edi_unit.specs.ShapeView.{shape_of};
 ghost use Rattle.edi_dump.specs.values.Texts as spec;
 ghost use Rattle.edi_dump.specs.values.Views.{constants_of};
 
+use crate::values::brackets::short;
 use edi_lex::Text;
 use edi_unit::{Shape, TypeTable};
 use itoa::Buffer;
@@ -70,7 +71,7 @@ fn put_constant(out: &mut Vec<u8>, constants: &[Text], n: i16) -> Result<(), All
     }
     match constants.get(usize::from(n.cast_unsigned())) {
         Some(name) => {
-            out.extend_from_slice(name.as_slice())?;
+            out.extend_from_slice(short(name.as_slice()))?;
             Ok(())
         }
         None => put_integer(out, n),

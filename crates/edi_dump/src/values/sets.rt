@@ -1,6 +1,7 @@
 //! The texts of sets.
 
-ghost use Rattle.std.specs.Prelude.{◌≡◌, ◌∷◌, ◌++◌, [], if◌then◌else◌, true, IfOk, OnOk, slice_index};
+ghost use Rattle.std.specs.Prelude.{◌≡◌, ◌∷◌, ◌*◌, ◌<◌, ◌++◌, [], if◌then◌else◌, true, filter, IfOk, OnOk, slice_index};
+ghost use Rattle.std.specs.List.{range_with_len};
 ghost use Rattle.edi_word.specs.Sets.{word_has};
 ghost use Rattle.edi_word.specs.SetWords.{members_of};
 ghost use Rattle.edi_dump.specs.values.Texts as spec;
@@ -37,14 +38,29 @@ fn add_if(wanted: bool, n: u8, numbers: &mut Vec<u8>) -> Result<(), AllocError>
     Ok(())
 }
 
+/// Puts the members that one of the eight words tells, after those of the words before it. A word 0 tells none.
+#[tactic(auto, using(crate::proofs::valued::Sets::none_found))]
+fn add_members(words: &[u16], at: u8, members: &mut Vec<u8>) -> Result<(), AllocError>
+    requires one_of_eight { at < 8 }
+    ensures exact { OnOk result (members.new.items ≡ members.old.items ++ filter (word_has words.now) (range_with_len (at * 16) 16)) }
+{
+    if word_at(words, usize::from(at)) == 0 {
+        return Ok(());
+    }
+    for bit in 0..16 {
+        let n = at * 16 + bit;
+        add_if(has(words, n), n, members)?;
+    }
+    Ok(())
+}
+
 /// The members of the set that these words are.
-#[tactic(auto, using(crate::proofs::valued::Sets::found_more))]
 fn members(alloc: Global, words: &[u16]) -> Result<Vec<u8>, AllocError>
     ensures exact { IfOk result (λ members. members.items ≡ members_of words.now) }
 {
     let mut members = Vec::new(alloc);
-    for n in 0..128 {
-        add_if(has(words, n), n, &mut members)?;
+    for at in 0..8 {
+        add_members(words, at, &mut members)?;
     }
     Ok(members)
 }

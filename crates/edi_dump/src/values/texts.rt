@@ -9,7 +9,7 @@ ghost use Rattle.edi_dump.specs.values.Words as spec;
 ghost use Rattle.edi_dump.specs.Views.{constants_in, types_in};
 
 use crate::known::Known;
-use crate::values::brackets::{MOST_SHOWN, put_gap, put_more};
+use crate::values::brackets::{MOST_DEEP, MOST_SHOWN, put_cut, put_gap, put_more};
 use crate::values::elementary::{put_one, shape_at};
 use crate::values::parts::{part_count, part_type, size_of};
 use crate::values::sets::{put_set, word_at};
@@ -34,7 +34,7 @@ fn first_ordinal(words: &[u16]) -> i16
     word_at(words, 0).cast_signed()
 }
 
-/// Puts a value in which parts stand in parts less deep than this, at the front of the words. The result is how many parts may be told after it.
+/// Puts so many levels of a value, which stands at the front of the words. The result is how many parts may be told after it.
 #[cycle(values)]
 fn put_within(
     out: &mut Vec<u8>,
@@ -50,7 +50,7 @@ fn put_within(
     ensures left { IfOk result (λ more. more ≡ (spec.piece_within (types_in known.now) (constants_in known.now) deep left t words.now).left) }
 {
     if deep == 0 {
-        return Ok(left);
+        return put_cut(out, left);
     }
     put_shape(out, alloc, known, deep - 1, left, t, words)
 }
@@ -151,6 +151,6 @@ pub(crate) fn put_value(
 ) -> Result<(), AllocError>
     ensures exact { OnOk result (out.new.items ≡ out.old.items ++ spec.words_text (types_in known.now) (constants_in known.now) t words.now) }
 {
-    put_within(out, alloc, known, u64::from(t) + 1, MOST_SHOWN, t, words)?;
+    put_within(out, alloc, known, MOST_DEEP, MOST_SHOWN, t, words)?;
     Ok(())
 }
