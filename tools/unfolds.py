@@ -25,8 +25,8 @@ ROW = re.compile(r"^\| \[`(crates/[^`]+)`\]\([^)]*\) \| (\d+) \|", re.M)
 # Definitions of laws and of commands to come.
 APART = re.compile(r"\(no clause of `edison` speaks of it yet\):\n\n(?:\|.*\n)+")
 # What a single line of a single command reaches. These files are words of contracts for all else, and their first lines say so.
-NARROW = re.compile(r"\(reached through a code alone\):\n\n(?:\|.*\n)+")
-MOST_LINES = 8420
+NARROW = re.compile(r"\(reached through (?:a code|one line) alone\):\n\n(?:\|.*\n)+")
+MOST_LINES = 8440
 TYPES = re.compile(r"^\| \[`(crates/[^`]+\.rt)`\]\([^)]*\) \| ([^|]*) \|", re.M)
 
 

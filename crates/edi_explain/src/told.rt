@@ -9,6 +9,7 @@ mod lexical;
 mod names;
 mod notes;
 pub(crate) mod numbers;
+mod sentences;
 mod source;
 mod stray;
 mod table;

@@ -1,14 +1,15 @@
 -- One symbol more on the way to the next name of a line, and one name more on the way to one that is declared nowhere.
 use Rattle.std.proofs.Common.{◌≡◌, ◌∙◌, ◌+◌, ◌-◌, ◌<◌, ℕ, suc, Bool, true, List, Option, Some, None, length, sym, ap, arith}
-use Rattle.std.specs.Prelude.{if◌then◌else◌}
+use Rattle.std.specs.Prelude.{option_and_then, option_map, if◌then◌else◌}
+use Rattle.std.specs.Option.{option_or}
 use Rattle.edi_lex.specs.declared.symbol.Mark.{Mark}
-use Rattle.edi_explain.specs.told.Names.{Found, lost_from, may_mean, next_from, next_name, or_later, unless_it_may, used_at}
+use Rattle.edi_explain.specs.told.Names.{Found, lost_from, may_mean, next_from, next_name, used_at}
 
 -- ---- the next name
 
 module _ (marks : List Mark) (line i : ℕ) (within : i < length marks) where
   abbrev by_use : Option (List ℕ) → Found
-  by_use u = or_later i u (next_from marks line (i + 1) (length marks - (i + 1)))
+  by_use u = option_or (option_map (λ (letters : List ℕ). (i, letters)) u) (next_from marks line (i + 1) (length marks - (i + 1)))
 
   one_more : next_from marks line i (length marks - i) ≡ by_use (used_at marks line i)
   one_more = let same : length marks - i ≡ suc (length marks - (i + 1)) = omega (arith, within) in ap (λ n. next_from marks line i n) same
@@ -21,7 +22,7 @@ module _ (marks : List Mark) (line i : ℕ) (within : i < length marks) where
 
 module _ (marks : List Mark) (line i names : ℕ) (some : 0 < names) where
   abbrev by_next : Found → Found
-  by_next f = unless_it_may marks f (λ rest. lost_from marks line rest (names - 1))
+  by_next f = option_and_then (λ (one : ℕ × List ℕ). if may_mean one.1 marks then lost_from marks line (one.0 + 1) (names - 1) else Some one) f
 
   one_name_more : lost_from marks line i names ≡ by_next (next_name marks line i)
   one_name_more = let same : names ≡ suc (names - 1) = omega (arith, some) in ap (λ n. lost_from marks line i n) same

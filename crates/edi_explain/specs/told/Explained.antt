@@ -1,6 +1,6 @@
 -- Definition. WHAT `explain` SHOWS of a text, by its first fault.
-use Rattle.std.specs.Prelude.{◌≡◌, ◌⊎◌, ℕ, ◌-◌, ◌==◌, ◌||◌, nat_lt, Bool, List, [], ◌∷◌, ◌++◌, length, take, drop, Option, Some, None, Result, Ok, Err}
-use Rattle.std.specs.Prelude.{slice_get, slice_index_or, if◌then◌else◌, codes}
+use Rattle.std.specs.Prelude.{◌≡◌, ◌⊎◌, ℕ, ◌-◌, ◌==◌, nat_lt, Bool, List, [], ◌∷◌, ◌++◌, length, take, drop, Option, Some, None, Result, Ok, Err}
+use Rattle.std.specs.Prelude.{slice_get, slice_index_or, option_map, unwrap_or, if◌then◌else◌, codes}
 use Rattle.std.specs.Fmt.{decimal}
 use Rattle.std.specs.List.{list_any}
 use Rattle.edi_lex.specs.declared.symbol.Mark.{Mark}
@@ -16,6 +16,8 @@ use Rattle.edi_syntax.specs.declared.fault.SyntaxFault.TheVariants as syntax
 use Rattle.edi_texts.specs.declared.kind.RefusalKind.{RefusalKind}
 use Rattle.edi_texts.specs.declared.kind.RefusalKind.TheVariants as kind
 use Rattle.edi_explain.specs.declared.expected.waiting.Held.{Held}
+use Rattle.edi_explain.specs.declared.told.foreign.TheConstants as foreign
+use Rattle.edi_explain.specs.declared.told.sentences.TheConstants as say
 use Rattle.edi_explain.specs.expected.Opened.{opened}
 use Rattle.edi_explain.specs.expected.Reaches.{May}
 use Rattle.edi_explain.specs.places.Places.{place_of}
@@ -25,7 +27,7 @@ use Rattle.edi_explain.specs.told.Words.{name_text as name_of_letters}
 use Rattle.edi_explain.specs.told.Groups.{may_lines}
 use Rattle.edi_explain.specs.told.Source.{pointed_line, whole_line, end_line, line_bytes}
 use Rattle.edi_explain.specs.told.Stray.{stray_of}
-use Rattle.edi_explain.specs.told.Notes.{Seen, lost_note, note_of, note_line}
+use Rattle.edi_explain.specs.told.Notes.{Seen, lost_note, note_beside, note_line, note_of}
 use Rattle.edi_explain.specs.told.Advice.{advice_of}
 
 -- ---- a text that is accepted
@@ -37,25 +39,11 @@ accepted_text = codes "accepted\n"
 
 -- what begins at a byte at which no piece stands
 abbrev pub stray_text : ℕ → List ℕ
-stray_text b =
-    if b == 34 then codes "this comment is not ended by a quotation mark, or holds a character that it may not hold\n"
-    else if b == 39 then codes "this string is empty, is not ended on its line, or holds a character that it may not hold\n"
-    else codes "this character begins no symbol\n"
+stray_text b = unwrap_or (note_beside foreign.BEGINNINGS (b ∷ [])) say.NO_SYMBOL.now
 
 -- what another language means by a byte, and how this one says it; empty where nothing is known of the byte
 abbrev pub stray_note : ℕ → List ℕ
-stray_note b =
-    if b == 33 then codes "not equal is written '<>', and 'not' stands before a condition."
-    else if b == 35 then codes "not equal is written '<>'; a comment stands between quotation marks."
-    else if b == 37 then codes "what a division leaves is written 'mod'."
-    else if b == 38 || b == 124 then codes "'and' and 'or' join conditions, as in (x > 0) and (y > 0)."
-    else if b == 34 then codes "a comment has letters without accents: bytes 32 to 126, tabs and line ends."
-    else if b == 39 then codes "an apostrophe ends a string; ''' is the string of one apostrophe."
-    else if b == 47 then codes "a division is written 'div', and what it leaves 'mod'; a comment stands between quotation marks."
-    else if b == 95 then codes "a name begins with a letter."
-    else if b == 123 || b == 125 then codes "a comment stands between quotation marks; statements stand between 'do' and 'end'."
-    else if nat_lt 127 b then codes "a text has letters without accents, and no byte order mark before the first one: save it as ASCII."
-    else []
+stray_note b = if nat_lt 127 b then say.ACCENTS.now else unwrap_or (note_beside foreign.SIGNS (b ∷ [])) []
 
 abbrev pub stray_lines : ℕ → List ℕ
 stray_lines b = stray_text b ++ note_line (stray_note b)
@@ -105,21 +93,14 @@ held_lines (held ∷ more) = held_line held ++ held_lines more
 abbrev pub innermost : List Held → List Held
 innermost held = drop (length held - 3) held
 
-abbrev pub kind_in : Option Held → ℕ
-kind_in None = 0
-kind_in (Some held) = held.kind
-
 -- the kind of the innermost of them; 0 where there is none
 abbrev pub last_kind : List Held → ℕ
-last_kind held = kind_in (slice_get held (length held - 1))
-
-abbrev pub is_quoted : List ℕ → Bool
-is_quoted bytes = list_any (λ b. b == 34) bytes
+last_kind held = unwrap_or (option_map (λ (h : Held). h.kind) (slice_get held (length held - 1))) 0
 
 -- what the notes look at: the line, what stands there and before it, what is open and what may stand there
 abbrev pub seen_by : (line : List ℕ) → (here before : Option Mark) → List Held → (may : ℕ → Bool) → Seen
 seen_by line here before held may =
-    record { found = kind_at here; last = kind_at before; inside = last_kind held; may = may; quoted = is_quoted line }
+    record { found = kind_at here; last = kind_at before; inside = last_kind held; may = may; quoted = list_any (λ b. b == 34) line }
 
 -- the whole, where these may stand at the symbol of this index; the text ends on the line `last`
 abbrev pub wrong_text : List ℕ → (marks : List Mark) → (last index : ℕ) → (may : ℕ → Bool) → List ℕ

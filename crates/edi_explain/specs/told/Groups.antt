@@ -1,7 +1,7 @@
 -- Definition. How the kinds of symbols that may stand at a place are shown. A group is shown where each kind of it may stand, and only
 -- there. A kind of a group that is shown is not named again by itself.
 use Rattle.std.specs.Prelude.{ℕ, ◌==◌, Bool, true, false, not, ◌&&◌, ◌||◌, List, [], ◌∷◌, ◌++◌, if◌then◌else◌, codes}
-use Rattle.std.specs.List.{list_all, list_any}
+use Rattle.std.specs.List.{list_all, list_any, range_with_len}
 use Rattle.edi_grammar.specs.Kinds as kind
 use Rattle.edi_explain.specs.told.Words.{kind_name}
 
@@ -23,11 +23,6 @@ operator = kind.Star ∷ kind.Div ∷ kind.Mod ∷ kind.And ∷ kind.Plus ∷ ki
 
 abbrev pub comparison : List ℕ
 comparison = kind.Equal ∷ kind.NotEqual ∷ kind.Less ∷ kind.AtMost ∷ kind.Greater ∷ kind.AtLeast ∷ kind.In ∷ []
-
-abbrev pub all_kinds : List ℕ
-all_kinds =
-    0 ∷ 1 ∷ 2 ∷ 3 ∷ 4 ∷ 5 ∷ 6 ∷ 7 ∷ 8 ∷ 9 ∷ 10 ∷ 11 ∷ 12 ∷ 13 ∷ 14 ∷ 15 ∷ 16 ∷ 17 ∷ 18 ∷ 19 ∷ 20 ∷ 21 ∷ 22 ∷ 23 ∷ 24 ∷ 25 ∷ 26 ∷ 27 ∷ 28 ∷ 29 ∷ 30
-    ∷ 31 ∷ 32 ∷ 33 ∷ 34 ∷ 35 ∷ 36 ∷ 37 ∷ 38 ∷ 39 ∷ 40 ∷ 41 ∷ 42 ∷ 43 ∷ 44 ∷ 45 ∷ 46 ∷ 47 ∷ 48 ∷ 49 ∷ 50 ∷ []
 
 -- ---- which groups are shown
 
@@ -83,6 +78,6 @@ group_lines may =
     ++ (group_line may (codes "an expression") expression
     ++ (group_line may (codes "a declaration") declaration ++ between_lines may))
 
--- WHAT MAY STAND: a line for each group, and one for the kinds that stand in none
+-- WHAT MAY STAND: a line for each group, and one for those of all 51 kinds that stand in none
 unfoldable pub may_lines : (may : ℕ → Bool) → List ℕ
-may_lines may = group_lines may ++ single_line (singles may all_kinds)
+may_lines may = group_lines may ++ single_line (singles may (range_with_len 0 51))

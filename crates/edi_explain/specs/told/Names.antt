@@ -2,7 +2,8 @@
 -- can be undeclared that is no standard name, is not declared at its place, and is no call of the system that the heading of the program names before it.
 -- This is told by the symbols alone, and not by scopes: another name of the line may mean nothing at its place too.
 use Rattle.std.specs.Prelude.{ℕ, zero, suc, ◌+◌, ◌-◌, ◌==◌, Bool, true, false, not, ◌&&◌, ◌||◌, List, [], ◌∷◌, length, take, drop, Option, Some, None}
-use Rattle.std.specs.Prelude.{slice_get, if◌then◌else◌, codes}
+use Rattle.std.specs.Prelude.{slice_get, option_and_then, option_map, if◌then◌else◌, codes}
+use Rattle.std.specs.Option.{option_or}
 use Rattle.std.specs.Str.{bytes_eq}
 use Rattle.edi_lex.specs.declared.symbol.Symbol.{Symbol}
 use Rattle.edi_lex.specs.declared.symbol.Symbol.TheVariants as is
@@ -44,14 +45,13 @@ is_name letters (Some other) = bytes_eq letters other
 abbrev pub opened_by : (open_ k : ℕ) → ℕ
 opened_by open_ k = if k == kind.Open then open_ + 1 else if k == kind.Close then open_ - 1 else open_
 
--- whether the heading of a parameter of the program ends at a symbol of this kind, where so many parentheses are open before it
-abbrev pub ends_at : (open_ k : ℕ) → Bool
-ends_at open_ k = (open_ == 1) && (k == kind.Semicolon || k == kind.Close)
-
+-- Whether the heading of a parameter of the program ends in these marks, where so many parentheses are open before them: by a semicolon or a parenthesis
+-- in one.
 abbrev pub ends_heading : (open_ : ℕ) → List Mark → Bool
 ends_heading open_ [] = false
 ends_heading open_ (m ∷ marks) =
-    if ends_at open_ (kind_of m.symbol) then true else ends_heading (opened_by open_ (kind_of m.symbol)) marks
+    if (open_ == 1) && (kind_of m.symbol == kind.Semicolon || kind_of m.symbol == kind.Close) then true
+    else ends_heading (opened_by open_ (kind_of m.symbol)) marks
 
 -- So many parentheses are open. A name after `proc` in one parenthesis is a parameter of the program; the heading ends where none is open. A parameter is
 -- declared behind its own heading, and not within it.
@@ -90,13 +90,12 @@ abbrev pub can_be : List Mark → (index : ℕ) → List ℕ → Bool
 can_be marks index letters =
     can_be_after (kind_at (before_of marks index)) (kind_at (slice_get marks (index + 1))) (take index marks) letters
 
-abbrev pub if_can_be : List Mark → (index : ℕ) → Option (List ℕ) → Option (List ℕ)
-if_can_be marks index None = None
-if_can_be marks index (Some letters) = if can_be marks index letters then Some letters else None
+abbrev pub if_can_be : List Mark → (index : ℕ) → List ℕ → Option (List ℕ)
+if_can_be marks index letters = if can_be marks index letters then Some letters else None
 
 abbrev pub used_by : List Mark → (line index : ℕ) → Option Mark → Option (List ℕ)
 used_by marks line index None = None
-used_by marks line index (Some m) = if m.line == line then if_can_be marks index (name_in m.symbol) else None
+used_by marks line index (Some m) = if m.line == line then option_and_then (if_can_be marks index) (name_in m.symbol) else None
 
 -- the letters of the symbol of this index, if it is such a name of the line
 abbrev pub used_at : List Mark → (line index : ℕ) → Option (List ℕ)
@@ -106,14 +105,11 @@ used_at marks line index = used_by marks line index (slice_get marks index)
 abbrev pub Found : Type 0
 Found = Option (ℕ × List ℕ)
 
-abbrev pub or_later : (index : ℕ) → Option (List ℕ) → Found → Found
-or_later index None later = later
-or_later index (Some letters) later = Some (index, letters)
-
 -- the first such name of the line, from this index on, among so many symbols
 abbrev pub next_from : List Mark → (line index many : ℕ) → Found
 next_from marks line index zero = None
-next_from marks line index (suc many) = or_later index (used_at marks line index) (next_from marks line (index + 1) many)
+next_from marks line index (suc many) =
+    option_or (option_map (λ (letters : List ℕ). (index, letters)) (used_at marks line index)) (next_from marks line (index + 1) many)
 
 abbrev pub next_name : List Mark → (line index : ℕ) → Found
 next_name marks line index = next_from marks line index (length marks - index)
@@ -153,27 +149,20 @@ may_mean letters marks = is_placed letters true false 0 marks
 abbrev pub most_names : ℕ
 most_names = 16
 
-abbrev pub unless_it_may : List Mark → Found → (rest : ℕ → Found) → Found
-unless_it_may marks None rest = None
-unless_it_may marks (Some one) rest = if may_mean one.1 marks then rest (one.0 + 1) else Some one
-
 -- the first name from this index on that is declared nowhere, among so many that can be undeclared
 abbrev pub lost_from : List Mark → (line index names : ℕ) → Found
 lost_from marks line index zero = None
 lost_from marks line index (suc names) =
-    unless_it_may marks (next_name marks line index) (λ rest. lost_from marks line rest names)
+    option_and_then (λ (one : ℕ × List ℕ). if may_mean one.1 marks then lost_from marks line (one.0 + 1) names else Some one)
+    (next_name marks line index)
 
 abbrev pub lost_name : List Mark → (line : ℕ) → Found
 lost_name marks line = lost_from marks line 0 most_names
 
--- the first one where there is no second one, else another one
-abbrev pub if_alone : Found → (second other : Found) → Found
-if_alone first None other = first
-if_alone first (Some one) other = other
-
+-- this one where there is no second one, else the first that is declared nowhere
 abbrev pub with_second : List Mark → (line : ℕ) → Found → Found
 with_second marks line None = None
-with_second marks line (Some one) = if_alone (Some one) (next_name marks line (one.0 + 1)) (lost_name marks line)
+with_second marks line (Some one) = elim (next_name marks line (one.0 + 1)) [ None ↦ Some one | Some second ↦ lost_name marks line ]
 
 -- THE NAME THAT IS MARKED, with its index: the one name of the line that can be undeclared, or, where more than one can, the first that is declared
 -- nowhere

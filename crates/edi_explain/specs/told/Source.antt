@@ -1,6 +1,6 @@
 -- Definition. How a line of a text is shown, with its number, and the caret below it: at most 200 columns of it, those round the caret. Two
 -- periods stand where the line has more.
-use Rattle.std.specs.Prelude.{ℕ, suc, ◌-◌, ◌==◌, Bool, not, ◌&&◌, nat_le, nat_lt, List, [], ◌∷◌, ◌++◌, length, take, drop, map}
+use Rattle.std.specs.Prelude.{ℕ, suc, ◌-◌, ◌==◌, not, ◌&&◌, nat_le, nat_lt, List, [], ◌∷◌, ◌++◌, length, take, drop, map}
 use Rattle.std.specs.Prelude.{if◌then◌else◌, codes}
 use Rattle.std.specs.Fmt.{decimal}
 use Rattle.std.specs.List.{prefix_len}
@@ -17,12 +17,9 @@ line_start_from (b ∷ rest) feeds at =
 abbrev pub line_start : List ℕ → (line : ℕ) → ℕ
 line_start text line = line_start_from text (line - 1) 0
 
-abbrev pub is_no_feed : ℕ → Bool
-is_no_feed b = not (b == 10)
-
 -- how many bytes stand before the first line feed
 abbrev pub before_feed : List ℕ → ℕ
-before_feed bytes = prefix_len is_no_feed bytes
+before_feed bytes = prefix_len (λ b. not (b == 10)) bytes
 
 abbrev pub to_feed : List ℕ → List ℕ
 to_feed bytes = take (before_feed bytes) bytes
@@ -48,9 +45,6 @@ most_columns = 200
 -- from which byte on a line of so many bytes is shown, whose caret stands after so many: from the first one where all of it is shown
 abbrev pub first_shown : (size at : ℕ) → ℕ
 first_shown size at = if nat_le size most_columns then 0 else at - 100
-
-abbrev pub numbered : (line : ℕ) → List ℕ → List ℕ
-numbered line bytes = decimal line ++ (codes ": " ++ (bytes ++ codes "\n"))
 
 -- the sign that the line has bytes before this one, which are not shown
 abbrev pub sign_before : (from : ℕ) → List ℕ
@@ -88,4 +82,4 @@ whole_line text line = shown_line line (line_bytes text line) 0
 
 -- the line of the end of the text
 abbrev pub end_line : (line : ℕ) → List ℕ
-end_line line = numbered line (codes "(the end of the text)")
+end_line line = decimal line ++ codes ": (the end of the text)\n"

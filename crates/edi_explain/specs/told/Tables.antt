@@ -6,11 +6,16 @@ use Rattle.edi_explain.specs.declared.told.notes.Seen as code_seen
 use Rattle.edi_explain.specs.declared.told.table.Row as code_row
 use Rattle.edi_explain.specs.told.Names.{Found}
 use Rattle.edi_explain.specs.told.Notes.{Seen, Row}
+use Rattle.edi_explain.specs.told.Words.{Text}
 
 abbrev pub texts_of : List (Bor (List ℕ)) → List (List ℕ)
 texts_of table = map (λ (b : Bor (List ℕ)). b.now) table
 
--- two texts side by side
+-- two texts side by side, as constants are
+abbrev pub rows_beside : List (Bor (List ℕ) × Bor (List ℕ)) → List (Text × Text)
+rows_beside table = map (λ (b : Bor (List ℕ) × Bor (List ℕ)). (record { now = b.0.now }, record { now = b.1.now })) table
+
+-- two lists side by side
 abbrev pub pairs_of : List (Bor (List ℕ) × Bor (List ℕ)) → List (List ℕ × List ℕ)
 pairs_of table = map (λ (b : Bor (List ℕ) × Bor (List ℕ)). (b.0.now, b.1.now)) table
 

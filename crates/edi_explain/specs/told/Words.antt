@@ -7,6 +7,10 @@ use Rattle.edi_lex.specs.declared.symbol.Symbol.TheVariants as is
 use Rattle.edi_lex.specs.declared.symbol.Mark.{Mark}
 use Rattle.edi_grammar.specs.Kind.{kind_of}
 
+-- a text that stands in the code
+abbrev pub Text : Type 0
+Text = record { now : List ℕ }
+
 -- THE NAMES OF THE KINDS, by their numbers (`edi_grammar`, Kinds)
 abbrev pub kind_names : List (List ℕ)
 kind_names =

@@ -6,7 +6,9 @@ ghost use Rattle.edi_explain.specs.told.Explained as spec;
 ghost use Rattle.edi_explain.specs.told.Scanned.{HasStray};
 
 use crate::told::advice::put_advice;
-use crate::told::notes::put_note_line;
+use crate::told::foreign::{BEGINNINGS, SIGNS};
+use crate::told::notes::{note_or, put_note_line};
+use crate::told::sentences::{ACCENTS, NO_SYMBOL};
 use crate::told::source::put_pointed;
 use crate::told::stray::stray_of;
 use edi_lex::LexFault;
@@ -17,13 +19,7 @@ use std::alloc::AllocError;
 fn stray_text(b: u8) -> &'static str
     ensures exact { result.now ≡ spec.stray_text b }
 {
-    if b == 34 {
-        return "this comment is not ended by a quotation mark, or holds a character that it may not hold\n";
-    }
-    if b == 39 {
-        return "this string is empty, is not ended on its line, or holds a character that it may not hold\n";
-    }
-    "this character begins no symbol\n"
+    note_or(&BEGINNINGS, &[b], NO_SYMBOL)
 }
 
 // What another language means by a byte, and how this one says it; empty where nothing is known of the byte.
@@ -31,22 +27,9 @@ fn stray_note(b: u8) -> &'static str
     ensures exact { result.now ≡ spec.stray_note b }
 {
     if 127 < b {
-        return "a text has letters without accents, and no byte order mark before the first one: save it as ASCII.";
+        return ACCENTS;
     }
-    match b {
-        33 => "not equal is written '<>', and 'not' stands before a condition.",
-        34 => "a comment has letters without accents: bytes 32 to 126, tabs and line ends.",
-        35 => "not equal is written '<>'; a comment stands between quotation marks.",
-        37 => "what a division leaves is written 'mod'.",
-        38 | 124 => "'and' and 'or' join conditions, as in (x > 0) and (y > 0).",
-        39 => "an apostrophe ends a string; ''' is the string of one apostrophe.",
-        47 =>
-            "a division is written 'div', and what it leaves 'mod'; a comment stands between quotation marks.",
-        95 => "a name begins with a letter.",
-        123 | 125 =>
-            "a comment stands between quotation marks; statements stand between 'do' and 'end'.",
-        _ => "",
-    }
+    note_or(&SIGNS, &[b], "")
 }
 
 // Puts behind bytes what begins at a byte at which no piece stands.

@@ -233,7 +233,7 @@ fn used_by<'a>(marks: &[Mark], line: u16, index: usize, mark: &'a Mark) -> Optio
 // The letters, if the name of this index can be undeclared.
 fn if_can_be<'a>(marks: &[Mark], index: usize, letters: &'a [u8]) -> Option<&'a [u8]>
     requires within { index < length marks.now }
-    ensures exact { option_map (λ text. text.now) result ≡ spec.if_can_be marks.now index (Some letters.now) }
+    ensures exact { option_map (λ text. text.now) result ≡ spec.if_can_be marks.now index letters.now }
 {
     if can_be(marks, index, letters) {
         return Some(letters);

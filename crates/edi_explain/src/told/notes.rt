@@ -1,13 +1,14 @@
 //! What is often meant at a syntax fault.
 
-ghost use Rattle.std.specs.Prelude.{◌≡◌, ◌++◌, [], OnOk, option_copied, option_map};
+ghost use Rattle.std.specs.Prelude.{◌≡◌, ◌++◌, [], OnOk, option_copied, option_map, unwrap_or};
 ghost use Rattle.edi_explain.specs.told.Notes as spec;
-ghost use Rattle.edi_explain.specs.told.Tables.{pairs_of, row_of, rows_of, seen_of};
+ghost use Rattle.edi_explain.specs.told.Tables.{row_of, rows_beside, rows_of, seen_of};
 
 use crate::expected::Expected;
 use crate::told::foreign::{CALLS, ELEMENTARY_TYPES, WORDS};
 use crate::told::groups::{all_may, any_may, is_among, may};
 use crate::told::names::is_introduced;
+use crate::told::sentences::TYPED_VARIABLE;
 use crate::told::table::{ROWS, Row};
 use crate::told::words::is_text_of;
 use edi_lex::{Mark, Symbol};
@@ -29,7 +30,7 @@ pub(crate) struct Seen {
 
 // The note of a word in a table, if it has one.
 fn note_beside(table: &[(&'static str, &'static str)], word: &[u8]) -> Option<&'static str>
-    ensures exact { option_map (λ text. text.now) result ≡ spec.note_beside (pairs_of table.now) word.now }
+    ensures exact { option_map (λ text. text.now) result ≡ spec.note_beside (rows_beside table.now) word.now }
 {
     for row in table {
         if word == row.0.as_bytes() {
@@ -69,24 +70,25 @@ fn mark_note(marks: &[Mark], here: Option<&Mark>) -> Option<&'static str>
     }
 }
 
-// The note of a call of the system; nothing where there is none.
-fn call_note(word: &[u8]) -> &'static str
-    ensures exact { result.now ≡ spec.or_else (spec.note_beside spec.call_notes word.now) [] }
+/// The text beside a word in a table, or else another one.
+pub(crate) fn note_or(
+    table: &[(&'static str, &'static str)],
+    word: &[u8],
+    rest: &'static str,
+) -> &'static str
+    ensures exact { result.now ≡ unwrap_or (spec.note_beside (rows_beside table.now) word.now) rest.now }
 {
-    if let Some(note) = note_beside(&CALLS, word) {
-        return note;
+    match note_beside(table, word) {
+        Some(note) => note,
+        None => rest,
     }
-    ""
 }
 
 /// The note of a name that means nothing; nothing where there is none.
 pub(crate) fn lost_note(word: &[u8]) -> &'static str
     ensures exact { result.now ≡ spec.lost_note word.now }
 {
-    if let Some(note) = note_beside(&WORDS, word) {
-        return note;
-    }
-    call_note(word)
+    note_or(&WORDS, word, note_or(&CALLS, word, ""))
 }
 
 // ---- rows
@@ -154,9 +156,7 @@ fn type_before(before: Option<&Mark>, seen: &Seen) -> Option<&'static str>
     ensures exact { option_map (λ text. text.now) result ≡ spec.type_before (option_copied before.entry) (seen_of seen.now) }
 {
     if seen.found == kind::NAME && may(&seen.may, kind::BECOMES) && is_type_mark(before) {
-        return Some(
-            "variables are declared as var x: int, before 'begin', without a semicolon after the last.",
-        );
+        return Some(TYPED_VARIABLE);
     }
     None
 }
@@ -165,7 +165,7 @@ fn type_before(before: Option<&Mark>, seen: &Seen) -> Option<&'static str>
 
 // That note, or else that of the first row that fits; nothing where there is none.
 fn row_note(before: Option<&Mark>, seen: &Seen) -> &'static str
-    ensures exact { result.now ≡ spec.or_else (spec.type_before (option_copied before.entry) (seen_of seen.now)) (spec.first_fit spec.note_rows (seen_of seen.now)) }
+    ensures exact { result.now ≡ unwrap_or (spec.type_before (option_copied before.entry) (seen_of seen.now)) (spec.first_fit spec.note_rows (seen_of seen.now)) }
 {
     if let Some(note) = type_before(before, seen) {
         return note;

@@ -9,8 +9,8 @@ use edi_lex::{Mark, Symbol};
 use edi_phrases::{kind, kind_of};
 use std::alloc::AllocError;
 
-/// The names of the kinds by their numbers.
-static NAMES: [&str; 51] = [
+/// What the kinds are called, by their numbers.
+static KIND_NAMES: [&str; 51] = [
     "the end of the text",
     "a name",
     "a number",
@@ -95,7 +95,7 @@ pub(crate) fn is_text_of(letters: &[u8], texts: &[&'static str]) -> bool
 pub(crate) fn kind_name(kind: u8) -> &'static str
     ensures exact { result.now ≡ spec.kind_name kind }
 {
-    text_at(&NAMES, usize::from(kind))
+    text_at(&KIND_NAMES, usize::from(kind))
 }
 
 /// Puts a name behind bytes, at most 64 letters of it.
