@@ -1,5 +1,6 @@
 pub mod Failing
 pub mod Steps
+pub mod Options
 pub mod Told
 pub mod Executed
 pub mod Faulted

@@ -1,4 +1,5 @@
 pub mod Numbers
+pub mod Walking
 pub mod Parts
 pub mod Tests
 pub mod Reading

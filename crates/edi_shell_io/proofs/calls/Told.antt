@@ -32,39 +32,11 @@ use Rattle.edi_session.specs.Course.{Course, MayFail, prints, shows, states_of}
 use Rattle.edi_session.specs.Files.{file_in}
 use Rattle.edi_session.specs.Shell.{Shell, state_in, shown_by, printed_by, on_fresh_line, shown_in, took_byte}
 use Rattle.edi_session.specs.Texts as texts
-use Rattle.edi_shell_io.specs.calls.OnSystem.{FailsAt, HasState, StandsAt, taken_by, put_by, read_by, page_by, page_size}
+use Rattle.edi_shell_io.specs.calls.OnSystem.{FailsAt, StandsAt, taken_by, put_by, read_by, page_by, page_size}
 use Rattle.edi_shell_io.specs.calls.Standing.{Answers, At, Leads, ReadsFile, ReadsPage, StandsIn, Takes, with_slots}
 use Rattle.edi_shell_io.proofs.calls.Pages.{counted, page_part}
 use Rattle.edi_shell_io.proofs.calls.Steps.{Appends, drive_now, drive_past, input_past, more_printed, more_shown, prints_append, shows_append}
-
--- ---- options
-
--- what is told before and after, where the end is told and the beginning has the contents of a state
-pub record Both (R : State → State → Type 0) (old new : Option State) (state : State) : Type 0 where
-  pub before : State
-  pub after : State
-  pub was : old ≡ Some before
-  pub is : new ≡ Some after
-  pub alike : fresh before ≡ fresh state
-  pub so : R before after
-
-pub both : (R : State → State → Type 0) (old new : Option State) (state : State) → HasState old state → IsSome new → WhereTold old new R → Both R old new state
-both R (Some x) (Some y) state has tells so = record { before = x; after = y; was = refl; is = refl; alike = has; so = so }
-both R None (Some y) state has tells so = absurd so
-both R old None state has tells so = absurd (let wrong : false ≡ true = tells in cc)
-
-has_state : (told : Option State) (y state : State) → told ≡ Some y → fresh y ≡ fresh state → HasState told state
-has_state told y state is alike = subst (λ o. HasState o state) (sym is) alike
-
--- what is told now
-record One (told : Option State) (state : State) : Type 0 where
-  pub now : State
-  pub is : told ≡ Some now
-  pub alike : fresh now ≡ fresh state
-
-one : (told : Option State) (state : State) → HasState told state → IsSome told → One told state
-one (Some x) state has tells = record { now = x; is = refl; alike = has }
-one None state has tells = absurd (let wrong : false ≡ true = tells in cc)
+use Rattle.edi_shell_io.proofs.calls.Options.{Both, both, has_state, one}
 
 -- ---- the next byte of an input
 

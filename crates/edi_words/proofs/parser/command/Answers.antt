@@ -4,7 +4,8 @@ use Rattle.clap.specs.Simple.{is_simple, matches_of}
 use Rattle.clap.specs.Takes.{takes}
 use Rattle.edi_words.specs.Words.{command_in, parts_of}
 use Rattle.edi_words.specs.Inside.{given_in}
-use Rattle.edi_words.proofs.Parts.{takes_words, command_is, is_simple_app}
+use Rattle.edi_words.proofs.Parts.{takes_words, command_is}
+use Rattle.edi_words.proofs.Walking.{is_simple_app}
 use Rattle.edi_words.proofs.parser.command.Goals as goal
 
 pub unreachable-requires : goal.unreachable-requires
