@@ -149,10 +149,15 @@ end
 STANDS = b"standstill after 6 turns: choices 0 0 1 in r.1\n  1.1 waits at line 5\n"
 DONE = b"done after 7 turns: no choices in r.2\n"
 LACKING = rb"perhaps not all: memory ran out(; every execution of fewer than [0-9]+ moves? was followed)?; [0-9]+ states?\n"
+ALL = b"no execution ends otherwise; 10 states\n"
+# The fork, two arrivals and two ends of branches; x is used in critical phases alone.
+MOVES = b"no execution makes more than 5 moves\n"
+ORDERS = b"no order of steps ends otherwise, but perhaps by process limit\n"
 SEARCHED = [
     (20, LACKING + b"not all\n", ()),
     (19, STANDS + LACKING + b"found 1\n", ("r.1",)),
     (19, STANDS + DONE + LACKING + b"found 1\n", ("r.1", "r.2")),
+    (19, STANDS + DONE + ALL + ORDERS + b"found 1\n", ("r.1", "r.2")),
 ]
 
 CASES = [
@@ -188,7 +193,7 @@ CASES = [
     ),
     About(
         "explore", "explore either --record r",
-        (STANDS + DONE + b"no execution ends otherwise; 10 states\n", Kept("r.1", b"0\n0\n1\n"), Kept("r.2", b""), b"found 1\n"), 19,
+        (STANDS + DONE + ALL + MOVES + ORDERS, Kept("r.1", b"0\n0\n1\n"), Kept("r.2", b""), b"found 1\n"), 19,
         input=b"qqq", files={"either": EITHER}, searched=SEARCHED,
     ),
     About("check", "check race", (b"line 3 branches 1 2 may share\n",), files={"race": RACE}),
